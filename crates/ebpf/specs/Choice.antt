@@ -1,0 +1,41 @@
+-- A choice by a test. A definition with several answers is a row of choices, with the code's tests in the code's order:
+-- `x if test else y if test else z`.
+use mathlib.Core.Bool.{Bool, true, false, not}
+use mathlib.Core.Path.{_≡_, refl}
+use Prim.Native.Nat.{ℕ, _+_, _-_, _^_, _≤_, _<_}
+use native.Mathlib.Omega.{arith}
+use lib.Dec.{leb, eqb}
+use borrow.Author.Tests.{lt-ltb, le-ltb, le-leb, lt-leb, eq-eqb, ne-eqb}
+
+module _ {A : Type 0} where
+  infixr 4 _if_else_
+  unfoldable pub _if_else_ : A → Bool → A → A
+  x if true else y = x
+  x if false else y = y
+
+  -- `search choices` goes down a row by these two
+  pub yes : (b : Bool) (x y : A) → b ≡ true → x ≡ (x if b else y)
+  unfolding _if_else_
+  yes b x y e = rw e
+
+  pub no-go : (b : Bool) (x y z : A) → b ≡ false → z ≡ y → z ≡ (x if b else y)
+  unfolding _if_else_
+  no-go b x y z e p = rw e p
+
+pub eq-not : (a b : ℕ) → a ≡ b → not (eqb a b) ≡ false
+eq-not a b h = simp (eq-eqb a b h)
+
+pub ne-not : (a b : ℕ) → (a ≡ b → ⊥) → not (eqb a b) ≡ true
+ne-not a b h = simp (ne-eqb a b h)
+
+-- n takes more than 64 bits; the code tests a sum before it adds
+abbrev pub pastWord : ℕ → Bool
+pastWord n = leb (2 ^ 64) n
+
+pub sum-past : (a b : ℕ) → 0xffff_ffff_ffff_ffff - a < b → pastWord (a + b) ≡ true
+sum-past a b h = le-leb (2 ^ 64) (a + b) (omega arith)
+
+pub sum-fits : (a b : ℕ) → a < 2 ^ 64 → b ≤ 0xffff_ffff_ffff_ffff - a → pastWord (a + b) ≡ false
+sum-fits a b f h = lt-leb (2 ^ 64) (a + b) (omega arith)
+
+pub ruleset choices = (yes, no-go, sum-past, sum-fits, lt-ltb, le-ltb, le-leb, lt-leb, eq-eqb, ne-eqb, eq-not, ne-not)
