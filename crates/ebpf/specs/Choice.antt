@@ -22,6 +22,17 @@ module _ {A : Type 0} where
   unfolding _if_else_
   no-go b x y z e p = rw e p
 
+  -- what a row tells whose answer is not that of its first choice
+  pub not-first : (b : Bool) (x y z : A) → (x ≡ z → ⊥) → (x if b else y) ≡ z → b ≡ false
+  unfolding _if_else_
+  not-first true x y z h e = absurd (h e)
+  not-first false x y z h e = refl
+
+  pub row-rest : (b : Bool) (x y z : A) → (x ≡ z → ⊥) → (x if b else y) ≡ z → y ≡ z
+  unfolding _if_else_
+  row-rest true x y z h e = absurd (h e)
+  row-rest false x y z h e = e
+
 pub eq-not : (a b : ℕ) → a ≡ b → not (eqb a b) ≡ false
 eq-not a b h = simp (eq-eqb a b h)
 
