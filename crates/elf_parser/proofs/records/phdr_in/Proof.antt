@@ -1,0 +1,18 @@
+-- `elf_parser::records::phdr_in` meets its contract: the entry, if there is one, is read at its place.
+-- Assumes nothing.
+use mathlib.Core.Path.{_≡_, sym, ap, _∙_}
+use Rattle.elf_parser.specs.Records.{phdrBy, entry-within}
+use borrow.Author.Needs.{needs}
+use Rattle.elf_parser.proofs.records.phdr_in.Statement.{statement}
+use Rattle.elf_parser.proofs.records.phdr_in.Tie as tie
+
+pub phdr-in-spec : {M : Type 1} → statement M
+phdr-in-spec =
+    tie.close
+    (tie.spec
+    (search needs)
+    (search needs)
+    (λ c κs. entry-within _ _ _ _ _ (sym (c .before .before .before .entry-at .ensures) ∙ c .before .at .given .1))
+    (search needs)
+    (λ c. rw (← c .before .before .before .before .entry-at .ensures, c .before .before .at .given .1, ← c .phdr-at .ensures))
+    (λ c. rw (← c .before .before .before .entry-at .ensures, c .before .r .given .1)))

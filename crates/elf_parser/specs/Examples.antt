@@ -1,0 +1,115 @@
+-- Document 01's worked examples on names, tables and sections, and a few beside them: each holds by computation.
+use Prim.Native.Nat.{ℕ}
+use mathlib.Core.List.{List, [], _∷_, _++_}
+use mathlib.Core.Path.{_≡_, refl}
+use lib.ListN.{replicate}
+use Rattle.ebpf.specs.Choice.{_if_else_}
+use Rattle.ebpf.specs.LittleEndian.{le}
+use Rattle.elf_parser.specs.declared.error.ElfParserError.the-variants.{InvalidFileHeader, StringTooLong, OutOfBounds, Overlap, SectionNotInOrder, NoSectionNameStringTable, InvalidAlignment, InvalidSize, NoSuchIndex}
+use Rattle.elf_parser.specs.declared.error.Check.the-variants.{Pass, Refused}
+use Rattle.elf_parser.specs.declared.types.Elf64Ehdr.{Elf64Ehdr}
+use Rattle.elf_parser.specs.declared.types.Elf64Shdr.{Elf64Shdr}
+use Rattle.elf_parser.specs.declared.parts.Place.the-variants.{At, Refused as NoPlace}
+use Rattle.elf_parser.specs.declared.layout.Parsed.the-variants.{Refused as NoFile}
+use Rattle.elf_parser.specs.declared.records.Sliced.the-variants.{At as Slice, Refused as NoSlice}
+use Rattle.elf_parser.specs.declared.section_headers.Ranges.{Ranges}
+use Rattle.elf_parser.specs.FileHeader.{headerCheck, headerRight, headerFixed, tablesCheck}
+use Rattle.elf_parser.specs.SectionHeaders.{sectionCheck}
+use Rattle.elf_parser.specs.Strings.{stringIn, stringCheck, gives, terminated, beforeZero}
+use Rattle.elf_parser.specs.Records.{sliced}
+use Rattle.elf_parser.specs.Dynamic.{withTag, valuesFrom, dynamicValues}
+use Rattle.elf_parser.specs.Parse.{namedLayout, parsed, fileCheck}
+use Rattle.elf_parser.specs.Errors.{_then_}
+
+-- a section name of 15 bytes is read; one of 16 is too long
+strings : Elf64Shdr
+strings = record { «sh_name» = 0; «sh_type» = 3; «sh_flags» = 0; «sh_addr» = 0; «sh_offset» = 4; «sh_size» = 40 }
+
+name-of-15 : stringIn (replicate 4 9 ++ (replicate 15 65 ++ (0 ∷ replicate 30 1))) strings 0 16 ≡ At 4 15
+unfolding stringIn stringCheck gives terminated beforeZero _if_else_ strings
+name-of-15 = refl
+
+name-of-16 : stringIn (replicate 4 9 ++ (replicate 16 65 ++ (0 ∷ replicate 30 1))) strings 0 16 ≡ NoPlace (StringTooLong 4 16)
+unfolding stringIn stringCheck gives terminated beforeZero _if_else_ strings
+name-of-16 = refl
+
+-- a name of no bytes: the table ends where it starts, and one further it is outside
+name-at-end : stringIn (replicate 60 0) strings 40 16 ≡ NoPlace (StringTooLong 44 0)
+unfolding stringIn stringCheck gives terminated beforeZero _if_else_ strings
+name-at-end = refl
+
+name-past-end : stringIn (replicate 60 0) strings 41 16 ≡ NoPlace OutOfBounds
+unfolding stringIn stringCheck gives terminated beforeZero _if_else_ strings
+name-past-end = refl
+
+-- an empty section at offset 10 overlaps the file header; one at its end does not
+tables : Ranges
+tables = record { phoff = 64; phend = 64; shoff = 512; shend = 704 }
+
+empty-at-10 : sectionCheck 1000 0 tables 10 0 ≡ Refused Overlap
+unfolding sectionCheck _if_else_ tables
+empty-at-10 = refl
+
+empty-at-64 : sectionCheck 1000 0 tables 64 0 ≡ Pass
+unfolding sectionCheck _if_else_ tables
+empty-at-64 = refl
+
+behind-its-place : sectionCheck 1000 100 tables 99 1 ≡ Refused SectionNotInOrder
+unfolding sectionCheck _if_else_ tables
+behind-its-place = refl
+
+-- a file shorter than its header, and 64 zero bytes
+too-short : parsed (replicate 63 0) ≡ NoFile OutOfBounds
+unfolding parsed fileCheck headerCheck _then_ _if_else_
+too-short = refl
+
+zeros : headerCheck (replicate 64 0) ≡ Refused InvalidFileHeader
+unfolding headerCheck headerRight headerFixed _if_else_ le
+zeros = refl
+
+-- header tables: inside the file header, outside the file, unaligned
+table-in-header : tablesCheck 1000 32 1 512 3 ≡ Refused Overlap
+unfolding tablesCheck _if_else_
+table-in-header = refl
+
+table-outside : tablesCheck 700 64 0 512 3 ≡ Refused OutOfBounds
+unfolding tablesCheck _if_else_
+table-outside = refl
+
+table-unaligned : tablesCheck 1000 64 0 513 3 ≡ Refused InvalidAlignment
+unfolding tablesCheck _if_else_
+table-unaligned = refl
+
+-- e_shstrndx 0 of 3
+header : Elf64Ehdr
+header =
+    record {
+      «ei_osabi» = 0;
+      «e_type» = 3;
+      «e_machine» = 263;
+      «e_entry» = 0;
+      «e_phoff» = 64;
+      «e_shoff» = 512;
+      «e_flags» = 0;
+      «e_phnum» = 0;
+      «e_shnum» = 3;
+      «e_shstrndx» = 0;
+    }
+
+no-name-table : namedLayout [] header ≡ NoFile NoSectionNameStringTable
+unfolding namedLayout _if_else_ header
+no-name-table = refl
+
+-- symbols: a size that is no multiple of 24 comes before a place outside
+odd-size : sliced 100 96 25 24 ≡ NoSlice InvalidSize
+unfolding sliced _if_else_
+odd-size = refl
+
+outside : sliced 100 96 24 24 ≡ NoSlice OutOfBounds
+unfolding sliced _if_else_
+outside = refl
+
+-- the last of equal tags wins, a tag of 35 is skipped, DT_NULL ends the table
+dynamic-values : dynamicValues (6 ∷ replicate 7 0 ++ (1 ∷ replicate 7 0) ++ (35 ∷ replicate 7 0) ++ (9 ∷ replicate 7 0) ++ (6 ∷ replicate 7 0) ++ (2 ∷ replicate 7 0) ++ replicate 16 0 ++ (6 ∷ replicate 7 0) ++ (3 ∷ replicate 7 0)) 5 0 ≡ replicate 6 0 ++ (2 ∷ replicate 28 0)
+unfolding valuesFrom withTag _if_else_ le
+dynamic-values = refl

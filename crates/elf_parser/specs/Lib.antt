@@ -1,0 +1,15 @@
+pub mod Errors
+pub mod Loops
+pub mod Types
+pub mod FileHeader
+pub mod ProgramHeaders
+pub mod SectionHeaders
+pub mod Parts
+pub mod Strings
+pub mod SectionNames
+pub mod Records
+pub mod Names
+pub mod Dynamic
+pub mod Parse
+pub mod Sound
+pub mod Examples

@@ -1,0 +1,47 @@
+// Reading an ELF-64 file: the port of src/elf_parser. Every function takes the file and plain
+// numbers. What a parse leaves is a `Layout`; everything else is read from the file again.
+pub mod consts;
+mod dynamic;
+pub mod error;
+mod header;
+mod layout;
+mod names;
+mod parts;
+mod program_headers;
+mod records;
+mod section_headers;
+mod section_names;
+mod strings;
+pub mod types;
+
+pub use error::Check;
+pub use error::ElfParserError;
+pub use error::Report;
+pub use error::report_of;
+pub use layout::Layout;
+pub use layout::Parsed;
+pub use layout::parse;
+pub use names::dynamic_symbol_name;
+pub use names::dynamic_symbol_name_part;
+pub use names::section_name;
+pub use names::section_name_part;
+pub use names::symbol_name;
+pub use names::symbol_name_part;
+pub use parts::Place;
+pub use records::Entries;
+pub use records::Phdr;
+pub use records::Rel;
+pub use records::Shdr;
+pub use records::Sliced;
+pub use records::Sym;
+pub use records::dynamic_relocation;
+pub use records::dynamic_symbol;
+pub use records::program_header;
+pub use records::section_contents;
+pub use records::section_header;
+pub use records::section_place;
+pub use records::symbol;
+pub use records::symbol_table;
+pub use section_names::same_bytes;
+pub use strings::get_string_in_section;
+pub use types::file_header;
