@@ -1,0 +1,10 @@
+pub mod Cases
+pub mod Halves
+pub mod Shift
+pub mod Rows
+pub mod Laying
+pub mod Laws
+pub mod Moves
+pub mod Steps
+pub mod Keys
+pub mod Tables

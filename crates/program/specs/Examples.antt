@@ -1,0 +1,72 @@
+-- Worked examples, by computation: a table of three rows, of which two are used. The fourth number of two slices is past the rows.
+use Prim.Native.Nat.{ℕ}
+use mathlib.Core.Path.{_≡_, refl}
+use mathlib.Core.Bool.{Bool, true, false}
+use mathlib.Core.List.{List, [], _∷_}
+use Rattle.ebpf.specs.Choice.{_if_else_}
+use Rattle.program.specs.declared.Row.{Row}
+use Rattle.program.specs.declared.Found.the-variants.{At, Nothing}
+use Rattle.program.specs.declared.Registered.the-variants.{Inserted, Repeat, Collision, Full}
+use Rattle.program.specs.declared.Removed.the-variants.{Gone, Absent}
+use Rattle.program.specs.declared.KeptName.{KeptName}
+use Rattle.program.specs.declared.FunctionName.the-variants.{Symbol, OfIndex, Entrypoint}
+use Rattle.program.specs.Search.{between, halves}
+use Rattle.program.specs.Rows.{rank}
+use Rattle.program.specs.Table.{Slices, slices, least, capacity, rowsOf, ranksOf, opened, closed, openedRow, closedRow, counted, placeIn, holds, registerAt, registeredAt, registerIn, registeredIn, unregisterAt, unregisteredAt, unregisterIn, unregisteredIn, lookupIn}
+use Rattle.program.specs.HashedLegacy.{kept, keptSymbol, keptName}
+
+-- a row with a name that is made from the index
+abbrev row : ℕ → ℕ → Row
+row k i = record { key = k; index = i; kind = 3; start = 0; length = 0 }
+
+-- rows 10 and 30; rows 10, 20 and 30; row 30
+abbrev two : Slices
+two = slices (10 ∷ 30 ∷ 0 ∷ []) (1 ∷ 3 ∷ 0 ∷ 0 ∷ []) (3 ∷ 3 ∷ 0 ∷ 0 ∷ []) (0 ∷ 0 ∷ 0 ∷ []) (0 ∷ 0 ∷ 0 ∷ [])
+
+abbrev three : Slices
+three = slices (10 ∷ 20 ∷ 30 ∷ []) (1 ∷ 2 ∷ 3 ∷ 0 ∷ []) (3 ∷ 3 ∷ 3 ∷ 0 ∷ []) (0 ∷ 0 ∷ 0 ∷ []) (0 ∷ 0 ∷ 0 ∷ [])
+
+abbrev one : Slices
+one = slices (30 ∷ 0 ∷ 0 ∷ []) (3 ∷ 0 ∷ 0 ∷ 0 ∷ []) (3 ∷ 0 ∷ 0 ∷ 0 ∷ []) (0 ∷ 0 ∷ 0 ∷ []) (0 ∷ 0 ∷ 0 ∷ [])
+
+-- the same keys in no order, 5 twice
+abbrev mixed : Slices
+mixed = slices (5 ∷ 9 ∷ 5 ∷ []) (1 ∷ 2 ∷ 3 ∷ []) (3 ∷ 3 ∷ 3 ∷ []) (0 ∷ 0 ∷ 0 ∷ []) (0 ∷ 0 ∷ 0 ∷ [])
+
+-- one row moves for key 20 and none for 40; key 30 repeats or collides by its index; the table is full with three rows, also by a count
+-- past the rows
+registrations : registerIn two 2 (row 20 2) ∷ registerIn two 2 (row 40 4) ∷ registerIn two 2 (row 30 3) ∷ registerIn two 2 (row 30 4) ∷ registerIn three 3 (row 40 4) ∷ registerIn three 9 (row 40 4) ∷ []
+    ≡ Inserted 1 ∷ Inserted 0 ∷ Repeat ∷ Collision ∷ Full ∷ Full ∷ []
+unfolding registerIn registerAt counted placeIn holds halves between ranksOf capacity least rank _if_else_
+registrations = refl
+
+-- a repeat under another name changes nothing
+registered : registeredIn two 2 (row 20 2) ∷ registeredIn two 2 (record { key = 30; index = 3; kind = 1; start = 64; length = 5 }) ∷ []
+    ≡ three ∷ two ∷ []
+unfolding registeredIn registeredAt counted placeIn holds halves between ranksOf capacity least rank openedRow opened _if_else_
+registered = refl
+
+removals : unregisterIn two 2 10 ∷ unregisterIn two 2 30 ∷ unregisterIn two 2 20 ∷ [] ≡ Gone 1 ∷ Gone 0 ∷ Absent ∷ []
+unfolding unregisterIn unregisterAt counted placeIn holds halves between ranksOf capacity least rank _if_else_
+removals = refl
+
+removed : unregisteredIn two 2 10 ∷ unregisteredIn two 2 20 ∷ [] ≡ one ∷ two ∷ []
+unfolding unregisteredIn unregisteredAt counted placeIn holds halves between ranksOf capacity least rank closedRow closed _if_else_
+removed = refl
+
+-- the first of two rows with the key; a row that is not used; a count past the rows
+lookups : lookupIn mixed 3 5 ∷ lookupIn mixed 1 9 ∷ lookupIn mixed 9 9 ∷ [] ≡ At (row 5 1) ∷ Nothing ∷ At (row 9 2) ∷ []
+unfolding lookupIn counted rowsOf capacity least rank _if_else_
+lookups = refl
+
+-- a symbol's name, the name entrypoint, an empty name, a name of the index, the entry's own: with labels, and without
+abbrev names : Bool → List KeptName
+names labels = keptName labels (Symbol 64 5 false) ∷ keptName labels (Symbol 70 10 true) ∷ keptName labels (Symbol 64 0 false) ∷ keptName labels OfIndex ∷ keptName labels Entrypoint ∷ []
+
+labelled : names true ≡ kept 1 64 5 ∷ kept 1 70 10 ∷ kept 0 0 0 ∷ kept 3 0 0 ∷ kept 2 0 10 ∷ []
+unfolding keptSymbol _if_else_
+labelled = refl
+
+unlabelled : names false ≡ kept 0 0 0 ∷ kept 1 70 10 ∷ kept 0 0 0 ∷ kept 0 0 0 ∷ kept 2 0 10 ∷ []
+unfolding keptSymbol _if_else_
+unlabelled = refl

@@ -1,0 +1,190 @@
+-- The table: five slices of numbers that hold rows, and what a registration, a removal and a lookup make of them, whatever they hold.
+use Prim.Native.Nat.{ℕ, zero, suc, _-_, _≤_, min}
+use mathlib.Core.Path.{_≡_}
+use mathlib.Core.Bool.{Bool, false}
+use mathlib.Core.List.{List, [], _∷_, _++_, map}
+use lib.ListN.{length, getD, replicate, take, drop}
+use lib.Dec.{ltb, leb, eqb}
+use Rattle.ebpf.specs.Choice.{_if_else_}
+use Rattle.program.specs.Search.{halves}
+use Rattle.program.specs.Rows.{rank, Ascending, find, register, registered, remove, unregister}
+use Rattle.program.specs.declared.Row.{Row}
+use Rattle.program.specs.declared.Found.{Found}
+use Rattle.program.specs.declared.Registered.{Registered}
+use Rattle.program.specs.declared.Registered.the-variants.{Inserted, Repeat, Collision, Full}
+use Rattle.program.specs.declared.Removed.{Removed}
+use Rattle.program.specs.declared.Removed.the-variants.{Gone, Absent}
+
+-- what the five slices hold
+pub record Slices : Type 0 where
+  pub keys : List ℕ
+  pub indices : List ℕ
+  pub kinds : List ℕ
+  pub starts : List ℕ
+  pub lengths : List ℕ
+
+abbrev pub slices : List ℕ → List ℕ → List ℕ → List ℕ → List ℕ → Slices
+slices a b c d e = record { keys = a; indices = b; kinds = c; starts = d; lengths = e }
+
+unfoldable pub least : ℕ → ℕ → ℕ → ℕ → ℕ → ℕ
+least a b c d e = min a (min b (min c (min d e)))
+
+-- as many rows as the shortest slice has numbers
+unfoldable pub capacity : Slices → ℕ
+capacity t = least (length (t .keys)) (length (t .indices)) (length (t .kinds)) (length (t .starts)) (length (t .lengths))
+
+-- n is the least of five numbers; the bounds follow, and `omega` reads them with no case split
+pub record Least (n a b c d e : ℕ) : Type 0 where
+  pub is : n ≡ least a b c d e
+  pub in-a : n ≤ a
+  pub in-b : n ≤ b
+  pub in-c : n ≤ c
+  pub in-d : n ≤ d
+  pub in-e : n ≤ e
+
+-- each slice has at least n numbers
+pub record Within (n : ℕ) (t : Slices) : Type 0 where
+  pub in-keys : n ≤ length (t .keys)
+  pub in-indices : n ≤ length (t .indices)
+  pub in-kinds : n ≤ length (t .kinds)
+  pub in-starts : n ≤ length (t .starts)
+  pub in-lengths : n ≤ length (t .lengths)
+
+-- ---- the rows that the slices hold
+
+-- the row at a place
+abbrev pub rowAt : Slices → ℕ → Row
+rowAt t i = record {
+  key = getD (t .keys) i 0;
+  index = getD (t .indices) i 0;
+  kind = getD (t .kinds) i 0;
+  start = getD (t .starts) i 0;
+  length = getD (t .lengths) i 0;
+}
+
+-- f at 0, 1, .. n - 1
+abbrev pub tab : {A : Type 0} → ℕ → (ℕ → A) → List A
+tab zero f = []
+tab (suc n) f = f 0 ∷ tab n (λ (k : ℕ). f (suc k))
+
+-- the first n rows, and their ranks
+unfoldable pub rowsOf : Slices → ℕ → List Row
+rowsOf t n = tab n (rowAt t)
+
+unfoldable pub ranksOf : Slices → ℕ → List ℕ
+ranksOf t n = take n (t .keys)
+
+-- a slice of n numbers that holds the field f of the rows, and zeros behind them
+unfoldable pub column : (Row → ℕ) → List Row → ℕ → List ℕ
+column f rs n = map f rs ++ replicate (n - length rs) 0
+
+-- slices as long as t's that hold the rows, and zeros behind them
+unfoldable pub lay : Slices → List Row → Slices
+lay t rs = record {
+  keys = column (λ (r : Row). r .key) rs (length (t .keys));
+  indices = column (λ (r : Row). r .index) rs (length (t .indices));
+  kinds = column (λ (r : Row). r .kind) rs (length (t .kinds));
+  starts = column (λ (r : Row). r .start) rs (length (t .starts));
+  lengths = column (λ (r : Row). r .length) rs (length (t .lengths));
+}
+
+-- ---- a place opened and closed
+
+-- v put at the place `at` of the first n numbers, those from there on one place further, and the number at n gone
+unfoldable pub opened : ℕ → ℕ → ℕ → List ℕ → List ℕ
+opened at n v s = take at s ++ (v ∷ (drop at (take n s) ++ drop (suc n) s))
+
+-- the number at `at` gone from the first n, those behind it one place nearer, and a zero at the last place
+unfoldable pub closed : ℕ → ℕ → List ℕ → List ℕ
+closed at n s = take at s ++ (drop (suc at) (take n s) ++ (0 ∷ drop n s))
+
+unfoldable pub openedRow : ℕ → ℕ → Row → Slices → Slices
+openedRow at n r t = record {
+  keys = opened at n (r .key) (t .keys);
+  indices = opened at n (r .index) (t .indices);
+  kinds = opened at n (r .kind) (t .kinds);
+  starts = opened at n (r .start) (t .starts);
+  lengths = opened at n (r .length) (t .lengths);
+}
+
+unfoldable pub closedRow : ℕ → ℕ → Slices → Slices
+closedRow at n t = record {
+  keys = closed at n (t .keys);
+  indices = closed at n (t .indices);
+  kinds = closed at n (t .kinds);
+  starts = closed at n (t .starts);
+  lengths = closed at n (t .lengths);
+}
+
+-- ---- what the functions promise, whatever the slices hold
+
+-- the rows that count: at most those lent
+unfoldable pub counted : Slices → ℕ → ℕ
+counted t used = min used (capacity t)
+
+-- where the search by halves comes to for rank k, among n rows
+unfoldable pub placeIn : Slices → ℕ → ℕ → ℕ
+placeIn t n k = halves k (ranksOf t n)
+
+-- whether the row at a place is one of n, and of rank k
+unfoldable pub holds : Slices → ℕ → ℕ → ℕ → Bool
+holds t n at k = eqb (rank (rowAt t at)) k if ltb at n else false
+
+-- a registration of a row at a place, in a table of n rows
+unfoldable pub registerAt : Slices → ℕ → ℕ → Row → Registered
+registerAt t n at row =
+    (Repeat if eqb (rowAt t at .index) (row .index) else Collision) if holds t n at (rank row)
+    else Full if leb (capacity t) n
+    else Inserted (n - at)
+
+unfoldable pub registeredAt : Slices → ℕ → ℕ → Row → Slices
+registeredAt t n at row = t if holds t n at (rank row) else t if leb (capacity t) n else openedRow at n row t
+
+unfoldable pub registerIn : Slices → ℕ → Row → Registered
+registerIn t used row = registerAt t (counted t used) (placeIn t (counted t used) (rank row)) row
+
+unfoldable pub registeredIn : Slices → ℕ → Row → Slices
+registeredIn t used row = registeredAt t (counted t used) (placeIn t (counted t used) (rank row)) row
+
+-- a removal of rank k at a place, from a table of n rows
+unfoldable pub unregisterAt : Slices → ℕ → ℕ → ℕ → Removed
+unregisterAt t n at k = Gone (n - at - 1) if holds t n at k else Absent
+
+unfoldable pub unregisteredAt : Slices → ℕ → ℕ → ℕ → Slices
+unregisteredAt t n at k = closedRow at n t if holds t n at k else t
+
+unfoldable pub unregisterIn : Slices → ℕ → ℕ → Removed
+unregisterIn t used k = unregisterAt t (counted t used) (placeIn t (counted t used) k) k
+
+unfoldable pub unregisteredIn : Slices → ℕ → ℕ → Slices
+unregisteredIn t used k = unregisteredAt t (counted t used) (placeIn t (counted t used) k) k
+
+-- slices t are u after a registration of a row that answered a
+pub record Registers (t u : Slices) (used : ℕ) (row : Row) (a : Registered) : Type 0 where
+  pub answers : a ≡ registerIn t used row
+  pub leaves : u ≡ registeredIn t used row
+
+-- slices t are u after a removal of rank k that answered a
+pub record Unregisters (t u : Slices) (used k : ℕ) (a : Removed) : Type 0 where
+  pub answers : a ≡ unregisterIn t used k
+  pub leaves : u ≡ unregisteredIn t used k
+
+-- a lookup of rank k: the first used row
+unfoldable pub lookupIn : Slices → ℕ → ℕ → Found
+lookupIn t used k = find k (rowsOf t (counted t used))
+
+-- ---- tables: slices whose used rows ascend, with zeros elsewhere
+
+pub record Ready (t : Slices) (used : ℕ) : Type 0 where
+  pub room : used ≤ capacity t
+  pub laid : t ≡ lay t (rowsOf t used)
+  pub rising : Ascending (rowsOf t used)
+
+-- what a registration and a removal are for a table, in the words of its rows
+pub record Registration (t u : Slices) (used : ℕ) (row : Row) (a : Registered) : Type 0 where
+  pub answers : a ≡ register (capacity t) row (rowsOf t used)
+  pub leaves : u ≡ lay t (registered (capacity t) row (rowsOf t used))
+
+pub record Removal (t u : Slices) (used k : ℕ) (a : Removed) : Type 0 where
+  pub answers : a ≡ unregister k (rowsOf t used)
+  pub leaves : u ≡ lay t (remove k (rowsOf t used))

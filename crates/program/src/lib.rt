@@ -1,0 +1,189 @@
+// The function registry: the port of src/program.rs. A table of rows in five lent slices, ascending
+// by key, with zeros behind the used rows; it has as many rows as the shortest slice has numbers.
+ghost use mathlib.Core.Path.{_≡_};
+ghost use Rattle.program.specs.Table.{slices, lookupIn, Registers, Unregisters};
+
+mod columns;
+mod hashed_legacy;
+mod search;
+
+pub use columns::rows_lent;
+pub use hashed_legacy::is_builtin;
+pub use hashed_legacy::kept_name;
+pub use hashed_legacy::legacy_key;
+pub use hashed_legacy::legacy_row;
+
+// What a row says of its name: it is empty or not kept, a part of the file, the text entrypoint, or
+// made from the index. Only a part of the file has a start.
+pub const NAME_EMPTY: u32 = 0;
+
+pub const NAME_IN_FILE: u32 = 1;
+
+pub const NAME_ENTRYPOINT: u32 = 2;
+
+pub const NAME_OF_INDEX: u32 = 3;
+// The length of the text entrypoint.
+pub const ENTRYPOINT_LENGTH: u32 = 10;
+
+// A row of the table: the key, the instruction index, and the name's kind, start and length.
+pub struct Row {
+    pub key: u32,
+    pub index: u32,
+    pub kind: u32,
+    pub start: u32,
+    pub length: u32,
+}
+
+pub enum Found {
+    At(Row),
+    Nothing,
+}
+
+// Inserted says how many rows moved.
+pub enum Registered {
+    Inserted(usize),
+    // The key is held with the same index: the first name stays.
+    Repeat,
+    // The key is held with another index.
+    Collision,
+    Full,
+}
+
+// Gone says how many rows moved.
+pub enum Removed {
+    Gone(usize),
+    Absent,
+}
+
+// The name that a function is registered under.
+pub enum FunctionName {
+    // A part of the file, and whether its bytes are the text entrypoint.
+    Symbol {
+        start: u32,
+        length: u32,
+        entrypoint: bool,
+    },
+    // Made from the instruction index.
+    OfIndex,
+    // The entry's own text.
+    Entrypoint,
+}
+
+// What a row keeps of a name.
+pub struct KeptName {
+    pub kind: u32,
+    pub start: u32,
+    pub length: u32,
+}
+
+// What comes of a name and an index.
+pub enum Legacy {
+    // The row to register.
+    Free(Row),
+    // A built-in has the key.
+    Taken(u32),
+}
+
+// Registers a row in a table of `used` rows. At most the rows lent count.
+pub fn register_function(
+    keys: &mut [u32],
+    indices: &mut [u32],
+    kinds: &mut [u32],
+    starts: &mut [u32],
+    lengths: &mut [u32],
+    used: usize,
+    row: Row,
+) -> Registered
+    ensures { λ r. ⌜ Registers (slices (now (keys .entry)) (now (indices .entry)) (now (kinds .entry)) (now (starts .entry)) (now (lengths .entry))) (slices (now (keys .exit)) (now (indices .exit)) (now (kinds .exit)) (now (starts .exit)) (now (lengths .exit))) used row r ⌝ }
+{
+    let key = row.key;
+    let index = row.index;
+    let rows = columns::rows_lent(
+        keys.len(),
+        indices.len(),
+        kinds.len(),
+        starts.len(),
+        lengths.len(),
+    );
+    let n = columns::smaller(used, rows);
+    let at = search::by_halves(keys, n, key);
+    if at < n {
+        if keys[at] == key {
+            if indices[at] == index {
+                return Registered::Repeat;
+            }
+            return Registered::Collision;
+        }
+    }
+    if rows <= n {
+        return Registered::Full;
+    }
+    columns::open_row(keys, indices, kinds, starts, lengths, at, n, row);
+    Registered::Inserted(n - at)
+}
+
+// Removes the row of a key from a table of `used` rows, where there is one. At most the rows lent
+// count.
+pub fn unregister_function(
+    keys: &mut [u32],
+    indices: &mut [u32],
+    kinds: &mut [u32],
+    starts: &mut [u32],
+    lengths: &mut [u32],
+    used: usize,
+    key: u32,
+) -> Removed
+    ensures { λ r. ⌜ Unregisters (slices (now (keys .entry)) (now (indices .entry)) (now (kinds .entry)) (now (starts .entry)) (now (lengths .entry))) (slices (now (keys .exit)) (now (indices .exit)) (now (kinds .exit)) (now (starts .exit)) (now (lengths .exit))) used key r ⌝ }
+{
+    let rows = columns::rows_lent(
+        keys.len(),
+        indices.len(),
+        kinds.len(),
+        starts.len(),
+        lengths.len(),
+    );
+    let n = columns::smaller(used, rows);
+    let at = search::by_halves(keys, n, key);
+    if n <= at {
+        return Removed::Absent;
+    }
+    if keys[at] != key {
+        return Removed::Absent;
+    }
+    columns::close_row(keys, indices, kinds, starts, lengths, at, n);
+    Removed::Gone(n - at - 1)
+}
+
+// The first used row with the key, whatever the slices hold: a scan, since the rows need not ascend.
+// At most the rows lent count.
+pub fn lookup_by_key(
+    keys: &[u32],
+    indices: &[u32],
+    kinds: &[u32],
+    starts: &[u32],
+    lengths: &[u32],
+    used: usize,
+    key: u32,
+) -> Found
+    ensures { λ r. ⌜ r ≡ lookupIn (slices (now (keys .entry)) (now (indices .entry)) (now (kinds .entry)) (now (starts .entry)) (now (lengths .entry))) used key ⌝ }
+{
+    let rows = columns::rows_lent(
+        keys.len(),
+        indices.len(),
+        kinds.len(),
+        starts.len(),
+        lengths.len(),
+    );
+    let n = columns::smaller(used, rows);
+    let at = search::first_of(keys, n, key);
+    if n <= at {
+        return Found::Nothing;
+    }
+    Found::At(Row {
+        key: keys[at],
+        index: indices[at],
+        kind: kinds[at],
+        start: starts[at],
+        length: lengths[at],
+    })
+}
