@@ -1,0 +1,18 @@
+-- `exports::answers::row_answer` meets its contract: a row or none.
+-- Assumes nothing.
+use borrow.Author.Needs.{needs}
+use Rattle.exports.proofs.answers.row_answer.Statement.{statement}
+use Rattle.exports.proofs.answers.row_answer.Tie as tie
+
+pub row-answer-spec : {M : Type 1} → statement M
+row-answer-spec =
+    tie.close
+    (tie.spec
+    (search needs)
+    (search needs)
+    (search needs)
+    (search needs)
+    (search needs)
+    (search needs)
+    (λ c. rw (c .before .before .before .before .before .f .given .1))
+    (λ c. rw (c .enum-told .given .1)))

@@ -1,0 +1,86 @@
+-- What the exported functions answer: a number, 0 where nothing was refused, and 15 words behind it.
+use Prim.Native.Nat.{ℕ, zero, suc}
+use mathlib.Core.Path.{_≡_}
+use mathlib.Core.List.{List, [], _∷_}
+use lib.ListN.{length}
+use Rattle.elf_parser.specs.declared.error.ElfParserError.{ElfParserError}
+use Rattle.elf_parser.specs.declared.error.Report.{Report}
+use Rattle.elf_parser.specs.declared.layout.Layout.{Layout}
+use Rattle.elf_parser.specs.declared.layout.Parsed.{Parsed}
+use Rattle.elf_parser.specs.declared.layout.Parsed.the-variants.{File, Refused as NoFile}
+use Rattle.elf_parser.specs.declared.parts.Place.{Place}
+use Rattle.elf_parser.specs.declared.parts.Place.the-variants.{At as Stands, Refused as NoPlace}
+use Rattle.elf_parser.specs.Errors.{reportOf}
+use Rattle.program.specs.declared.Row.{Row}
+use Rattle.program.specs.declared.Found.{Found}
+use Rattle.program.specs.declared.Found.the-variants.{At, Nothing}
+use Rattle.exports.specs.declared.answers.Answer.{Answer}
+
+-- the words of an answer, all sixteen
+abbrev pub wordsOf : Answer → List ℕ
+wordsOf a = a .number ∷ a .words
+
+-- what a lent slice of n words holds after an answer: its words, as many as there is room for, and zeros behind them
+unfoldable pub written : ℕ → List ℕ → List ℕ
+written zero ws = []
+written (suc n) [] = 0 ∷ written n []
+written (suc n) (w ∷ ws) = w ∷ written n ws
+
+-- a lent slice that held `before` holds `after`, and the result is r: an answer given
+pub record Gives (a : Answer) (before after : List ℕ) (r : ℕ) : Type 0 where
+  pub number : r ≡ a .number
+  pub words : after ≡ written (length before) (wordsOf a)
+
+-- ---- the answers, with zeros where a word is not used
+
+-- a refusal: its number and value, and the place of the name that it speaks of
+abbrev pub reported : Report → Answer
+reported r = record {
+  number = r .number;
+  words = r .value ∷ r .start ∷ r .length ∷ 0 ∷ 0 ∷ 0 ∷ 0 ∷ 0 ∷ 0 ∷ 0 ∷ 0 ∷ 0 ∷ 0 ∷ 0 ∷ 0 ∷ [];
+}
+
+abbrev pub refused : ElfParserError → Answer
+refused e = reported (reportOf e)
+
+-- a layout: after three zeros its numbers, in the order of `Layout`
+abbrev pub laidOut : Layout → Answer
+laidOut l = record {
+  number = 0;
+  words =
+      0
+      ∷ 0
+      ∷ 0
+      ∷ l .«program_headers» .offset
+      ∷ l .«program_headers» .count
+      ∷ l .«section_headers» .offset
+      ∷ l .«section_headers» .count
+      ∷ l .shstrtab
+      ∷ l .symtab
+      ∷ l .strtab
+      ∷ l .dynstr
+      ∷ l .«dynamic_relocations» .offset
+      ∷ l .«dynamic_relocations» .count
+      ∷ l .«dynamic_symbols» .offset
+      ∷ l .«dynamic_symbols» .count
+      ∷ [];
+}
+
+abbrev pub parseAnswer : Parsed → Answer
+parseAnswer (File l) = laidOut l
+parseAnswer (NoFile e) = refused e
+
+-- a place in the file: after three zeros its start and its length
+abbrev pub placeAnswer : Place → Answer
+placeAnswer (Stands start n) = record { number = 0; words = 0 ∷ 0 ∷ 0 ∷ start ∷ n ∷ 0 ∷ 0 ∷ 0 ∷ 0 ∷ 0 ∷ 0 ∷ 0 ∷ 0 ∷ 0 ∷ 0 ∷ [] }
+placeAnswer (NoPlace e) = refused e
+
+-- a question to a file that parses; else the refusal of the parse
+abbrev pub asked : Parsed → (Layout → Place) → Answer
+asked (File l) question = placeAnswer (question l)
+asked (NoFile e) question = refused e
+
+-- a row: its index, and its name's kind, start and length. 1 where there is none
+abbrev pub rowAnswer : Found → Answer
+rowAnswer (At r) = record { number = 0; words = r .index ∷ r .kind ∷ r .start ∷ r .length ∷ 0 ∷ 0 ∷ 0 ∷ 0 ∷ 0 ∷ 0 ∷ 0 ∷ 0 ∷ 0 ∷ 0 ∷ 0 ∷ [] }
+rowAnswer Nothing = record { number = 1; words = 0 ∷ 0 ∷ 0 ∷ 0 ∷ 0 ∷ 0 ∷ 0 ∷ 0 ∷ 0 ∷ 0 ∷ 0 ∷ 0 ∷ 0 ∷ 0 ∷ 0 ∷ [] }

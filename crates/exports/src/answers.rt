@@ -1,0 +1,170 @@
+// What the exported functions answer, and how it is written into a lent slice.
+use elf_parser::ElfParserError;
+use elf_parser::Layout;
+use elf_parser::Parsed;
+use elf_parser::Place;
+use elf_parser::report_of;
+use program::Found;
+ghost use mathlib.Core.Path.{_≡_};
+ghost use lib.ListN.{getD};
+ghost use Rattle.exports.specs.Answers.{wordsOf, Gives, refused, laidOut, parseAnswer, placeAnswer, rowAnswer};
+
+// A number, 0 where nothing was refused, and what goes with it.
+pub struct Answer {
+    pub number: u32,
+    pub words: [u64; 15],
+}
+
+pub fn refused(e: ElfParserError) -> Answer
+    ensures { λ r. ⌜ r ≡ refused e ⌝ }
+{
+    let r = report_of(e);
+    let words = [
+        r.value,
+        r.start,
+        r.length,
+        0,
+        0,
+        0,
+        0,
+        0,
+        0,
+        0,
+        0,
+        0,
+        0,
+        0,
+        0,
+    ];
+    Answer {
+        number: r.number,
+        words,
+    }
+}
+
+fn laid_out(l: Layout) -> Answer
+    ensures { λ r. ⌜ r ≡ laidOut l ⌝ }
+{
+    let program_headers = l.program_headers;
+    let section_headers = l.section_headers;
+    let relocations = l.dynamic_relocations;
+    let symbols = l.dynamic_symbols;
+    let words = [
+        0,
+        0,
+        0,
+        program_headers.offset,
+        program_headers.count,
+        section_headers.offset,
+        section_headers.count,
+        l.shstrtab,
+        l.symtab,
+        l.strtab,
+        l.dynstr,
+        relocations.offset,
+        relocations.count,
+        symbols.offset,
+        symbols.count,
+    ];
+    Answer { number: 0, words }
+}
+
+pub fn parse_answer(p: Parsed) -> Answer
+    ensures { λ r. ⌜ r ≡ parseAnswer p ⌝ }
+{
+    match p {
+        Parsed::File(l) => laid_out(l),
+        Parsed::Refused(e) => refused(e),
+    }
+}
+
+pub fn place_answer(p: Place) -> Answer
+    ensures { λ r. ⌜ r ≡ placeAnswer p ⌝ }
+{
+    match p {
+        Place::At { start, length } => {
+            let words = [
+                0,
+                0,
+                0,
+                start as u64,
+                length as u64,
+                0,
+                0,
+                0,
+                0,
+                0,
+                0,
+                0,
+                0,
+                0,
+                0,
+            ];
+            Answer { number: 0, words }
+        }
+        Place::Refused(e) => refused(e),
+    }
+}
+
+pub fn row_answer(f: Found) -> Answer
+    ensures { λ r. ⌜ r ≡ rowAnswer f ⌝ }
+{
+    match f {
+        Found::At(row) => {
+            let words = [
+                row.index as u64,
+                row.kind as u64,
+                row.start as u64,
+                row.length as u64,
+                0,
+                0,
+                0,
+                0,
+                0,
+                0,
+                0,
+                0,
+                0,
+                0,
+                0,
+            ];
+            Answer { number: 0, words }
+        }
+        Found::Nothing => {
+            let words = [0u64; 15];
+            Answer { number: 1, words }
+        }
+    }
+}
+
+// The word at a place, 0 past the last.
+fn word_in(words: &[u64], i: usize) -> u64
+    ensures { λ r. ⌜ r ≡ getD (now (words .entry)) i 0 ⌝ }
+{
+    if i < words.len() {
+        return words[i];
+    }
+    0
+}
+
+fn word_at(a: Answer, i: usize) -> u64
+    ensures { λ r. ⌜ r ≡ getD (wordsOf a) i 0 ⌝ }
+{
+    if i == 0 {
+        return a.number as u64;
+    }
+    let words = a.words;
+    word_in(&words, i - 1)
+}
+
+// Fills the lent slice: the words, as many as there is room for, and zeros behind them.
+pub fn give(answer: &mut [u64], a: Answer) -> u32
+    ensures { λ r. ⌜ Gives a (now (answer .entry)) (now (answer .exit)) r ⌝ }
+{
+    let mut i = 0;
+    while i < answer.len() {
+        answer[i] = word_at(a, i);
+        i += 1;
+    }
+    a.number
+}

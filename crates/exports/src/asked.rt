@@ -1,0 +1,49 @@
+// Questions to a file that parses; the refusal of the parse where it does not.
+use crate::answers::Answer;
+use crate::answers::place_answer;
+use crate::answers::refused;
+use elf_parser::Parsed;
+use elf_parser::dynamic_symbol_name;
+use elf_parser::section_name;
+use elf_parser::section_place;
+use elf_parser::symbol_name;
+ghost use mathlib.Core.Path.{_≡_};
+ghost use Rattle.elf_parser.specs.Names.{sectionName, symbolName, dynamicSymbolName};
+ghost use Rattle.elf_parser.specs.Records.{sectionPlaceOf};
+ghost use Rattle.exports.specs.Answers.{asked};
+
+pub fn section_place_answer(file: &[u8], parsed: Parsed, index: u32) -> Answer
+    ensures { λ r. ⌜ r ≡ asked parsed (λ l. sectionPlaceOf (now (file .entry)) l index) ⌝ }
+{
+    match parsed {
+        Parsed::File(layout) => place_answer(section_place(file, layout, index)),
+        Parsed::Refused(e) => refused(e),
+    }
+}
+
+pub fn section_name_answer(file: &[u8], parsed: Parsed, sh_name: u32) -> Answer
+    ensures { λ r. ⌜ r ≡ asked parsed (λ l. sectionName (now (file .entry)) l «sh_name») ⌝ }
+{
+    match parsed {
+        Parsed::File(layout) => place_answer(section_name(file, layout, sh_name)),
+        Parsed::Refused(e) => refused(e),
+    }
+}
+
+pub fn symbol_name_answer(file: &[u8], parsed: Parsed, st_name: u32) -> Answer
+    ensures { λ r. ⌜ r ≡ asked parsed (λ l. symbolName (now (file .entry)) l «st_name») ⌝ }
+{
+    match parsed {
+        Parsed::File(layout) => place_answer(symbol_name(file, layout, st_name)),
+        Parsed::Refused(e) => refused(e),
+    }
+}
+
+pub fn dynamic_symbol_name_answer(file: &[u8], parsed: Parsed, st_name: u32) -> Answer
+    ensures { λ r. ⌜ r ≡ asked parsed (λ l. dynamicSymbolName (now (file .entry)) l «st_name») ⌝ }
+{
+    match parsed {
+        Parsed::File(layout) => place_answer(dynamic_symbol_name(file, layout, st_name)),
+        Parsed::Refused(e) => refused(e),
+    }
+}

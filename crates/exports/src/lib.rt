@@ -1,0 +1,94 @@
+// The C interface, over numbers and lent slices: a slice is a pointer and a length. Each answer is
+// sixteen words, the number first, as `specs/Answers.antt` says; the number is the result too. A
+// lent slice of fewer words takes the first of them, one of more has zeros behind them.
+use answers::give;
+use answers::parse_answer;
+use answers::row_answer;
+use asked::dynamic_symbol_name_answer;
+use asked::section_name_answer;
+use asked::section_place_answer;
+use asked::symbol_name_answer;
+use ebpf::hash_symbol_name;
+use elf_parser::parse;
+use program::lookup_by_key;
+ghost use mathlib.Core.Path.{_≡_};
+ghost use Rattle.ebpf.specs.Murmur3.{murmur3};
+ghost use Rattle.elf_parser.specs.Names.{sectionName, symbolName, dynamicSymbolName};
+ghost use Rattle.elf_parser.specs.Parse.{parsed};
+ghost use Rattle.elf_parser.specs.Records.{sectionPlaceOf};
+ghost use Rattle.program.specs.Table.{slices, lookupIn};
+ghost use Rattle.exports.specs.Answers.{Gives, parseAnswer, asked, rowAnswer};
+
+mod answers;
+mod asked;
+
+// The hash of a name.
+#[no_mangle]
+pub extern "C" fn sbpf_hash(name: &[u8]) -> u32
+    ensures { λ r. ⌜ r ≡ murmur3 (now (name .entry)) ⌝ }
+{
+    hash_symbol_name(name)
+}
+
+// Where things stand in a file, or why it is refused.
+#[no_mangle]
+pub extern "C" fn sbpf_parse(file: &[u8], answer: &mut [u64]) -> u32
+    ensures { λ r. ⌜ Gives (parseAnswer (parsed (now (file .entry)))) (now (answer .entry)) (now (answer .exit)) r ⌝ }
+{
+    give(answer, parse_answer(parse(file)))
+}
+
+// Where the contents of a section stand.
+#[no_mangle]
+pub extern "C" fn sbpf_section_place(file: &[u8], index: u32, answer: &mut [u64]) -> u32
+    ensures { λ r. ⌜ Gives (asked (parsed (now (file .entry))) (λ l. sectionPlaceOf (now (file .entry)) l index)) (now (answer .entry)) (now (answer .exit)) r ⌝ }
+{
+    give(answer, section_place_answer(file, parse(file), index))
+}
+
+// Where the section name at a string offset stands.
+#[no_mangle]
+pub extern "C" fn sbpf_section_name(file: &[u8], sh_name: u32, answer: &mut [u64]) -> u32
+    ensures { λ r. ⌜ Gives (asked (parsed (now (file .entry))) (λ l. sectionName (now (file .entry)) l «sh_name»)) (now (answer .entry)) (now (answer .exit)) r ⌝ }
+{
+    give(answer, section_name_answer(file, parse(file), sh_name))
+}
+
+// Where the symbol name at a string offset stands.
+#[no_mangle]
+pub extern "C" fn sbpf_symbol_name(file: &[u8], st_name: u32, answer: &mut [u64]) -> u32
+    ensures { λ r. ⌜ Gives (asked (parsed (now (file .entry))) (λ l. symbolName (now (file .entry)) l «st_name»)) (now (answer .entry)) (now (answer .exit)) r ⌝ }
+{
+    give(answer, symbol_name_answer(file, parse(file), st_name))
+}
+
+// Where the dynamic symbol name at a string offset stands.
+#[no_mangle]
+pub extern "C" fn sbpf_dynamic_symbol_name(file: &[u8], st_name: u32, answer: &mut [u64]) -> u32
+    ensures { λ r. ⌜ Gives (asked (parsed (now (file .entry))) (λ l. dynamicSymbolName (now (file .entry)) l «st_name»)) (now (answer .entry)) (now (answer .exit)) r ⌝ }
+{
+    give(
+        answer,
+        dynamic_symbol_name_answer(file, parse(file), st_name),
+    )
+}
+
+// The first used row with the key, whatever the five slices hold; at most the rows lent count.
+#[no_mangle]
+pub extern "C" fn sbpf_lookup(
+    keys: &[u32],
+    indices: &[u32],
+    kinds: &[u32],
+    starts: &[u32],
+    lengths: &[u32],
+    used: u64,
+    key: u32,
+    answer: &mut [u64],
+) -> u32
+    ensures { λ r. ⌜ Gives (rowAnswer (lookupIn (slices (now (keys .entry)) (now (indices .entry)) (now (kinds .entry)) (now (starts .entry)) (now (lengths .entry))) used key)) (now (answer .entry)) (now (answer .exit)) r ⌝ }
+{
+    give(
+        answer,
+        row_answer(lookup_by_key(keys, indices, kinds, starts, lengths, used as usize, key)),
+    )
+}
