@@ -10,6 +10,8 @@ use Rattle.elf_parser.specs.declared.layout.Parsed.{Parsed}
 use Rattle.elf_parser.specs.declared.layout.Parsed.the-variants.{File, Refused as NoFile}
 use Rattle.elf_parser.specs.declared.parts.Place.{Place}
 use Rattle.elf_parser.specs.declared.parts.Place.the-variants.{At as Stands, Refused as NoPlace}
+use Rattle.elf_parser.specs.declared.records.Sliced.{Sliced}
+use Rattle.elf_parser.specs.declared.records.Sliced.the-variants.{At as Slice, Refused as NoSlice}
 use Rattle.elf_parser.specs.Errors.{reportOf}
 use Rattle.program.specs.declared.Row.{Row}
 use Rattle.program.specs.declared.Found.{Found}
@@ -75,9 +77,14 @@ abbrev pub placeAnswer : Place → Answer
 placeAnswer (Stands start n) = record { number = 0; words = 0 ∷ 0 ∷ 0 ∷ start ∷ n ∷ 0 ∷ 0 ∷ 0 ∷ 0 ∷ 0 ∷ 0 ∷ 0 ∷ 0 ∷ 0 ∷ 0 ∷ [] }
 placeAnswer (NoPlace e) = refused e
 
+-- a table: after three zeros its offset and its number of entries
+abbrev pub tableAnswer : Sliced → Answer
+tableAnswer (Slice t) = record { number = 0; words = 0 ∷ 0 ∷ 0 ∷ t .offset ∷ t .count ∷ 0 ∷ 0 ∷ 0 ∷ 0 ∷ 0 ∷ 0 ∷ 0 ∷ 0 ∷ 0 ∷ 0 ∷ [] }
+tableAnswer (NoSlice e) = refused e
+
 -- a question to a file that parses; else the refusal of the parse
-abbrev pub asked : Parsed → (Layout → Place) → Answer
-asked (File l) question = placeAnswer (question l)
+abbrev pub asked : Parsed → (Layout → Answer) → Answer
+asked (File l) question = question l
 asked (NoFile e) question = refused e
 
 -- a row: its index, and its name's kind, start and length. 1 where there is none

@@ -3,11 +3,12 @@ use elf_parser::ElfParserError;
 use elf_parser::Layout;
 use elf_parser::Parsed;
 use elf_parser::Place;
+use elf_parser::Sliced;
 use elf_parser::report_of;
 use program::Found;
 ghost use mathlib.Core.Path.{_≡_};
 ghost use lib.ListN.{getD};
-ghost use Rattle.exports.specs.Answers.{wordsOf, Gives, refused, laidOut, parseAnswer, placeAnswer, rowAnswer};
+ghost use Rattle.exports.specs.Answers.{wordsOf, Gives, refused, laidOut, parseAnswer, placeAnswer, tableAnswer, rowAnswer};
 
 // A number, 0 where nothing was refused, and what goes with it.
 pub struct Answer {
@@ -103,6 +104,18 @@ pub fn place_answer(p: Place) -> Answer
             Answer { number: 0, words }
         }
         Place::Refused(e) => refused(e),
+    }
+}
+
+pub fn table_answer(t: Sliced) -> Answer
+    ensures { λ r. ⌜ r ≡ tableAnswer t ⌝ }
+{
+    match t {
+        Sliced::At(e) => {
+            let words = [0, 0, 0, e.offset, e.count, 0, 0, 0, 0, 0, 0, 0, 0, 0, 0];
+            Answer { number: 0, words }
+        }
+        Sliced::Refused(e) => refused(e),
     }
 }
 

@@ -2,18 +2,20 @@
 use crate::answers::Answer;
 use crate::answers::place_answer;
 use crate::answers::refused;
+use crate::answers::table_answer;
 use elf_parser::Parsed;
 use elf_parser::dynamic_symbol_name;
 use elf_parser::section_name;
 use elf_parser::section_place;
 use elf_parser::symbol_name;
+use elf_parser::symbol_table;
 ghost use mathlib.Core.Path.{_≡_};
 ghost use Rattle.elf_parser.specs.Names.{sectionName, symbolName, dynamicSymbolName};
-ghost use Rattle.elf_parser.specs.Records.{sectionPlaceOf};
-ghost use Rattle.exports.specs.Answers.{asked};
+ghost use Rattle.elf_parser.specs.Records.{sectionPlaceOf, symbolTableOf};
+ghost use Rattle.exports.specs.Answers.{asked, placeAnswer, tableAnswer};
 
 pub fn section_place_answer(file: &[u8], parsed: Parsed, index: u32) -> Answer
-    ensures { λ r. ⌜ r ≡ asked parsed (λ l. sectionPlaceOf (now (file .entry)) l index) ⌝ }
+    ensures { λ r. ⌜ r ≡ asked parsed (λ l. placeAnswer (sectionPlaceOf (now (file .entry)) l index)) ⌝ }
 {
     match parsed {
         Parsed::File(layout) => place_answer(section_place(file, layout, index)),
@@ -22,7 +24,7 @@ pub fn section_place_answer(file: &[u8], parsed: Parsed, index: u32) -> Answer
 }
 
 pub fn section_name_answer(file: &[u8], parsed: Parsed, sh_name: u32) -> Answer
-    ensures { λ r. ⌜ r ≡ asked parsed (λ l. sectionName (now (file .entry)) l «sh_name») ⌝ }
+    ensures { λ r. ⌜ r ≡ asked parsed (λ l. placeAnswer (sectionName (now (file .entry)) l «sh_name»)) ⌝ }
 {
     match parsed {
         Parsed::File(layout) => place_answer(section_name(file, layout, sh_name)),
@@ -31,7 +33,7 @@ pub fn section_name_answer(file: &[u8], parsed: Parsed, sh_name: u32) -> Answer
 }
 
 pub fn symbol_name_answer(file: &[u8], parsed: Parsed, st_name: u32) -> Answer
-    ensures { λ r. ⌜ r ≡ asked parsed (λ l. symbolName (now (file .entry)) l «st_name») ⌝ }
+    ensures { λ r. ⌜ r ≡ asked parsed (λ l. placeAnswer (symbolName (now (file .entry)) l «st_name»)) ⌝ }
 {
     match parsed {
         Parsed::File(layout) => place_answer(symbol_name(file, layout, st_name)),
@@ -40,10 +42,19 @@ pub fn symbol_name_answer(file: &[u8], parsed: Parsed, st_name: u32) -> Answer
 }
 
 pub fn dynamic_symbol_name_answer(file: &[u8], parsed: Parsed, st_name: u32) -> Answer
-    ensures { λ r. ⌜ r ≡ asked parsed (λ l. dynamicSymbolName (now (file .entry)) l «st_name») ⌝ }
+    ensures { λ r. ⌜ r ≡ asked parsed (λ l. placeAnswer (dynamicSymbolName (now (file .entry)) l «st_name»)) ⌝ }
 {
     match parsed {
         Parsed::File(layout) => place_answer(dynamic_symbol_name(file, layout, st_name)),
+        Parsed::Refused(e) => refused(e),
+    }
+}
+
+pub fn symbol_table_answer(file: &[u8], parsed: Parsed) -> Answer
+    ensures { λ r. ⌜ r ≡ asked parsed (λ l. tableAnswer (symbolTableOf (now (file .entry)) l)) ⌝ }
+{
+    match parsed {
+        Parsed::File(layout) => table_answer(symbol_table(file, layout)),
         Parsed::Refused(e) => refused(e),
     }
 }

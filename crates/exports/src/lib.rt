@@ -8,6 +8,7 @@ use asked::dynamic_symbol_name_answer;
 use asked::section_name_answer;
 use asked::section_place_answer;
 use asked::symbol_name_answer;
+use asked::symbol_table_answer;
 use ebpf::hash_symbol_name;
 use elf_parser::parse;
 use program::lookup_by_key;
@@ -15,9 +16,9 @@ ghost use mathlib.Core.Path.{_≡_};
 ghost use Rattle.ebpf.specs.Murmur3.{murmur3};
 ghost use Rattle.elf_parser.specs.Names.{sectionName, symbolName, dynamicSymbolName};
 ghost use Rattle.elf_parser.specs.Parse.{parsed};
-ghost use Rattle.elf_parser.specs.Records.{sectionPlaceOf};
+ghost use Rattle.elf_parser.specs.Records.{sectionPlaceOf, symbolTableOf};
 ghost use Rattle.program.specs.Table.{slices, lookupIn};
-ghost use Rattle.exports.specs.Answers.{Gives, parseAnswer, asked, rowAnswer};
+ghost use Rattle.exports.specs.Answers.{Gives, parseAnswer, asked, placeAnswer, tableAnswer, rowAnswer};
 
 mod answers;
 mod asked;
@@ -41,7 +42,7 @@ pub extern "C" fn sbpf_parse(file: &[u8], answer: &mut [u64]) -> u32
 // Where the contents of a section stand.
 #[no_mangle]
 pub extern "C" fn sbpf_section_place(file: &[u8], index: u32, answer: &mut [u64]) -> u32
-    ensures { λ r. ⌜ Gives (asked (parsed (now (file .entry))) (λ l. sectionPlaceOf (now (file .entry)) l index)) (now (answer .entry)) (now (answer .exit)) r ⌝ }
+    ensures { λ r. ⌜ Gives (asked (parsed (now (file .entry))) (λ l. placeAnswer (sectionPlaceOf (now (file .entry)) l index))) (now (answer .entry)) (now (answer .exit)) r ⌝ }
 {
     give(answer, section_place_answer(file, parse(file), index))
 }
@@ -49,7 +50,7 @@ pub extern "C" fn sbpf_section_place(file: &[u8], index: u32, answer: &mut [u64]
 // Where the section name at a string offset stands.
 #[no_mangle]
 pub extern "C" fn sbpf_section_name(file: &[u8], sh_name: u32, answer: &mut [u64]) -> u32
-    ensures { λ r. ⌜ Gives (asked (parsed (now (file .entry))) (λ l. sectionName (now (file .entry)) l «sh_name»)) (now (answer .entry)) (now (answer .exit)) r ⌝ }
+    ensures { λ r. ⌜ Gives (asked (parsed (now (file .entry))) (λ l. placeAnswer (sectionName (now (file .entry)) l «sh_name»))) (now (answer .entry)) (now (answer .exit)) r ⌝ }
 {
     give(answer, section_name_answer(file, parse(file), sh_name))
 }
@@ -57,7 +58,7 @@ pub extern "C" fn sbpf_section_name(file: &[u8], sh_name: u32, answer: &mut [u64
 // Where the symbol name at a string offset stands.
 #[no_mangle]
 pub extern "C" fn sbpf_symbol_name(file: &[u8], st_name: u32, answer: &mut [u64]) -> u32
-    ensures { λ r. ⌜ Gives (asked (parsed (now (file .entry))) (λ l. symbolName (now (file .entry)) l «st_name»)) (now (answer .entry)) (now (answer .exit)) r ⌝ }
+    ensures { λ r. ⌜ Gives (asked (parsed (now (file .entry))) (λ l. placeAnswer (symbolName (now (file .entry)) l «st_name»))) (now (answer .entry)) (now (answer .exit)) r ⌝ }
 {
     give(answer, symbol_name_answer(file, parse(file), st_name))
 }
@@ -65,12 +66,20 @@ pub extern "C" fn sbpf_symbol_name(file: &[u8], st_name: u32, answer: &mut [u64]
 // Where the dynamic symbol name at a string offset stands.
 #[no_mangle]
 pub extern "C" fn sbpf_dynamic_symbol_name(file: &[u8], st_name: u32, answer: &mut [u64]) -> u32
-    ensures { λ r. ⌜ Gives (asked (parsed (now (file .entry))) (λ l. dynamicSymbolName (now (file .entry)) l «st_name»)) (now (answer .entry)) (now (answer .exit)) r ⌝ }
+    ensures { λ r. ⌜ Gives (asked (parsed (now (file .entry))) (λ l. placeAnswer (dynamicSymbolName (now (file .entry)) l «st_name»))) (now (answer .entry)) (now (answer .exit)) r ⌝ }
 {
     give(
         answer,
         dynamic_symbol_name_answer(file, parse(file), st_name),
     )
+}
+
+// Where the symbols of .symtab stand: none where there is no such section.
+#[no_mangle]
+pub extern "C" fn sbpf_symbol_table(file: &[u8], answer: &mut [u64]) -> u32
+    ensures { λ r. ⌜ Gives (asked (parsed (now (file .entry))) (λ l. tableAnswer (symbolTableOf (now (file .entry)) l))) (now (answer .entry)) (now (answer .exit)) r ⌝ }
+{
+    give(answer, symbol_table_answer(file, parse(file)))
 }
 
 // The first used row with the key, whatever the five slices hold; at most the rows lent count.

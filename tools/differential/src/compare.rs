@@ -1,0 +1,319 @@
+//! Asks the proved functions and the true Rust the same, and says where they differ.
+
+use crate::{
+    cases::Case,
+    outcome::{self, parser_refusal, Refused},
+    port::{self, Answer, Columns, Question, WORDS},
+    random::Random,
+};
+use rbpf::elf_parser::{types::Elf64Shdr, Elf64, ElfParserError};
+use std::collections::BTreeMap;
+
+/// How often each answer came, by what was asked.
+pub type Histogram = BTreeMap<(&'static str, u32), u64>;
+
+/// Bytes at a chosen distance from a place that is aligned to 16.
+pub struct Placed {
+    words: Vec<u128>,
+    shift: usize,
+    len: usize,
+}
+
+impl Placed {
+    pub fn new() -> Placed {
+        Placed { words: Vec::new(), shift: 0, len: 0 }
+    }
+
+    pub fn put(&mut self, bytes: &[u8], shift: usize) {
+        let n = (bytes.len() + shift) / 16 + 1;
+        if self.words.len() < n {
+            self.words.resize(n, 0);
+        }
+        self.shift = shift;
+        self.len = bytes.len();
+        let to = unsafe {
+            std::slice::from_raw_parts_mut((self.words.as_mut_ptr() as *mut u8).add(shift), bytes.len())
+        };
+        to.copy_from_slice(bytes);
+    }
+
+    pub fn bytes(&self) -> &[u8] {
+        unsafe { std::slice::from_raw_parts((self.words.as_ptr() as *const u8).add(self.shift), self.len) }
+    }
+}
+
+/// What the lent words must hold: the words, as many as there is room for, and zeros behind them.
+fn written(words: &[u64], room: usize) -> Vec<u64> {
+    let mut all = vec![0; room];
+    for (to, from) in all.iter_mut().zip(words) {
+        *to = *from;
+    }
+    all
+}
+
+fn same(what: &str, got: &Answer, words: [u64; WORDS], room: usize) -> Result<(), String> {
+    let expected = (words[0] as u32, written(&words, room));
+    if *got == expected {
+        return Ok(());
+    }
+    Err(format!("{what}\n  port: {got:?}\n  Rust: {expected:?}"))
+}
+
+/// A refusal of the Rust against an answer. The place of a name is not in the Rust: the bytes at
+/// the port's place must be the Rust's text.
+fn refusal(what: &str, file: &[u8], got: &Answer, full: &Answer, refused: &Refused, room: usize) -> Result<(), String> {
+    let mut words = [0; WORDS];
+    words[0] = refused.number as u64;
+    words[1] = refused.value;
+    if let Some(name) = &refused.name {
+        let (start, length) = (full.1[2], full.1[3]);
+        let bytes = start
+            .checked_add(length)
+            .and_then(|end| file.get(start as usize..end as usize))
+            .map(|bytes| String::from_utf8_lossy(bytes).into_owned().into_bytes());
+        if bytes.as_ref() != Some(name) {
+            return Err(format!("{what}\n  port: {full:?}, the name {bytes:?}\n  Rust: {refused:?}"));
+        }
+        words[2] = start;
+        words[3] = length;
+    }
+    same(what, got, words, room)
+}
+
+fn number_of<T>(answer: &Result<T, ElfParserError>) -> u32 {
+    match answer {
+        Ok(_) => 0,
+        Err(err) => outcome::parser_number(err),
+    }
+}
+
+/// The places of a table: its offset and the number of its entries, zeros where there is none.
+fn table_place<T>(base: &[u8], table: Option<&[T]>) -> (u64, u64) {
+    match table {
+        Some(t) => ((t.as_ptr() as usize - base.as_ptr() as usize) as u64, t.len() as u64),
+        None => (0, 0),
+    }
+}
+
+fn place_words(start: u64, length: u64) -> [u64; WORDS] {
+    let mut words = [0; WORDS];
+    words[4] = start;
+    words[5] = length;
+    words
+}
+
+pub struct Comparer {
+    aligned: Placed,
+    shifted: Placed,
+    pub histogram: Histogram,
+}
+
+impl Comparer {
+    pub fn new() -> Comparer {
+        Comparer { aligned: Placed::new(), shifted: Placed::new(), histogram: Histogram::new() }
+    }
+
+    fn count(&mut self, what: &'static str, number: u32) {
+        *self.histogram.entry((what, number)).or_insert(0) += 1;
+    }
+
+    /// The parse, and every question to what it leaves.
+    pub fn reader(&mut self, case: &Case) -> Result<(), String> {
+        let (mut aligned, mut shifted) = (Placed::new(), Placed::new());
+        std::mem::swap(&mut aligned, &mut self.aligned);
+        std::mem::swap(&mut shifted, &mut self.shifted);
+        aligned.put(&case.file, 0);
+        shifted.put(&case.file, case.shift);
+        let result = self.reader_of(case, aligned.bytes(), shifted.bytes());
+        self.aligned = aligned;
+        self.shifted = shifted;
+        result
+    }
+
+    /// `bytes` are aligned, for the Rust; `file` are the same for the port.
+    fn reader_of(&mut self, case: &Case, bytes: &[u8], file: &[u8]) -> Result<(), String> {
+        let room = case.room;
+        let parsed = Elf64::parse(bytes);
+        self.count("parse", number_of(&parsed));
+        let full = port::parse(file, WORDS);
+        let got = if room == WORDS { full.clone() } else { port::parse(file, room) };
+        let elf = match parsed {
+            Ok(elf) => elf,
+            Err(err) => {
+                let refused = parser_refusal(err);
+                refusal("parse", file, &got, &full, &refused, room)?;
+                // every question has the refusal of the parse
+                for question in [Question::SectionPlace, Question::SectionName, Question::SymbolName, Question::DynamicSymbolName] {
+                    let answer = port::ask(question, file, case.asked[0], room);
+                    refusal(&format!("{question:?} of a file that is refused"), file, &answer, &full, &refused, room)?;
+                }
+                return refusal("symbol table of a file that is refused", file, &port::symbol_table(file, room), &full, &refused, room);
+            }
+        };
+
+        // the layout
+        let headers = elf.section_header_table();
+        let header_named = |name: &[u8]| {
+            headers
+                .iter()
+                .find(|h| elf.section_name(h.sh_name).as_ref() == Ok(&name))
+                .map_or(0, |h| (h as *const Elf64Shdr as usize - bytes.as_ptr() as usize) as u64)
+        };
+        let mut words = [0; WORDS];
+        (words[4], words[5]) = table_place(bytes, Some(elf.program_header_table()));
+        (words[6], words[7]) = table_place(bytes, Some(headers));
+        words[8] = words[6] + 64 * elf.file_header().e_shstrndx as u64;
+        words[9] = header_named(b".symtab");
+        words[10] = header_named(b".strtab");
+        words[11] = header_named(b".dynstr");
+        (words[12], words[13]) = table_place(bytes, elf.dynamic_relocations_table());
+        (words[14], words[15]) = table_place(bytes, elf.dynamic_symbol_table());
+        same("parse", &got, words, room)?;
+
+        // the symbol table
+        let table = elf.symbol_table();
+        self.count("symbol table", number_of(&table));
+        let got = port::symbol_table(file, room);
+        match table {
+            Ok(table) => {
+                let (at, n) = table_place(bytes, table);
+                same("symbol table", &got, place_words(at, n), room)?;
+            }
+            Err(err) => refusal("symbol table", file, &got, &port::symbol_table(file, WORDS), &parser_refusal(err), room)?,
+        }
+
+        // contents by index
+        let mut indices: Vec<u32> = (0..headers.len().min(24) as u32).collect();
+        indices.push(headers.len() as u32);
+        indices.push(case.asked[0]);
+        for index in indices {
+            let mut words = [0; WORDS];
+            match headers.get(index as usize) {
+                None => words[0] = 45,
+                Some(header) => {
+                    let range = header.file_range().unwrap_or_default();
+                    words = place_words(range.start as u64, range.len() as u64);
+                }
+            }
+            self.count("section contents", words[0] as u32);
+            same(&format!("contents of section {index}"), &port::ask(Question::SectionPlace, file, index, room), words, room)?;
+        }
+
+        // names by string offset
+        let sizes = |at: u64| if at == 0 { 0 } else { headers[((at - words[6]) / 64) as usize].sh_size };
+        for (question, header_at, what) in [
+            (Question::SectionName, words[8], "section name"),
+            (Question::SymbolName, words[10], "symbol name"),
+            (Question::DynamicSymbolName, words[11], "dynamic symbol name"),
+        ] {
+            let size = sizes(header_at) as u32;
+            let mut offsets = case.asked.clone();
+            for back in [0, 1, 16, 17, 64, 65] {
+                offsets.push(size.wrapping_sub(back));
+            }
+            offsets.push(size.wrapping_add(1));
+            offsets.push(size / 2);
+            match question {
+                Question::SectionName => offsets.extend(headers.iter().take(12).map(|h| h.sh_name)),
+                Question::SymbolName => offsets.extend(elf.symbol_table().ok().flatten().unwrap_or_default().iter().take(4).map(|s| s.st_name)),
+                _ => offsets.extend(elf.dynamic_symbol_table().unwrap_or_default().iter().take(4).map(|s| s.st_name)),
+            }
+            for offset in offsets {
+                let name = match question {
+                    Question::SectionName => elf.section_name(offset),
+                    Question::SymbolName => elf.symbol_name(offset),
+                    _ => elf.dynamic_symbol_name(offset),
+                };
+                self.count(what, number_of(&name));
+                let got = port::ask(question, file, offset, room);
+                let what = format!("{what} at {offset}");
+                match name {
+                    Ok(name) => {
+                        let start = name.as_ptr() as usize - bytes.as_ptr() as usize;
+                        same(&what, &got, place_words(start as u64, name.len() as u64), room)?;
+                    }
+                    Err(err) => refusal(&what, file, &got, &port::ask(question, file, offset, WORDS), &parser_refusal(err), room)?,
+                }
+            }
+        }
+        Ok(())
+    }
+
+    /// Hashes of random names.
+    pub fn hashes(&mut self, r: &mut Random) -> Result<(), String> {
+        for _ in 0..2 {
+            let n = if r.one_in(50) { r.below(3000) } else { r.below(80) };
+            let name: Vec<u8> = (0..n).map(|_| r.next() as u8).collect();
+            let (got, expected) = (port::hash(&name), outcome::hash(&name));
+            self.count("hash", 0);
+            if got != expected {
+                return Err(format!("hash of {name:02x?}\n  port: {got:#x}\n  Rust: {expected:#x}"));
+            }
+        }
+        Ok(())
+    }
+
+    /// A lookup in five columns of any lengths and contents, against a plain scan.
+    pub fn lookup(&mut self, r: &mut Random, room: usize) -> Result<(), String> {
+        let wide = r.one_in(3);
+        let most = if r.one_in(20) { 200 } else { 10 };
+        let column = |r: &mut Random| -> Vec<u32> {
+            let n = r.below(most + 1);
+            (0..n).map(|_| if wide { r.next() as u32 } else { r.below(12) as u32 }).collect()
+        };
+        let mut t: Columns = std::array::from_fn(|_| column(r));
+        if r.one_in(2) {
+            // a table as a load leaves it
+            let n = t[0].len();
+            t[0].sort_unstable();
+            for c in t.iter_mut() {
+                c.resize(n, 3);
+            }
+        }
+        let used = r.pick(&[0, 1, most / 2, most, t[0].len() as u64, u64::MAX]);
+        let key = if t[0].is_empty() || r.one_in(3) { r.below(12) as u32 } else { t[0][r.index(t[0].len())] };
+        let rows = t.iter().map(|c| c.len()).min().unwrap().min(used.min(1 << 20) as usize);
+        let mut words = [0; WORDS];
+        match (0..rows).find(|i| t[0][*i] == key) {
+            Some(i) => {
+                for (k, column) in t.iter().enumerate().skip(1) {
+                    words[k] = column[i] as u64;
+                }
+            }
+            None => words[0] = 1,
+        }
+        self.count("lookup", words[0] as u32);
+        same(&format!("lookup of {key} in {used} rows of {t:?}"), &port::lookup(&t, used, key, room), words, room)
+    }
+}
+
+/// Makes a file that differs smaller, as long as it differs: shorter first, then more zeros.
+pub fn shrink(case: &Case) -> Case {
+    let differs = |case: &Case| Comparer::new().reader(case).is_err();
+    let mut best = case.clone();
+    let mut step = best.file.len().next_power_of_two();
+    while step > 0 {
+        while best.file.len() >= step {
+            let mut next = best.clone();
+            next.file.truncate(best.file.len() - step);
+            if !differs(&next) {
+                break;
+            }
+            best = next;
+        }
+        step /= 2;
+    }
+    for step in [64, 16, 8, 4, 2, 1] {
+        for at in (0..best.file.len()).step_by(step) {
+            let end = (at + step).min(best.file.len());
+            if best.file[at..end].iter().any(|b| *b != 0) {
+                let mut next = best.clone();
+                next.file[at..end].fill(0);
+                if differs(&next) {
+                    best = next;
+                }
+            }
+        }
+    }
+    best
+}
