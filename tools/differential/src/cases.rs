@@ -20,6 +20,13 @@ pub struct Case {
 
 fn builtins(r: &mut Random) -> Vec<u32> {
     let mut keys = Vec::new();
+    if r.one_in(2) {
+        // every name that a file may ask for, so that many are accepted
+        keys.extend(elf::SYMBOLS[1..].iter().map(|name| outcome::hash(name)));
+        if !r.one_in(8) {
+            keys.push(0);
+        }
+    }
     for _ in 0..r.below(6) {
         keys.push(match r.below(10) {
             0 => outcome::hash(&r.below(12).to_le_bytes()),
@@ -31,6 +38,15 @@ fn builtins(r: &mut Random) -> Vec<u32> {
     keys.sort_unstable();
     keys.dedup();
     keys
+}
+
+/// All on, or one of them off, or any.
+fn settings(r: &mut Random) -> Settings {
+    Settings::from_bits(match r.below(6) {
+        0 => r.below(64),
+        1 | 2 => 63 ^ 1 << r.below(6),
+        _ => 63,
+    })
 }
 
 impl Case {
@@ -47,10 +63,18 @@ impl Case {
             .collect();
         Case {
             file,
-            settings: Settings::from_bits(if r.one_in(3) { r.below(64) } else { 63 }),
+            settings: settings(r),
             builtins: builtins(r),
-            rows: if r.one_in(4) { r.below(12) as usize } else { 256 },
-            room: if r.one_in(8) { r.below(24) as usize } else { 16 },
+            rows: if r.one_in(4) {
+                r.below(12) as usize
+            } else {
+                256
+            },
+            room: if r.one_in(8) {
+                r.below(24) as usize
+            } else {
+                16
+            },
             shift: r.index(16),
             asked,
         }

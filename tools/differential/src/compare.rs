@@ -21,7 +21,11 @@ pub struct Placed {
 
 impl Placed {
     pub fn new() -> Placed {
-        Placed { words: Vec::new(), shift: 0, len: 0 }
+        Placed {
+            words: Vec::new(),
+            shift: 0,
+            len: 0,
+        }
     }
 
     pub fn put(&mut self, bytes: &[u8], shift: usize) {
@@ -32,13 +36,18 @@ impl Placed {
         self.shift = shift;
         self.len = bytes.len();
         let to = unsafe {
-            std::slice::from_raw_parts_mut((self.words.as_mut_ptr() as *mut u8).add(shift), bytes.len())
+            std::slice::from_raw_parts_mut(
+                (self.words.as_mut_ptr() as *mut u8).add(shift),
+                bytes.len(),
+            )
         };
         to.copy_from_slice(bytes);
     }
 
     pub fn bytes(&self) -> &[u8] {
-        unsafe { std::slice::from_raw_parts((self.words.as_ptr() as *const u8).add(self.shift), self.len) }
+        unsafe {
+            std::slice::from_raw_parts((self.words.as_ptr() as *const u8).add(self.shift), self.len)
+        }
     }
 }
 
@@ -61,7 +70,14 @@ fn same(what: &str, got: &Answer, words: [u64; WORDS], room: usize) -> Result<()
 
 /// A refusal of the Rust against an answer. The place of a name is not in the Rust: the bytes at
 /// the port's place must be the Rust's text.
-fn refusal(what: &str, file: &[u8], got: &Answer, full: &Answer, refused: &Refused, room: usize) -> Result<(), String> {
+fn refusal(
+    what: &str,
+    file: &[u8],
+    got: &Answer,
+    full: &Answer,
+    refused: &Refused,
+    room: usize,
+) -> Result<(), String> {
     let mut words = [0; WORDS];
     words[0] = refused.number as u64;
     words[1] = refused.value;
@@ -72,7 +88,9 @@ fn refusal(what: &str, file: &[u8], got: &Answer, full: &Answer, refused: &Refus
             .and_then(|end| file.get(start as usize..end as usize))
             .map(|bytes| String::from_utf8_lossy(bytes).into_owned().into_bytes());
         if bytes.as_ref() != Some(name) {
-            return Err(format!("{what}\n  port: {full:?}, the name {bytes:?}\n  Rust: {refused:?}"));
+            return Err(format!(
+                "{what}\n  port: {full:?}, the name {bytes:?}\n  Rust: {refused:?}"
+            ));
         }
         words[2] = start;
         words[3] = length;
@@ -90,7 +108,10 @@ fn number_of<T>(answer: &Result<T, ElfParserError>) -> u32 {
 /// The places of a table: its offset and the number of its entries, zeros where there is none.
 fn table_place<T>(base: &[u8], table: Option<&[T]>) -> (u64, u64) {
     match table {
-        Some(t) => ((t.as_ptr() as usize - base.as_ptr() as usize) as u64, t.len() as u64),
+        Some(t) => (
+            (t.as_ptr() as usize - base.as_ptr() as usize) as u64,
+            t.len() as u64,
+        ),
         None => (0, 0),
     }
 }
@@ -110,7 +131,11 @@ pub struct Comparer {
 
 impl Comparer {
     pub fn new() -> Comparer {
-        Comparer { aligned: Placed::new(), shifted: Placed::new(), histogram: Histogram::new() }
+        Comparer {
+            aligned: Placed::new(),
+            shifted: Placed::new(),
+            histogram: Histogram::new(),
+        }
     }
 
     fn count(&mut self, what: &'static str, number: u32) {
@@ -136,18 +161,41 @@ impl Comparer {
         let parsed = Elf64::parse(bytes);
         self.count("parse", number_of(&parsed));
         let full = port::parse(file, WORDS);
-        let got = if room == WORDS { full.clone() } else { port::parse(file, room) };
+        let got = if room == WORDS {
+            full.clone()
+        } else {
+            port::parse(file, room)
+        };
         let elf = match parsed {
             Ok(elf) => elf,
             Err(err) => {
                 let refused = parser_refusal(err);
                 refusal("parse", file, &got, &full, &refused, room)?;
                 // every question has the refusal of the parse
-                for question in [Question::SectionPlace, Question::SectionName, Question::SymbolName, Question::DynamicSymbolName] {
+                for question in [
+                    Question::SectionPlace,
+                    Question::SectionName,
+                    Question::SymbolName,
+                    Question::DynamicSymbolName,
+                ] {
                     let answer = port::ask(question, file, case.asked[0], room);
-                    refusal(&format!("{question:?} of a file that is refused"), file, &answer, &full, &refused, room)?;
+                    refusal(
+                        &format!("{question:?} of a file that is refused"),
+                        file,
+                        &answer,
+                        &full,
+                        &refused,
+                        room,
+                    )?;
                 }
-                return refusal("symbol table of a file that is refused", file, &port::symbol_table(file, room), &full, &refused, room);
+                return refusal(
+                    "symbol table of a file that is refused",
+                    file,
+                    &port::symbol_table(file, room),
+                    &full,
+                    &refused,
+                    room,
+                );
             }
         };
 
@@ -157,7 +205,9 @@ impl Comparer {
             headers
                 .iter()
                 .find(|h| elf.section_name(h.sh_name).as_ref() == Ok(&name))
-                .map_or(0, |h| (h as *const Elf64Shdr as usize - bytes.as_ptr() as usize) as u64)
+                .map_or(0, |h| {
+                    (h as *const Elf64Shdr as usize - bytes.as_ptr() as usize) as u64
+                })
         };
         let mut words = [0; WORDS];
         (words[4], words[5]) = table_place(bytes, Some(elf.program_header_table()));
@@ -179,7 +229,14 @@ impl Comparer {
                 let (at, n) = table_place(bytes, table);
                 same("symbol table", &got, place_words(at, n), room)?;
             }
-            Err(err) => refusal("symbol table", file, &got, &port::symbol_table(file, WORDS), &parser_refusal(err), room)?,
+            Err(err) => refusal(
+                "symbol table",
+                file,
+                &got,
+                &port::symbol_table(file, WORDS),
+                &parser_refusal(err),
+                room,
+            )?,
         }
 
         // contents by index
@@ -196,15 +253,30 @@ impl Comparer {
                 }
             }
             self.count("section contents", words[0] as u32);
-            same(&format!("contents of section {index}"), &port::ask(Question::SectionPlace, file, index, room), words, room)?;
+            same(
+                &format!("contents of section {index}"),
+                &port::ask(Question::SectionPlace, file, index, room),
+                words,
+                room,
+            )?;
         }
 
         // names by string offset
-        let sizes = |at: u64| if at == 0 { 0 } else { headers[((at - words[6]) / 64) as usize].sh_size };
+        let sizes = |at: u64| {
+            if at == 0 {
+                0
+            } else {
+                headers[((at - words[6]) / 64) as usize].sh_size
+            }
+        };
         for (question, header_at, what) in [
             (Question::SectionName, words[8], "section name"),
             (Question::SymbolName, words[10], "symbol name"),
-            (Question::DynamicSymbolName, words[11], "dynamic symbol name"),
+            (
+                Question::DynamicSymbolName,
+                words[11],
+                "dynamic symbol name",
+            ),
         ] {
             let size = sizes(header_at) as u32;
             let mut offsets = case.asked.clone();
@@ -215,8 +287,22 @@ impl Comparer {
             offsets.push(size / 2);
             match question {
                 Question::SectionName => offsets.extend(headers.iter().take(12).map(|h| h.sh_name)),
-                Question::SymbolName => offsets.extend(elf.symbol_table().ok().flatten().unwrap_or_default().iter().take(4).map(|s| s.st_name)),
-                _ => offsets.extend(elf.dynamic_symbol_table().unwrap_or_default().iter().take(4).map(|s| s.st_name)),
+                Question::SymbolName => offsets.extend(
+                    elf.symbol_table()
+                        .ok()
+                        .flatten()
+                        .unwrap_or_default()
+                        .iter()
+                        .take(4)
+                        .map(|s| s.st_name),
+                ),
+                _ => offsets.extend(
+                    elf.dynamic_symbol_table()
+                        .unwrap_or_default()
+                        .iter()
+                        .take(4)
+                        .map(|s| s.st_name),
+                ),
             }
             for offset in offsets {
                 let name = match question {
@@ -230,9 +316,21 @@ impl Comparer {
                 match name {
                     Ok(name) => {
                         let start = name.as_ptr() as usize - bytes.as_ptr() as usize;
-                        same(&what, &got, place_words(start as u64, name.len() as u64), room)?;
+                        same(
+                            &what,
+                            &got,
+                            place_words(start as u64, name.len() as u64),
+                            room,
+                        )?;
                     }
-                    Err(err) => refusal(&what, file, &got, &port::ask(question, file, offset, WORDS), &parser_refusal(err), room)?,
+                    Err(err) => refusal(
+                        &what,
+                        file,
+                        &got,
+                        &port::ask(question, file, offset, WORDS),
+                        &parser_refusal(err),
+                        room,
+                    )?,
                 }
             }
         }
@@ -242,12 +340,18 @@ impl Comparer {
     /// Hashes of random names.
     pub fn hashes(&mut self, r: &mut Random) -> Result<(), String> {
         for _ in 0..2 {
-            let n = if r.one_in(50) { r.below(3000) } else { r.below(80) };
+            let n = if r.one_in(50) {
+                r.below(3000)
+            } else {
+                r.below(80)
+            };
             let name: Vec<u8> = (0..n).map(|_| r.next() as u8).collect();
             let (got, expected) = (port::hash(&name), outcome::hash(&name));
             self.count("hash", 0);
             if got != expected {
-                return Err(format!("hash of {name:02x?}\n  port: {got:#x}\n  Rust: {expected:#x}"));
+                return Err(format!(
+                    "hash of {name:02x?}\n  port: {got:#x}\n  Rust: {expected:#x}"
+                ));
             }
         }
         Ok(())
@@ -259,7 +363,15 @@ impl Comparer {
         let most = if r.one_in(20) { 200 } else { 10 };
         let column = |r: &mut Random| -> Vec<u32> {
             let n = r.below(most + 1);
-            (0..n).map(|_| if wide { r.next() as u32 } else { r.below(12) as u32 }).collect()
+            (0..n)
+                .map(|_| {
+                    if wide {
+                        r.next() as u32
+                    } else {
+                        r.below(12) as u32
+                    }
+                })
+                .collect()
         };
         let mut t: Columns = std::array::from_fn(|_| column(r));
         if r.one_in(2) {
@@ -271,8 +383,17 @@ impl Comparer {
             }
         }
         let used = r.pick(&[0, 1, most / 2, most, t[0].len() as u64, u64::MAX]);
-        let key = if t[0].is_empty() || r.one_in(3) { r.below(12) as u32 } else { t[0][r.index(t[0].len())] };
-        let rows = t.iter().map(|c| c.len()).min().unwrap().min(used.min(1 << 20) as usize);
+        let key = if t[0].is_empty() || r.one_in(3) {
+            r.below(12) as u32
+        } else {
+            t[0][r.index(t[0].len())]
+        };
+        let rows = t
+            .iter()
+            .map(|c| c.len())
+            .min()
+            .unwrap()
+            .min(used.min(1 << 20) as usize);
         let mut words = [0; WORDS];
         match (0..rows).find(|i| t[0][*i] == key) {
             Some(i) => {
@@ -283,7 +404,12 @@ impl Comparer {
             None => words[0] = 1,
         }
         self.count("lookup", words[0] as u32);
-        same(&format!("lookup of {key} in {used} rows of {t:?}"), &port::lookup(&t, used, key, room), words, room)
+        same(
+            &format!("lookup of {key} in {used} rows of {t:?}"),
+            &port::lookup(&t, used, key, room),
+            words,
+            room,
+        )
     }
 }
 

@@ -79,7 +79,17 @@ impl Section {
 }
 
 fn section(name: &'static [u8], kind: u32, flags: u64, data: Vec<u8>) -> Section {
-    Section { name, kind, flags, align: 8, data, nobits: 0, at: 0, addr: 0, name_at: 0 }
+    Section {
+        name,
+        kind,
+        flags,
+        align: 8,
+        data,
+        nobits: 0,
+        at: 0,
+        addr: 0,
+        name_at: 0,
+    }
 }
 
 fn put(bytes: &mut [u8], at: u64, value: u64, width: usize) {
@@ -88,14 +98,14 @@ fn put(bytes: &mut [u8], at: u64, value: u64, width: usize) {
 
 /// A table of names, each with its zero byte, and where each starts.
 fn strings(r: &mut Random, names: &[&[u8]]) -> (Vec<u8>, Vec<u32>) {
-    let mut bytes = if r.one_in(12) { Vec::new() } else { vec![0] };
+    let mut bytes = if r.odd(12) { Vec::new() } else { vec![0] };
     let mut at = Vec::new();
     for name in names {
         at.push(bytes.len() as u32);
         bytes.extend_from_slice(name);
         bytes.push(0);
     }
-    if r.one_in(16) {
+    if r.odd(16) {
         // the last name is cut off
         let cut = r.range(1, 4).min(bytes.len() as u64) as usize;
         bytes.truncate(bytes.len() - cut);
@@ -111,11 +121,16 @@ fn text(r: &mut Random, slots: usize) -> Vec<u8> {
         let n = slots as i64;
         match r.below(8) {
             0 | 1 => {
-                let target = match r.below(8) {
-                    0 => r.pick(&[-1, n, n + 1, -2]),
-                    _ => r.below(slots as u64) as i64,
+                let target = if r.odd(8) {
+                    r.pick(&[-1, n, n + 1, -2])
+                } else {
+                    r.below(slots as u64) as i64
                 };
-                let imm = if r.one_in(5) { -1 } else { (target - here - 1) as i32 };
+                let imm = if r.one_in(5) {
+                    -1
+                } else {
+                    (target - here - 1) as i32
+                };
                 bytes.extend_from_slice(&[0x85, r.pick(&[0x10, 0x10, 0x00, 0x20]), 0, 0]);
                 bytes.extend_from_slice(&imm.to_le_bytes());
             }
@@ -150,26 +165,35 @@ struct Plan {
 }
 
 fn st_value(r: &mut Random, start: u64, size: u64) -> u64 {
-    match r.below(12) {
-        0 => 0,
-        1 => start.wrapping_add(size),
-        2 => start.wrapping_sub(1),
-        3 => start.wrapping_add(size).wrapping_sub(1),
-        4 => start.wrapping_add(r.below(size + 1)),
-        5 => r.pick(&[u64::MAX, PROGRAM_START, STACK_START, 0x20]),
-        _ => start.wrapping_add(8 * r.below(size / 8 + 1)),
+    if r.odd(2) {
+        return match r.below(6) {
+            0 => 0,
+            1 => start.wrapping_add(size),
+            2 => start.wrapping_sub(1),
+            3 => start.wrapping_add(size).wrapping_sub(1),
+            4 => start.wrapping_add(r.below(size + 1)),
+            _ => r.pick(&[u64::MAX, PROGRAM_START, STACK_START, 0x20]),
+        };
     }
+    if r.one_in(6) {
+        return 0;
+    }
+    start.wrapping_add(8 * r.below((size / 8).max(1)))
 }
 
 fn symbol_table(r: &mut Random, n: usize, names: &[u32], start: u64, size: u64) -> Vec<u8> {
     let mut bytes = Vec::new();
     for i in 0..n {
-        let name = match r.below(20) {
-            0 => r.pick(&[u32::MAX, 1000, 63, 64]),
+        let name = match () {
+            _ if r.odd(20) => r.pick(&[u32::MAX, 1000, 63, 64]),
             _ if names.is_empty() => 0,
             _ => r.pick(names),
         };
-        let info = if i == 0 && !r.one_in(4) { 0 } else { r.pick(&[0x12, 0x12, 0x12, 0x02, 0x10, 0x22, 0x03, 0x00, 0xff]) };
+        let info = if i == 0 && !r.one_in(4) {
+            0
+        } else {
+            r.pick(&[0x12, 0x12, 0x12, 0x02, 0x10, 0x22, 0x03, 0x00, 0xff])
+        };
         bytes.extend_from_slice(&name.to_le_bytes());
         bytes.extend_from_slice(&[info, 0, 1, 0]);
         bytes.extend_from_slice(&st_value(r, start, size).to_le_bytes());
@@ -178,42 +202,55 @@ fn symbol_table(r: &mut Random, n: usize, names: &[u32], start: u64, size: u64) 
     bytes
 }
 
+/// Bytes too many for whole entries.
+fn uneven(r: &mut Random) -> usize {
+    if r.odd(20) {
+        r.pick(&[1, 8, 16])
+    } else {
+        0
+    }
+}
+
 /// One file.
 pub fn file(r: &mut Random) -> Vec<u8> {
+    r.sober = r.pick(&[1, 1, 4, 16, 0]);
     let version2 = r.one_in(2);
-    let slots = match r.below(12) {
-        0 => r.range(0, 1),
-        1 => r.range(16, 40),
+    let slots = match () {
+        _ if r.odd(12) => r.range(0, 1),
+        _ if r.one_in(12) => r.range(16, 40),
         _ => r.range(2, 12),
     } as usize;
-    let base = if version2 {
-        match r.below(10) {
+    let base = match (version2, r.odd(3)) {
+        (true, false) => PROGRAM_START,
+        (false, false) => 0,
+        (true, true) => match r.below(4) {
             0 => 0,
             1 => STACK_START - 0x400 - 8 * r.below(64),
             2 => r.pick(&[8, PROGRAM_START - 0x200, PROGRAM_START / 2]),
-            3 => r.pick(&[0u64.wrapping_sub(0x1000), 0u64.wrapping_sub(0x200), 1 << 40]),
-            _ => PROGRAM_START,
-        }
-    } else {
-        match r.below(12) {
+            _ => r.pick(&[0u64.wrapping_sub(0x1000), 0u64.wrapping_sub(0x200), 1 << 40]),
+        },
+        (false, true) => match r.below(3) {
             0 => r.pick(&[0x1000, 8, 1]),
             1 => PROGRAM_START - 8 * r.below(64),
-            2 => r.pick(&[PROGRAM_START, STACK_START, 0u64.wrapping_sub(0x400)]),
-            _ => 0,
-        }
+            _ => r.pick(&[PROGRAM_START, STACK_START, 0u64.wrapping_sub(0x400)]),
+        },
     };
     let plan = Plan {
         version2,
         base,
         symbols: r.range(0, 6) as usize,
-        relocations: if r.one_in(4) { 0 } else { r.range(1, 7) as usize },
+        relocations: if r.one_in(4) {
+            0
+        } else {
+            r.range(1, 7) as usize
+        },
     };
 
     // the sections, in the order of the file
     let mut sections = vec![section(b"", SHT_NULL, 0, Vec::new())];
     let alloc = 2;
     let mut parts = vec![section(b".text", SHT_PROGBITS, alloc | 4, text(r, slots))];
-    if r.one_in(16) {
+    if r.odd(16) {
         parts[0].kind = SHT_NOBITS;
         parts[0].nobits = parts[0].data.len() as u64;
         parts[0].data.clear();
@@ -221,19 +258,21 @@ pub fn file(r: &mut Random) -> Vec<u8> {
     for name in [&b".rodata"[..], b".data.rel.ro", b".eh_frame"] {
         if r.one_in(3) {
             let n = r.range(0, 6) * 8 + if r.one_in(6) { r.below(8) } else { 0 };
-            let mut data: Vec<u8> = (0..n).map(|_| r.pick(&[0, 0, 0, 1, 8, 0x10, 0xff])).collect();
+            let mut data: Vec<u8> = (0..n)
+                .map(|_| r.pick(&[0, 0, 0, 1, 8, 0x10, 0xff]))
+                .collect();
             if r.one_in(4) {
                 data.resize(n as usize + 8, 0);
             }
             parts.push(section(name, SHT_PROGBITS, alloc, data));
         }
     }
-    if r.one_in(10) {
+    if r.odd(10) {
         let writable = r.pick(&[2, 3]);
         let name: &[u8] = r.pick(&[&b".data"[..], b".bss", b".data.rel"]);
         parts.push(section(name, SHT_PROGBITS, writable, vec![7; 8]));
     }
-    if r.one_in(8) {
+    if r.odd(8) {
         let name = r.pick(&[&b".bss"[..], b".nobits", b".data"]);
         let mut s = section(name, SHT_NOBITS, 3, Vec::new());
         s.nobits = r.pick(&[0, 8, 0x1000, u64::MAX]);
@@ -249,10 +288,25 @@ pub fn file(r: &mut Random) -> Vec<u8> {
         let names: Vec<&[u8]> = (0..r.range(1, 5)).map(|_| r.pick(SYMBOLS)).collect();
         let (table, at) = strings(r, &names);
         dynamic_names = at;
-        parts.push(section(b".dynamic", SHT_DYNAMIC, alloc | 1, vec![0; 16 * r.range(6, 9) as usize]));
-        parts.push(section(b".dynsym", r.pick(&[SHT_DYNSYM, SHT_DYNSYM, SHT_DYNSYM, SHT_SYMTAB]), alloc, vec![0; 24 * plan.symbols]));
+        parts.push(section(
+            b".dynamic",
+            SHT_DYNAMIC,
+            alloc | 1,
+            vec![0; 16 * r.range(6, 9) as usize],
+        ));
+        parts.push(section(
+            b".dynsym",
+            r.pick(&[SHT_DYNSYM, SHT_DYNSYM, SHT_SYMTAB]),
+            alloc,
+            vec![0; 24 * plan.symbols + uneven(r)],
+        ));
         parts.push(section(b".dynstr", SHT_STRTAB, alloc, table));
-        parts.push(section(b".rel.dyn", SHT_REL, alloc, vec![0; 16 * plan.relocations]));
+        parts.push(section(
+            b".rel.dyn",
+            SHT_REL,
+            alloc,
+            vec![0; 16 * plan.relocations],
+        ));
         if r.one_in(4) {
             // without it the program header leads there
             let at = parts.iter().position(|s| s.kind == SHT_DYNAMIC).unwrap();
@@ -260,19 +314,38 @@ pub fn file(r: &mut Random) -> Vec<u8> {
         }
     }
     let mut label_names = Vec::new();
-    let labels = if r.one_in(2) { r.range(0, 5) as usize } else { 0 };
+    let labels = if r.one_in(2) {
+        r.range(0, 5) as usize
+    } else {
+        0
+    };
     if r.one_in(2) {
         let names: Vec<&[u8]> = (0..r.range(1, 4)).map(|_| r.pick(SYMBOLS)).collect();
         let (table, at) = strings(r, &names);
         label_names = at;
-        let kind = r.pick(&[SHT_SYMTAB, SHT_SYMTAB, SHT_SYMTAB, SHT_SYMTAB, SHT_DYNSYM, SHT_PROGBITS]);
-        parts.push(section(b".symtab", kind, 0, vec![0; 24 * labels]));
-        if !r.one_in(8) {
-            parts.push(section(b".strtab", r.pick(&[SHT_STRTAB, SHT_STRTAB, SHT_STRTAB, SHT_STRTAB, SHT_PROGBITS]), 0, table));
+        let kind = if r.odd(4) {
+            r.pick(&[SHT_DYNSYM, SHT_PROGBITS])
+        } else {
+            SHT_SYMTAB
+        };
+        parts.push(section(
+            b".symtab",
+            kind,
+            0,
+            vec![0; 24 * labels + uneven(r)],
+        ));
+        if !r.odd(8) {
+            let kind = if r.odd(6) { SHT_PROGBITS } else { SHT_STRTAB };
+            parts.push(section(b".strtab", kind, 0, table));
         }
     }
-    if r.one_in(8) {
-        let mut s = section(r.pick(SECTION_NAMES), r.pick(&[SHT_PROGBITS, SHT_STRTAB, SHT_NOBITS, SHT_NULL, 0x7000_0000]), r.pick(&[0, 2, 3]), vec![0; r.range(0, 24) as usize]);
+    if r.odd(8) {
+        let mut s = section(
+            r.pick(SECTION_NAMES),
+            r.pick(&[SHT_PROGBITS, SHT_STRTAB, SHT_NOBITS, SHT_NULL, 0x7000_0000]),
+            r.pick(&[0, 2, 3]),
+            vec![0; r.range(0, 24) as usize],
+        );
         s.align = r.pick(&[1, 8]);
         s.nobits = s.data.len() as u64;
         if s.kind == SHT_NOBITS {
@@ -282,7 +355,7 @@ pub fn file(r: &mut Random) -> Vec<u8> {
         parts.insert(at, s);
     }
     parts.push(section(b".shstrtab", SHT_STRTAB, 0, Vec::new()));
-    if r.one_in(20) {
+    if r.odd(20) {
         let (a, b) = (r.index(parts.len()), r.index(parts.len()));
         parts.swap(a, b);
     }
@@ -292,7 +365,10 @@ pub fn file(r: &mut Random) -> Vec<u8> {
     for (s, at) in sections.iter_mut().zip(name_at) {
         s.name_at = at;
     }
-    let shstrndx = sections.iter().position(|s| s.name == b".shstrtab").unwrap();
+    let shstrndx = sections
+        .iter()
+        .position(|s| s.name == b".shstrtab")
+        .unwrap();
     sections[shstrndx].data = table;
 
     // where they stand
@@ -318,26 +394,23 @@ pub fn file(r: &mut Random) -> Vec<u8> {
         if s.kind == SHT_NULL && s.data.is_empty() && s.name.is_empty() {
             continue;
         }
-        at = up(at, if r.one_in(40) { 1 } else { s.align });
+        at = up(at, if r.odd(40) { 1 } else { s.align });
         s.at = at;
         if s.kind != SHT_NOBITS {
             at += s.data.len() as u64;
         }
-        s.addr = match r.below(60) {
-            0 => s.at,
-            1 => plan.base.wrapping_add(s.at).wrapping_add(8),
-            2 => plan.base.wrapping_add(s.at).wrapping_sub(1),
-            3 => 0,
-            _ => plan.base.wrapping_add(s.at),
-        };
+        s.addr = plan.base.wrapping_add(s.at);
+        if r.odd(15) {
+            s.addr = r.pick(&[s.at, s.addr.wrapping_add(8), s.addr.wrapping_sub(1), 0]);
+        }
     }
     if !ph_first {
-        at = up(at, if r.one_in(20) { 1 } else { 8 });
+        at = up(at, if r.odd(20) { 1 } else { 8 });
         phoff = at;
         at += 56 * ph_count;
     }
     if !sh_first {
-        at = up(at, if r.one_in(20) { 1 } else { 8 });
+        at = up(at, if r.odd(20) { 1 } else { 8 });
         shoff = at;
         at += 64 * sections.len() as u64;
     }
@@ -346,15 +419,21 @@ pub fn file(r: &mut Random) -> Vec<u8> {
     // what the tables hold
     let find = |sections: &[Section], name: &[u8]| sections.iter().position(|s| s.name == name);
     let text_index = find(&sections, b".text").unwrap();
-    let (text_at, text_addr, text_size) = (sections[text_index].at, sections[text_index].addr, sections[text_index].size());
+    let (text_at, text_addr, text_size) = (
+        sections[text_index].at,
+        sections[text_index].addr,
+        sections[text_index].size(),
+    );
     if let Some(i) = find(&sections, b".dynsym") {
-        if sections[i].data.len() == 24 * plan.symbols {
-            sections[i].data = symbol_table(r, plan.symbols, &dynamic_names, text_addr, text_size);
+        let table = symbol_table(r, plan.symbols, &dynamic_names, text_addr, text_size);
+        if table.len() <= sections[i].data.len() {
+            sections[i].data[..table.len()].copy_from_slice(&table);
         }
     }
     if let Some(i) = find(&sections, b".symtab") {
-        if sections[i].data.len() == 24 * labels {
-            sections[i].data = symbol_table(r, labels, &label_names, text_addr, text_size);
+        let table = symbol_table(r, labels, &label_names, text_addr, text_size);
+        if table.len() <= sections[i].data.len() {
+            sections[i].data[..table.len()].copy_from_slice(&table);
             // most are functions, so that labels are met
             for k in 0..labels {
                 if !r.one_in(3) {
@@ -365,28 +444,35 @@ pub fn file(r: &mut Random) -> Vec<u8> {
     }
     if let Some(i) = find(&sections, b".rel.dyn") {
         let mut bytes = Vec::new();
-        let data = find(&sections, b".rodata").or(find(&sections, b".data.rel.ro")).unwrap_or(text_index);
+        let data = find(&sections, b".rodata")
+            .or(find(&sections, b".data.rel.ro"))
+            .unwrap_or(text_index);
         let mut last = text_at;
         for _ in 0..plan.relocations {
-            let place = match r.below(16) {
+            let place = match r.below(12) {
+                _ if r.odd(8) => r.below(len + 16),
+                _ if r.odd(8) => text_at + text_size - text_size.min(r.range(1, 16)),
                 0 => last,
                 1 => last + r.pick(&[4, 8, 1, 12]),
-                2 => r.below(len + 16),
-                3 => text_at + text_size - text_size.min(r.range(1, 16)),
-                4 | 5 | 6 => sections[data].at + 8 * r.below(sections[data].size() / 8 + 1),
-                _ => text_at + 8 * r.below(text_size / 8 + 1),
+                2 | 3 | 4 => sections[data].at + 8 * r.below((sections[data].size() / 8).max(1)),
+                _ => text_at + 8 * r.below((text_size / 8).max(1)),
             };
             last = place;
-            let r_offset = match r.below(40) {
-                0 => r.pick(&[u64::MAX, u64::MAX - 1, 0, len]),
+            let r_offset = match () {
+                _ if r.odd(30) => r.pick(&[u64::MAX, u64::MAX - 1, 0, len]),
                 _ if plan.version2 => place.wrapping_add(plan.base),
                 _ => place,
             };
-            let kind = match r.below(24) {
-                0 => r.pick(&[0, 2, 9, 11, 0xffff_ffff]),
-                n => [1, 8, 10][n as usize % 3],
+            let kind = if r.odd(20) {
+                r.pick(&[0, 2, 9, 11, 0xffff_ffff])
+            } else {
+                r.pick(&[1, 8, 10])
             };
-            let symbol = if r.one_in(12) { r.pick(&[plan.symbols as u64, u32::MAX as u64]) } else { r.below(plan.symbols as u64 + 1) };
+            let symbol = if r.odd(12) {
+                r.pick(&[plan.symbols as u64, u32::MAX as u64])
+            } else {
+                r.below((plan.symbols as u64).max(1))
+            };
             bytes.extend_from_slice(&r_offset.to_le_bytes());
             bytes.extend_from_slice(&(symbol << 32 | kind).to_le_bytes());
         }
@@ -396,20 +482,27 @@ pub fn file(r: &mut Random) -> Vec<u8> {
         let rel = find(&sections, b".rel.dyn").unwrap();
         let symbols = find(&sections, b".dynsym").unwrap();
         let mut entries = Vec::new();
-        if plan.relocations > 0 || r.one_in(4) {
+        if plan.relocations > 0 || r.odd(4) {
             entries.push((17, sections[rel].addr));
             entries.push((18, sections[rel].size()));
-            entries.push((19, if r.one_in(30) { 24 } else { 16 }));
+            entries.push((19, if r.odd(30) { 24 } else { 16 }));
         }
-        if !r.one_in(8) {
+        if !r.odd(8) {
             entries.push((6, sections[symbols].addr));
         }
         if r.one_in(3) {
             entries.push((r.pick(&[5, 34, 35, 36, u64::MAX, 1]), r.next()));
         }
-        if r.one_in(12) && !entries.is_empty() {
+        if r.odd(12) && !entries.is_empty() {
             let again = r.pick(&entries);
-            entries.push((again.0, if r.one_in(2) { again.1 } else { r.pick(&[0, 8, u64::MAX, len]) }));
+            entries.push((
+                again.0,
+                if r.one_in(2) {
+                    again.1
+                } else {
+                    r.pick(&[0, 8, u64::MAX, len])
+                },
+            ));
         }
         if r.one_in(3) {
             let (a, b) = (r.index(entries.len().max(1)), r.index(entries.len().max(1)));
@@ -417,7 +510,7 @@ pub fn file(r: &mut Random) -> Vec<u8> {
                 entries.swap(a, b);
             }
         }
-        if r.one_in(20) {
+        if r.odd(20) {
             let at = r.index(entries.len() + 1);
             entries.insert(at, (0, 0));
         }
@@ -436,22 +529,38 @@ pub fn file(r: &mut Random) -> Vec<u8> {
     put(&mut bytes, 16, 3, 2);
     put(&mut bytes, 18, r.pick(&[247, 263]), 2);
     put(&mut bytes, 20, 1, 4);
-    let entry = match r.below(16) {
-        0 => text_addr.wrapping_add(text_size),
-        1 => text_addr.wrapping_add(r.below(text_size + 1)),
-        2 => text_addr.wrapping_sub(1),
-        _ => text_addr.wrapping_add(8 * r.below(text_size / 8 + 1)),
+    let entry = match r.odd(5) {
+        true => match r.below(3) {
+            0 => text_addr.wrapping_add(text_size),
+            1 => text_addr.wrapping_add(r.below(text_size + 1)),
+            _ => text_addr.wrapping_sub(1),
+        },
+        false => text_addr.wrapping_add(8 * r.below((text_size / 8).max(1))),
     };
     put(&mut bytes, 24, entry, 8);
     put(&mut bytes, 32, phoff, 8);
     put(&mut bytes, 40, shoff, 8);
-    put(&mut bytes, 48, if plan.version2 { 0x20 } else { r.pick(&[0, 0, 0, 1, 0x21]) }, 4);
+    put(
+        &mut bytes,
+        48,
+        if plan.version2 {
+            0x20
+        } else {
+            r.pick(&[0, 0, 0, 1, 0x21])
+        },
+        4,
+    );
     put(&mut bytes, 52, 64, 2);
     put(&mut bytes, 54, 56, 2);
     put(&mut bytes, 56, ph_count, 2);
     put(&mut bytes, 58, 64, 2);
     put(&mut bytes, 60, sections.len() as u64, 2);
-    put(&mut bytes, 62, shstrndx as u64, 2);
+    put(
+        &mut bytes,
+        62,
+        if r.odd(80) { 0 } else { shstrndx as u64 },
+        2,
+    );
     let dynamic_at = find(&sections, b".dynamic");
     let mut vaddrs = Vec::new();
     for k in 0..ph_count {
@@ -459,7 +568,7 @@ pub fn file(r: &mut Random) -> Vec<u8> {
         let is_dynamic = dynamic_at.is_some() && r.one_in(4);
         let (kind, from, size) = if is_dynamic {
             let s = &sections[dynamic_at.unwrap()];
-            match r.below(8) {
+            match if r.odd(1) { r.below(8) } else { 7 } {
                 0 => (2, s.at + 1, s.size()),
                 1 => (2, s.at, s.size() + 1),
                 2 => (2, s.at, 0),
@@ -468,7 +577,7 @@ pub fn file(r: &mut Random) -> Vec<u8> {
             }
         } else {
             let kind = r.pick(&[1, 1, 1, 1, 6, 0x6474_e551]);
-            match r.below(4) {
+            match if k == 0 && !r.odd(2) { 0 } else { r.below(4) } {
                 // all of it, from the text on, one section
                 0 => (kind, 0, len),
                 1 => (kind, text_at, len - text_at),
@@ -478,16 +587,15 @@ pub fn file(r: &mut Random) -> Vec<u8> {
                 }
             }
         };
-        let vaddr = match r.below(30) {
-            0 => from,
-            1 => r.pick(&[0, u64::MAX, STACK_START]),
-            _ => plan.base.wrapping_add(from),
-        };
+        let mut vaddr = plan.base.wrapping_add(from);
+        if r.odd(15) {
+            vaddr = r.pick(&[from, 0, u64::MAX, STACK_START, vaddr.wrapping_add(8)]);
+        }
         vaddrs.push(vaddr);
-        let memory = match r.below(30) {
-            0 => r.pick(&[u64::MAX, 0, 1]),
-            1 => size + 8,
-            _ => size,
+        let memory = if r.odd(15) {
+            r.pick(&[u64::MAX, 0, 1, size + 8])
+        } else {
+            size
         };
         put(&mut bytes, at, kind, 4);
         put(&mut bytes, at + 4, 5, 4);
@@ -498,13 +606,16 @@ pub fn file(r: &mut Random) -> Vec<u8> {
         put(&mut bytes, at + 40, memory, 8);
         put(&mut bytes, at + 48, 8, 8);
     }
-    if !r.one_in(10) {
+    if !r.odd(10) {
         // ascending, as the checks ask for
         let mut order: Vec<usize> = (0..ph_count as usize).collect();
         order.sort_by_key(|k| vaddrs[*k]);
         let old = bytes.clone();
         for (to, from) in order.iter().enumerate() {
-            let (to, from) = ((phoff + 56 * to as u64) as usize, (phoff + 56 * *from as u64) as usize);
+            let (to, from) = (
+                (phoff + 56 * to as u64) as usize,
+                (phoff + 56 * *from as u64) as usize,
+            );
             bytes[to..to + 56].copy_from_slice(&old[from..from + 56]);
         }
     }

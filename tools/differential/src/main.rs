@@ -1,5 +1,6 @@
 //! differential CASES [SEED [FIRST]]: compares the proved functions with the true Rust.
 //! differential load CASES [SEED]: what the true Rust's load answers to the same cases.
+//! differential write CASE FILE [SEED]: the file of a case.
 //! differential FILE..: both answers to files.
 
 use differential::{
@@ -34,10 +35,18 @@ fn compare(cases: u64, seed: u64, first: u64) {
             }
         }
         if (number - first + 1) % 1_000_000 == 0 {
-            eprintln!("{} cases, {:.0} s", number - first + 1, began.elapsed().as_secs_f64());
+            eprintln!(
+                "{} cases, {:.0} s",
+                number - first + 1,
+                began.elapsed().as_secs_f64()
+            );
         }
     }
-    println!("seed {seed}, cases {first} to {}, {:.0} s", first + cases - 1, began.elapsed().as_secs_f64());
+    println!(
+        "seed {seed}, cases {first} to {}, {:.0} s",
+        first + cases - 1,
+        began.elapsed().as_secs_f64()
+    );
     let mut last = "";
     for ((what, number), count) in &both.histogram {
         if *what != last {
@@ -65,7 +74,15 @@ fn tell(case: &Case, name: &str) {
         println!("  smallest found, {} bytes: {text}", small.file.len());
         fs::write(format!("{name}-small.elf"), &small.file).expect("the folder can be written");
     }
-    println!("  settings {} built-ins {:x?} rows {} room {} shift {} asked {:?}", case.settings.bits(), case.builtins, case.rows, case.room, case.shift, case.asked);
+    println!(
+        "  settings {} built-ins {:x?} rows {} room {} shift {} asked {:?}",
+        case.settings.bits(),
+        case.builtins,
+        case.rows,
+        case.room,
+        case.shift,
+        case.asked
+    );
     println!("  written to {name}*.elf");
 }
 
@@ -93,21 +110,38 @@ fn one(name: &str) {
     case.room = 16;
     let mut both = Comparer::new();
     match both.reader(&case) {
-        Ok(()) => println!("{name}: same, parse {:?}", both.histogram.keys().find(|(what, _)| *what == "parse").unwrap().1),
+        Ok(()) => println!(
+            "{name}: same, parse {:?}",
+            both.histogram
+                .keys()
+                .find(|(what, _)| *what == "parse")
+                .unwrap()
+                .1
+        ),
         Err(text) => println!("{name}: DIFFERENCE {text}"),
     }
-    println!("{name}: load {:?}", outcome(&case.file, differential::Settings::ALL_ON, &[], usize::MAX));
+    println!(
+        "{name}: load {:?}",
+        outcome(&case.file, differential::Settings::ALL_ON, &[], usize::MAX)
+    );
 }
 
 fn main() {
     let args: Vec<String> = env::args().skip(1).collect();
-    let number = |k: usize, default: u64| args.get(k).map_or(default, |a| a.replace('_', "").parse().expect("a number"));
+    let number = |k: usize, default: u64| {
+        args.get(k)
+            .map_or(default, |a| a.replace('_', "").parse().expect("a number"))
+    };
     match args.first().map(String::as_str) {
         Some("load") => load(number(1, 10_000), number(2, 1)),
-        Some(a) if a.starts_with(|c: char| c.is_ascii_digit()) => compare(number(0, 0), number(1, 1), number(2, 0)),
+        Some("write") => fs::write(&args[2], Case::new(number(3, 1), number(1, 0)).file)
+            .expect("a file that can be written"),
+        Some(a) if a.starts_with(|c: char| c.is_ascii_digit()) => {
+            compare(number(0, 0), number(1, 1), number(2, 0))
+        }
         Some(_) => args.iter().for_each(|name| one(name)),
         None => {
-            eprintln!("differential CASES [SEED [FIRST]] | load CASES [SEED] | FILE..");
+            eprintln!("differential CASES [SEED [FIRST]] | load CASES [SEED] | write CASE FILE [SEED] | FILE..");
             exit(2);
         }
     }

@@ -5,22 +5,45 @@ use crate::random::Random;
 fn get(file: &[u8], at: u64, width: usize) -> u64 {
     let mut bytes = [0; 8];
     for (k, b) in bytes.iter_mut().enumerate().take(width) {
-        *b = at.checked_add(k as u64).and_then(|at| file.get(at as usize)).copied().unwrap_or(0);
+        *b = at
+            .checked_add(k as u64)
+            .and_then(|at| file.get(at as usize))
+            .copied()
+            .unwrap_or(0);
     }
     u64::from_le_bytes(bytes)
 }
 
 fn set(file: &mut [u8], at: u64, value: u64, width: usize) {
     for (k, b) in value.to_le_bytes().iter().enumerate().take(width) {
-        if let Some(place) = at.checked_add(k as u64).and_then(|at| file.get_mut(at as usize)) {
+        if let Some(place) = at
+            .checked_add(k as u64)
+            .and_then(|at| file.get_mut(at as usize))
+        {
             *place = *b;
         }
     }
 }
 
 const EHDR: &[(u64, usize)] = &[
-    (0, 4), (4, 1), (5, 1), (6, 1), (7, 1), (16, 2), (18, 2), (20, 4), (24, 8), (32, 8), (40, 8),
-    (48, 4), (52, 2), (54, 2), (56, 2), (58, 2), (60, 2), (62, 2),
+    (0, 4),
+    (4, 1),
+    (5, 1),
+    (6, 1),
+    (7, 1),
+    (16, 2),
+    (18, 2),
+    (20, 4),
+    (24, 8),
+    (32, 8),
+    (40, 8),
+    (48, 4),
+    (52, 2),
+    (54, 2),
+    (56, 2),
+    (58, 2),
+    (60, 2),
+    (62, 2),
 ];
 const PHDR: &[(u64, usize)] = &[(0, 4), (8, 8), (16, 8), (32, 8), (40, 8)];
 const SHDR: &[(u64, usize)] = &[(0, 4), (4, 4), (8, 8), (16, 8), (24, 8), (32, 8)];
@@ -32,10 +55,18 @@ const WORDS: &[(u64, usize)] = &[(0, 8), (8, 8)];
 fn tables(file: &[u8]) -> Vec<(u64, u64, u64, &'static [(u64, usize)])> {
     let (phoff, phnum) = (get(file, 32, 8), get(file, 56, 2));
     let (shoff, shnum) = (get(file, 40, 8), get(file, 60, 2));
-    let mut all = vec![(0, 64, 1, EHDR), (phoff, 56, phnum, PHDR), (shoff, 64, shnum, SHDR)];
+    let mut all = vec![
+        (0, 64, 1, EHDR),
+        (phoff, 56, phnum, PHDR),
+        (shoff, 64, shnum, SHDR),
+    ];
     for k in 0..shnum.min(32) {
         let header = shoff.wrapping_add(64 * k);
-        let (kind, at, size) = (get(file, header.wrapping_add(4), 4), get(file, header.wrapping_add(24), 8), get(file, header.wrapping_add(32), 8));
+        let (kind, at, size) = (
+            get(file, header.wrapping_add(4), 4),
+            get(file, header.wrapping_add(24), 8),
+            get(file, header.wrapping_add(32), 8),
+        );
         match kind {
             2 | 11 => all.push((at, 24, size / 24, SYM)),
             6 | 9 => all.push((at, 16, size / 16, WORDS)),
@@ -68,7 +99,11 @@ fn value(r: &mut Random, file: &[u8], old: u64) -> u64 {
             }
             let (at, size, n, fields) = r.pick(&all);
             let (field, width) = r.pick(fields);
-            get(file, at.wrapping_add(size * r.below(n)).wrapping_add(field), width)
+            get(
+                file,
+                at.wrapping_add(size * r.below(n)).wrapping_add(field),
+                width,
+            )
         }
     }
 }
@@ -97,7 +132,10 @@ fn change(r: &mut Random, file: &mut Vec<u8>) {
             // a zero byte of a name goes, or one comes
             if !file.is_empty() {
                 let at = r.index(file.len());
-                let from = file[at..].iter().position(|b| *b == 0).map_or(at, |k| at + k);
+                let from = file[at..]
+                    .iter()
+                    .position(|b| *b == 0)
+                    .map_or(at, |k| at + k);
                 file[from] = if r.one_in(2) { b'x' } else { 0xff };
             }
         }

@@ -40,7 +40,10 @@ pub struct ReadOnly {
 /// What `get_text_bytes` does.
 #[derive(Clone, Debug, PartialEq, Eq)]
 pub enum Text {
-    Part { vaddr: u64, bytes: Vec<u8> },
+    Part {
+        vaddr: u64,
+        bytes: Vec<u8>,
+    },
     /// It panics.
     Aborted,
 }
@@ -70,7 +73,9 @@ pub enum Outcome {
     Accepted(Accepted),
     /// The Rust accepts, but needs this many rows, more than were lent. The
     /// port answers 43, so there is nothing to compare.
-    TableTooSmall { needed: usize },
+    TableTooSmall {
+        needed: usize,
+    },
     /// The Rust panics in `load`.
     Panicked(String),
 }
@@ -131,7 +136,11 @@ pub fn parser_refusal(err: ElfParserError) -> Refused {
         ElfParserError::StringTooLong(name, _) => Some(name.into_bytes()),
         _ => None,
     };
-    Refused { number, value: 0, name }
+    Refused {
+        number,
+        value: 0,
+        name,
+    }
 }
 
 fn load_refusal(err: ElfError) -> Refused {
@@ -156,7 +165,11 @@ fn load_refusal(err: ElfError) -> Refused {
         ElfError::UnsupportedSBPFVersion => (34, 0, None),
         other => unreachable!("document 01 says this is never reached: {other:?}"),
     };
-    Refused { number, value, name }
+    Refused {
+        number,
+        value,
+        name,
+    }
 }
 
 fn builtin(_: *mut EbpfVm<TestContextObject>, _: u64, _: u64, _: u64, _: u64, _: u64) {}
@@ -166,7 +179,11 @@ pub fn loader(settings: Settings, builtins: &[u32]) -> Arc<BuiltinProgram<TestCo
     let mut functions = FunctionRegistry::default();
     for key in builtins {
         functions
-            .register_function(*key, Vec::new(), builtin as rbpf::program::BuiltinFunction<TestContextObject>)
+            .register_function(
+                *key,
+                Vec::new(),
+                builtin as rbpf::program::BuiltinFunction<TestContextObject>,
+            )
             .unwrap();
     }
     let config = Config {
@@ -196,7 +213,10 @@ pub fn hash(name: &[u8]) -> u32 {
 /// fewer rows than the keys it had registered until then makes the port answer
 /// 43 earlier, which this function cannot see: lend enough rows.
 pub fn outcome(file: &[u8], settings: Settings, builtins: &[u32], rows: usize) -> Outcome {
-    assert!(builtins.windows(2).all(|w| w[0] < w[1]), "built-ins must ascend");
+    assert!(
+        builtins.windows(2).all(|w| w[0] < w[1]),
+        "built-ins must ascend"
+    );
     let loader = loader(settings, builtins);
     let loaded = match catch(|| Program::load(file, loader)) {
         Ok(loaded) => loaded,
@@ -224,10 +244,16 @@ pub fn outcome(file: &[u8], settings: Settings, builtins: &[u32], rows: usize) -
     let rows_needed: Vec<Row> = program
         .get_function_registry()
         .iter()
-        .map(|(key, (name, index))| Row { key, index: index as u64, name: name.to_vec() })
+        .map(|(key, (name, index))| Row {
+            key,
+            index: index as u64,
+            name: name.to_vec(),
+        })
         .collect();
     if rows < rows_needed.len() {
-        return Outcome::TableTooSmall { needed: rows_needed.len() };
+        return Outcome::TableTooSmall {
+            needed: rows_needed.len(),
+        };
     }
     let (image, ro) = private_fields(&program);
     // What the public readers tell must agree with the fields.
@@ -274,7 +300,10 @@ impl fmt::Write for UntilTextSection {
 fn private_fields(program: &Program) -> (Vec<u8>, ReadOnly) {
     let mut out = UntilTextSection(String::new());
     let _stopped_early = write!(out, "{program:?}");
-    let mut text = Reader { bytes: out.0.as_bytes(), at: 0 };
+    let mut text = Reader {
+        bytes: out.0.as_bytes(),
+        at: 0,
+    };
     text.expect("Executable { elf_bytes: AlignedMemory { max_len: ");
     let max_len = text.number() as usize;
     text.expect(", align_offset: ");
@@ -291,7 +320,13 @@ fn private_fields(program: &Program) -> (Vec<u8>, ReadOnly) {
         let addr_offset = text.number();
         text.expect(", ");
         let bytes = text.list();
-        ReadOnly { copied: true, addr_offset, start: 0, length: bytes.len() as u64, bytes }
+        ReadOnly {
+            copied: true,
+            addr_offset,
+            start: 0,
+            length: bytes.len() as u64,
+            bytes,
+        }
     } else {
         text.expect("Borrowed(");
         let addr_offset = text.number();
@@ -300,7 +335,13 @@ fn private_fields(program: &Program) -> (Vec<u8>, ReadOnly) {
         text.expect("..");
         let end = text.number();
         let bytes = image[start as usize..end as usize].to_vec();
-        ReadOnly { copied: false, addr_offset, start, length: end - start, bytes }
+        ReadOnly {
+            copied: false,
+            addr_offset,
+            start,
+            length: end - start,
+            bytes,
+        }
     };
     text.expect(")");
     (image, ro)
@@ -325,7 +366,11 @@ impl Reader<'_> {
         let start = self.at;
         let mut n = 0u64;
         while let Some(digit) = self.bytes.get(self.at).filter(|b| b.is_ascii_digit()) {
-            n = n.checked_mul(10).unwrap().checked_add((digit - b'0') as u64).unwrap();
+            n = n
+                .checked_mul(10)
+                .unwrap()
+                .checked_add((digit - b'0') as u64)
+                .unwrap();
             self.at += 1;
         }
         assert!(self.at > start, "expected a number");

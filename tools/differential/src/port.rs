@@ -3,11 +3,40 @@
 extern "C" {
     fn sbpf_hash(name: *const u8, name_len: usize) -> u32;
     fn sbpf_parse(file: *const u8, file_len: usize, answer: *mut u64, answer_len: usize) -> u32;
-    fn sbpf_section_place(file: *const u8, file_len: usize, index: u32, answer: *mut u64, answer_len: usize) -> u32;
-    fn sbpf_section_name(file: *const u8, file_len: usize, sh_name: u32, answer: *mut u64, answer_len: usize) -> u32;
-    fn sbpf_symbol_name(file: *const u8, file_len: usize, st_name: u32, answer: *mut u64, answer_len: usize) -> u32;
-    fn sbpf_dynamic_symbol_name(file: *const u8, file_len: usize, st_name: u32, answer: *mut u64, answer_len: usize) -> u32;
-    fn sbpf_symbol_table(file: *const u8, file_len: usize, answer: *mut u64, answer_len: usize) -> u32;
+    fn sbpf_section_place(
+        file: *const u8,
+        file_len: usize,
+        index: u32,
+        answer: *mut u64,
+        answer_len: usize,
+    ) -> u32;
+    fn sbpf_section_name(
+        file: *const u8,
+        file_len: usize,
+        sh_name: u32,
+        answer: *mut u64,
+        answer_len: usize,
+    ) -> u32;
+    fn sbpf_symbol_name(
+        file: *const u8,
+        file_len: usize,
+        st_name: u32,
+        answer: *mut u64,
+        answer_len: usize,
+    ) -> u32;
+    fn sbpf_dynamic_symbol_name(
+        file: *const u8,
+        file_len: usize,
+        st_name: u32,
+        answer: *mut u64,
+        answer_len: usize,
+    ) -> u32;
+    fn sbpf_symbol_table(
+        file: *const u8,
+        file_len: usize,
+        answer: *mut u64,
+        answer_len: usize,
+    ) -> u32;
     fn sbpf_lookup(
         keys: *const u32,
         keys_len: usize,
@@ -44,11 +73,15 @@ pub fn hash(name: &[u8]) -> u32 {
 }
 
 pub fn parse(file: &[u8], room: usize) -> Answer {
-    with_room(room, |words, n| unsafe { sbpf_parse(file.as_ptr(), file.len(), words, n) })
+    with_room(room, |words, n| unsafe {
+        sbpf_parse(file.as_ptr(), file.len(), words, n)
+    })
 }
 
 pub fn symbol_table(file: &[u8], room: usize) -> Answer {
-    with_room(room, |words, n| unsafe { sbpf_symbol_table(file.as_ptr(), file.len(), words, n) })
+    with_room(room, |words, n| unsafe {
+        sbpf_symbol_table(file.as_ptr(), file.len(), words, n)
+    })
 }
 
 #[derive(Clone, Copy, Debug, PartialEq, Eq)]
@@ -66,7 +99,9 @@ pub fn ask(question: Question, file: &[u8], number: u32, room: usize) -> Answer 
         Question::SymbolName => sbpf_symbol_name,
         Question::DynamicSymbolName => sbpf_dynamic_symbol_name,
     };
-    with_room(room, |words, n| unsafe { call(file.as_ptr(), file.len(), number, words, n) })
+    with_room(room, |words, n| unsafe {
+        call(file.as_ptr(), file.len(), number, words, n)
+    })
 }
 
 /// The five columns of a table: key, index, kind, start, length.
