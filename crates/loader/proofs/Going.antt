@@ -1,0 +1,115 @@
+-- Parts of a load one after another, and a loop of parts of one kind: for every part.
+-- Assumes nothing.
+use mathlib.Core.Path.{_≡_, refl, sym, ap, _∙_}
+use mathlib.Core.List.{List}
+use Prim.Native.Nat.{ℕ, zero, suc, _+_, _-_, _*_, _≤_, _<_, _^_}
+use native.Mathlib.Omega.{arith}
+use lib.ListN.{length}
+use Rattle.program.specs.declared.Row.{Row}
+use Rattle.program.specs.Table.{Slices, capacity, rowsOf, Ready}
+use Rattle.program.proofs.Tables.{SameLens, same-trans, capacity-same}
+use Rattle.loader.specs.declared.error.ElfError.{ElfError}
+use Rattle.loader.specs.declared.deeds.Outcome.{Outcome}
+use Rattle.loader.specs.declared.deeds.Outcome.the-variants.{Holds, Refused}
+use Rattle.loader.specs.Trace.{Trace, andThen, each, Settled, refused, settle, onSettled, settle-andThen}
+use Rattle.loader.specs.Contracts.{Near, Room, Begins, Settles}
+
+pub same-refl : (t : Slices) → SameLens t t
+same-refl t = record { keys-as = refl; indices-as = refl; kinds-as = refl; starts-as = refl; lengths-as = refl }
+
+-- a part that was held, and then another
+pub then-on : (T : Trace) (K : List ℕ → Trace) (im : List ℕ) (t u : Slices) (n used moves used′ moves′ : ℕ) → SameLens t u
+    → Settles T im t u n used moves (Holds used′ moves′)
+    → settle (capacity t) (andThen T K) (rowsOf t used) moves ≡ settle (capacity u) (K im) (rowsOf u used′) moves′
+then-on T K im t u n used moves used′ moves′ lens did = settle-andThen (capacity t) T K (rowsOf t used) moves ∙ rw (← did .answers, capacity-same t u lens) refl
+
+-- a part that was refused
+pub then-not : (T : Trace) (K : List ℕ → Trace) (im : List ℕ) (t u : Slices) (n used moves : ℕ) (r : ElfError)
+    → Settles T im t u n used moves (Refused r)
+    → settle (capacity t) (andThen T K) (rowsOf t used) moves ≡ refused r
+then-not T K im t u n used moves r did = settle-andThen (capacity t) T K (rowsOf t used) moves ∙ rw (← did .answers) refl
+
+-- two parts
+pub settles-stop : (T : Trace) (K : List ℕ → Trace) (im im′ : List ℕ) (t u v : Slices) (n m used moves : ℕ) (r : ElfError)
+    → Settles T im t u n used moves (Refused r) → Settles (andThen T K) im′ t v m used moves (Refused r)
+settles-stop T K im im′ t u v n m used moves r did = record { answers = sym (then-not T K im t u n used moves r did); sound = tt; near = tt }
+
+pub begins-fewer : (n m : ℕ) (t : Slices) (rows used moves : ℕ) → Begins (n + m) t rows used moves → Begins n t rows used moves
+begins-fewer n m t rows used moves b = record { rows-are = b .rows-are; ready = b .ready; room = record { few = omega (arith, b .room .few); moved = omega (arith, b .room .moved) } }
+
+near-add : (n m used moves used′ moves′ : ℕ) (a : Outcome) → used′ ≤ used + n → moves′ ≤ moves + n * 2 ^ 26 → Near m used′ moves′ a → Near (n + m) used moves a
+near-add n m used moves used′ moves′ (Holds used″ moves″) p q h = (omega (arith, h .0), omega (arith, h .1))
+near-add n m used moves used′ moves′ (Refused r) p q h = tt
+
+module _ (T : Trace) (K : List ℕ → Trace) (im im′ : List ℕ) (t u v : Slices) (n m used moves used′ moves′ : ℕ) (lens : SameLens t u) (did : Settles T im t u n used moves (Holds used′ moves′)) where
+  -- room is left for the second part
+  pub begins-then : (rows : ℕ) → Begins (n + m) t rows used moves → Begins m u rows used′ moves′
+  begins-then rows b = record {
+    rows-are = b .rows-are ∙ sym (capacity-same t u lens);
+    ready = did .sound;
+    room = record { few = omega (arith, b .room .few, did .near .0); moved = omega (arith, b .room .moved, did .near .1) };
+  }
+
+  pub settles-then : (a : Outcome) → Settles (K im) im′ u v m used′ moves′ a → Settles (andThen T K) im′ t v (n + m) used moves a
+  settles-then a next = record {
+    answers = next .answers ∙ sym (then-on T K im t u n used moves used′ moves′ lens did);
+    sound = next .sound;
+    near = near-add n m used moves used′ moves′ a (did .near .0) (did .near .1) (next .near);
+  }
+
+-- ---- a loop of n parts: those from i on, with the rows and moves held now, settle to what the whole settles to
+pub record Going (step : ℕ → List ℕ → Trace) (n : ℕ) (im₀ im : List ℕ) (t₀ t : Slices) (used₀ moves₀ used moves i : ℕ) : Type 0 where
+  pub same : SameLens t₀ t
+  pub image-as : length im ≡ length im₀
+  pub ready : Ready t used
+  pub passed : i ≤ n
+  pub few : used ≤ used₀ + i
+  pub moved : moves ≤ moves₀ + i * 2 ^ 26
+  pub onward : settle (capacity t) (each step (n - i) i im) (rowsOf t used) moves ≡ settle (capacity t₀) (each step n 0 im₀) (rowsOf t₀ used₀) moves₀
+
+module _ (step : ℕ → List ℕ → Trace) (n : ℕ) where
+  pub going-start : (im : List ℕ) (t : Slices) (rows used moves : ℕ) → Begins n t rows used moves → Going step n im im t t used moves used moves 0
+  going-start im t rows used moves b = record {
+    same = same-refl t;
+    image-as = refl;
+    ready = b .ready;
+    passed = omega arith;
+    few = omega arith;
+    moved = omega arith;
+    onward = let e : n - 0 ≡ n = omega arith in rw e refl;
+  }
+
+  module _ (im₀ im : List ℕ) (t₀ t : Slices) (rows used₀ moves₀ used moves i : ℕ) (begins : Begins n t₀ rows used₀ moves₀) (going : Going step n im₀ im t₀ t used₀ moves₀ used moves i) where
+    pub going-done : n ≤ i → Settles (each step n 0 im₀) im t₀ t n used₀ moves₀ (Holds used moves)
+    unfolding each settle
+    going-done l =
+        let e : n - i ≡ 0 = omega arith in
+        let j : i ≡ n = omega (arith, going .passed) in
+        record { answers = rw e at (going .onward); sound = going .ready; near = (omega (arith, going .few), omega (arith, going .moved)) }
+
+    -- a part begins
+    pub going-begins : i < n → Begins 1 t rows used moves
+    going-begins l = record {
+      rows-are = begins .rows-are ∙ sym (capacity-same t₀ t (going .same));
+      ready = going .ready;
+      room = record { few = omega (arith, begins .room .few, going .few); moved = omega (arith, begins .room .moved, going .moved) };
+    }
+
+    module _ (more : i < n) (im′ : List ℕ) (u : Slices) where
+      unrolled : settle (capacity t) (andThen (step i im) (λ (im′ : List ℕ). each step (n - (i + 1)) (i + 1) im′)) (rowsOf t used) moves ≡ settle (capacity t₀) (each step n 0 im₀) (rowsOf t₀ used₀) moves₀
+      unfolding each
+      unrolled = let e : n - i ≡ suc (n - (i + 1)) = omega arith in rw e at (going .onward)
+
+      pub going-stop : (r : ElfError) → Settles (step i im) im′ t u 1 used moves (Refused r) → Settles (each step n 0 im₀) im′ t₀ u n used₀ moves₀ (Refused r)
+      going-stop r did = record { answers = sym (then-not (step i im) _ im′ t u 1 used moves r did) ∙ unrolled; sound = tt; near = tt }
+
+      pub going-on : (used′ moves′ : ℕ) → SameLens t u → length im′ ≡ length im → Settles (step i im) im′ t u 1 used moves (Holds used′ moves′) → Going step n im₀ im′ t₀ u used₀ moves₀ used′ moves′ (i + 1)
+      going-on used′ moves′ lens len did = record {
+        same = same-trans t₀ t u (going .same) lens;
+        image-as = len ∙ going .image-as;
+        ready = did .sound;
+        passed = omega arith;
+        few = omega (arith, going .few, did .near .0);
+        moved = omega (arith, going .moved, did .near .1);
+        onward = sym (then-on (step i im) _ im′ t u 1 used moves used′ moves′ lens did) ∙ unrolled;
+      }

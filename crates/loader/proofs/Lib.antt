@@ -1,0 +1,12 @@
+pub mod Orders
+pub mod Copies
+pub mod Going
+pub mod Entering
+pub mod Performing
+pub mod Rowing
+pub mod Ascents
+pub mod Slots
+pub mod Symbols
+pub mod Forgetting
+pub mod Turns
+pub mod Readied

@@ -1,0 +1,13 @@
+-- `loader::addresses::past` meets its contract, by a difference that cannot wrap.
+-- Assumes nothing.
+use Rattle.loader.proofs.Orders.{past-alone, same-ltb}
+use borrow.Author.Needs.{needs}
+use Rattle.loader.proofs.addresses.past.Statement.{statement}
+use Rattle.loader.proofs.addresses.past.Tie as tie
+
+pub past-spec : {M : Type 1} → statement M
+past-spec =
+    tie.close
+    (tie.spec
+    (λ c. search (needs, past-alone))
+    (λ c. search (needs, same-ltb)))

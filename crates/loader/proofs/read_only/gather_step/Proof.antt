@@ -1,0 +1,23 @@
+-- `loader::read_only::gather_step` meets its contract: by the name, and by the place of the bytes.
+-- Assumes nothing.
+use Rattle.ebpf.specs.Choice.{choices}
+use Rattle.loader.specs.ReadOnly.{gatherStep}
+use borrow.Author.Needs.{needs}
+use Rattle.loader.proofs.read_only.gather_step.Statement.{statement}
+use Rattle.loader.proofs.read_only.gather_step.Tie as tie
+
+pub gather-step-spec : {M : Type 1} → statement M
+unfolding gatherStep
+gather-step-spec =
+    tie.close
+    (tie.spec
+    (search needs)
+    (search needs)
+    (search needs)
+    (λ c. rw (← c .before .before .before .section-at .ensures, ← c .before .before .section-name-part .ensures, ← c .before .is-read-only .ensures) (search choices depth 12))
+    (search needs)
+    (search needs)
+    (search needs)
+    (search needs)
+    (λ c. rw (← c .before .before .before .before .before .before .section-at .ensures, ← c .before .before .before .before .before .section-name-part .ensures, ← c .before .before .before .before .is-read-only .ensures, ← c .before .before .section-place .ensures, c .enum-told .given .1) (search choices depth 12))
+    (λ c. rw (← c .before .before .before .before .before .before .before .before .section-at .ensures, ← c .before .before .before .before .before .before .before .section-name-part .ensures, ← c .before .before .before .before .before .before .is-read-only .ensures, ← c .before .before .before .before .section-place .ensures, c .before .before .length .given .1, ← c .take-section .ensures) (search choices depth 12)))

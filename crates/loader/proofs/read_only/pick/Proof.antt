@@ -1,0 +1,12 @@
+-- `loader::read_only::pick` meets its contract: a choice.
+-- Assumes nothing.
+use Rattle.ebpf.specs.Choice.{choices}
+use Rattle.loader.proofs.read_only.pick.Statement.{statement}
+use Rattle.loader.proofs.read_only.pick.Tie as tie
+
+pub pick-spec : {M : Type 1} → statement M
+pick-spec =
+    tie.close
+    (tie.spec
+    (λ c. search choices depth 8)
+    (λ c. search choices depth 8))

@@ -1,0 +1,83 @@
+-- Local calls.
+use Prim.Native.Nat.{ℕ, _+_, _-_, _*_, _/_}
+use mathlib.Core.Path.{_≡_, refl}
+use mathlib.Core.Bool.{Bool, _&&_, not}
+use mathlib.Core.List.{List}
+use lib.ListN.{length, take, drop}
+use lib.Dec.{ltb, eqb}
+use Rattle.ebpf.specs.Choice.{_if_else_}
+use Rattle.ebpf.specs.Instructions.{insnAt}
+use Rattle.ebpf.specs.declared.Insn.{Insn}
+use Rattle.ebpf.specs.declared.Slot.{Slot}
+use Rattle.ebpf.specs.declared.Slot.the-variants.{Holds, Past}
+use Rattle.program.specs.declared.Row.{Row}
+use Rattle.program.specs.declared.FunctionName.the-variants.{OfIndex}
+use Rattle.program.specs.declared.Legacy.{Legacy}
+use Rattle.program.specs.declared.Legacy.the-variants.{Free, Taken}
+use Rattle.loader.specs.declared.error.ElfError.the-variants.{RelativeJumpOutOfBounds, SymbolHashCollision}
+use Rattle.loader.specs.declared.calls.Call.{Call}
+use Rattle.loader.specs.declared.calls.Call.the-variants.{None, To, Outside}
+use Rattle.loader.specs.declared.deeds.Deed.{Deed}
+use Rattle.loader.specs.declared.deeds.Deed.the-variants.{Skip, Refuse, Register}
+use Rattle.loader.specs.declared.validate.Job.{Job}
+use Rattle.loader.specs.Functions.{rowFor}
+use Rattle.loader.specs.Trace.{Trace, each}
+use Rattle.loader.specs.Deeds.{deedTrace}
+
+-- a target among `count` slots
+unfoldable pub inside : ℕ → ℕ → Call
+inside count to = To to if ltb to count else Outside
+
+-- own index + 1 + the signed immediate, whose bits from 2 ^ 31 on count from 2 ^ 32 down
+unfoldable pub target : ℕ → ℕ → ℕ → Call
+target count i imm =
+    inside count (i + 1 + imm) if ltb imm 0x8000_0000 else
+    Outside if ltb (i + 1 + imm) 0x1_0000_0000 else
+    inside count (i + 1 + imm - 0x1_0000_0000)
+
+-- opcode 0x85, immediate not −1, in version 2 source not 0
+unfoldable pub callOf : ℕ → Bool → ℕ → Insn → Call
+callOf count version2 i insn =
+    None if not (eqb (insn .opc) 0x85) else
+    None if eqb (insn .imm) 0xffff_ffff else
+    None if version2 && eqb (insn .src) 0 else
+    target count i (insn .imm)
+
+abbrev pub callIn : ℕ → Bool → ℕ → Slot → Call
+callIn count version2 i Past = None
+callIn count version2 i (Holds insn) = callOf count version2 i insn
+
+-- what slot number i of a text calls
+unfoldable pub callAt : List ℕ → Bool → ℕ → Call
+callAt text version2 i = callIn (length text / 8) version2 i (insnAt text i)
+
+-- the text's bytes in the file, and its whole slots
+abbrev pub textOf : List ℕ → Job → List ℕ
+textOf file j = take (j .length) (drop (j .start) file)
+
+abbrev pub slotCount : Job → ℕ
+slotCount j = j .length / 8
+
+-- the place of a slot's immediate
+abbrev pub immediate : Job → ℕ → ℕ
+immediate j i = j .start + 8 * i + 4
+
+abbrev pub callRow : ℕ → Legacy → Deed
+callRow at (Free row) = Register row at
+callRow at (Taken key) = Refuse (SymbolHashCollision key)
+
+abbrev pub callBy : List ℕ → Job → ℕ → Call → Deed
+callBy builtins j i None = Skip
+callBy builtins j i Outside = Refuse (RelativeJumpOutOfBounds i)
+callBy builtins j i (To index) = callRow (immediate j i) (rowFor builtins j OfIndex index)
+
+-- what a load does about slot number i
+unfoldable pub callDeed : List ℕ → List ℕ → Job → ℕ → Deed
+callDeed file builtins j i = callBy builtins j i (callAt (textOf file j) (j .version2) i)
+
+unfoldable pub slotTrace : List ℕ → List ℕ → Job → ℕ → List ℕ → Trace
+slotTrace file builtins j i im = deedTrace (callDeed file builtins j i) im
+
+-- THE CALLS' PART OF A LOAD
+abbrev pub callsTrace : List ℕ → List ℕ → Job → List ℕ → Trace
+callsTrace file builtins j im = each (slotTrace file builtins j) (slotCount j) 0 im

@@ -1,0 +1,148 @@
+-- Document 01's worked examples on relocations, and a few beside them, on labels too: each holds by computation.
+use Prim.Native.Nat.{ℕ, _+_, _*_, _^_}
+use mathlib.Core.Bool.{Bool, true, false}
+use mathlib.Core.List.{List, [], _∷_, _++_}
+use mathlib.Core.Path.{_≡_, refl}
+use Rattle.ebpf.specs.Choice.{_if_else_}
+use Rattle.ebpf.specs.LittleEndian.{le, bytesOf}
+use Rattle.ebpf.specs.Murmur3.{body, murmur3}
+use Rattle.elf_parser.specs.declared.layout.Layout.{Layout}
+use Rattle.elf_parser.specs.Types.{programHeader, sectionHeader, rel, sym}
+use Rattle.elf_parser.specs.Strings.{stringIn, stringCheck, gives, terminated, beforeZero}
+use Rattle.elf_parser.specs.Names.{nameBy}
+use Rattle.elf_parser.specs.SectionNames.{sameBytes}
+use Rattle.program.specs.declared.Row.{Row}
+use Rattle.program.specs.Search.{isAmong, halves, between}
+use Rattle.program.specs.HashedLegacy.{legacyRow, legacyKey, keptSymbol, isTaken}
+use Rattle.elf_parser.specs.Records.{entryAt}
+use Rattle.loader.specs.declared.error.ElfError.the-variants.{InvalidVirtualAddress, UnknownRelocation, UnknownSymbol, UnresolvedSymbol, ValueOutOfBounds}
+use Rattle.loader.specs.declared.read_only.Placing.the-variants.{Refused as NoPlacing}
+use Rattle.loader.specs.declared.validate.Job.{Job}
+use Rattle.loader.specs.declared.relocations.Used.the-variants.{Header}
+use Rattle.loader.specs.declared.relocations.Mapped.the-variants.{At, Refused as Unmapped}
+use Rattle.loader.specs.declared.deeds.Deed.{Deed}
+use Rattle.loader.specs.declared.deeds.Deed.the-variants.{Skip, Refuse, Halves, Word, Key, Register, RegisterOnly, RegisterOutside}
+use Rattle.loader.specs.Functions.{rowFor}
+use Rattle.loader.specs.Labels.{labelDeed, labelOf}
+use Rattle.loader.specs.Relocations.{plan6432, callByName, functionCall, builtinCall, relocationAt, headerAt, firstFrom, usedHeader, usedBefore, placeOf, placeAt, within, programAddress, immediateAt, halvesDeed, wordDeed, addressDeed, plan6464, relativeText, relativeValue, planRelative, planAt, relocationDeed}
+
+-- a relocation, a symbol without a name, a program header
+abbrev relocation : ℕ → ℕ → List ℕ
+relocation r-offset r-info = bytesOf 8 r-offset ++ bytesOf 8 r-info
+
+abbrev symbol : ℕ → ℕ → List ℕ
+symbol info value = bytesOf 8 (info * 2 ^ 32) ++ (bytesOf 8 value ++ bytesOf 8 0)
+
+abbrev header : ℕ → ℕ → ℕ → List ℕ
+header vaddr memsz offset = bytesOf 8 0 ++ (bytesOf 8 offset ++ (bytesOf 8 vaddr ++ (bytesOf 8 0 ++ (bytesOf 8 0 ++ (bytesOf 8 memsz ++ bytesOf 8 0)))))
+
+-- two relocations, a symbol, two program headers and a string table's header in this order; the text is the first 16 bytes
+abbrev layout : Layout
+layout =
+    record {
+      «program_headers» = record { offset = 56; count = 2 };
+      «section_headers» = record { offset = 0; count = 0 };
+      shstrtab = 0;
+      symtab = 0;
+      strtab = 168;
+      dynstr = 168;
+      «dynamic_relocations» = record { offset = 0; count = 2 };
+      «dynamic_symbols» = record { offset = 32; count = 1 };
+    }
+
+abbrev job : Bool → Job
+job version2 =
+    record {
+      version2 = version2;
+      labels = true;
+      «reject_broken» = true;
+      «check_collision» = true;
+      layout = layout;
+      «e_entry» = 0;
+      «sh_addr» = 0;
+      «sh_size» = 16;
+      start = 0;
+      length = 16;
+      addr = 0x1_0000_0000;
+      placing = NoPlacing ValueOutOfBounds;
+    }
+
+-- the second program header overlaps the first; the string table is one zero byte
+abbrev strings : List ℕ
+strings = bytesOf 8 (3 * 2 ^ 32) ++ (bytesOf 8 0 ++ (bytesOf 8 0 ++ (bytesOf 8 232 ++ (bytesOf 8 1 ++ (bytesOf 8 0 ++ (bytesOf 8 0 ++ (bytesOf 8 0 ++ (0 ∷ []))))))))
+
+abbrev file : List ℕ → List ℕ → List ℕ → List ℕ
+file one two y = one ++ (two ++ (y ++ (header 0 0x10 0 ++ (header 8 0x20 0x100 ++ strings))))
+
+-- 24 bytes: 4 and 0 in the immediates of two slots, then 7; and zeros
+abbrev image : List ℕ
+image = bytesOf 8 (4 * 2 ^ 32) ++ (bytesOf 8 0 ++ bytesOf 8 7)
+
+abbrev zeros : List ℕ
+zeros = bytesOf 8 0 ++ (bytesOf 8 0 ++ bytesOf 8 0)
+
+-- what a relocation asks for in version 1
+abbrev asked : List ℕ → ℕ → ℕ → Deed
+asked im r-offset r-info = relocationDeed (file (relocation r-offset r-info) (relocation 0 0) (symbol 0 0x20)) [] (job false) 0 im
+
+-- type 1, symbol value 0x20, bytes 4: halves 0x24 and 1. A symbol that is not there; the upper half outside the image
+type-1 : asked image 0 1 ∷ asked image 0 (1 + 2 ^ 32) ∷ asked image 16 1 ∷ []
+    ≡ Halves 4 12 (0x24 + 1 * 2 ^ 32) ∷ Refuse (UnknownSymbol 1) ∷ Refuse ValueOutOfBounds ∷ []
+unfolding relocationAt usedBefore usedHeader placeOf planAt plan6464 addressDeed halvesDeed wordDeed immediateAt programAddress within _if_else_ le bytesOf entryAt rel sym
+type-1 = refl
+
+-- type 8 in the text, both halves 0: 29. A lower half of 4 gains the program's start; behind the text version 1 reads at r + 4
+type-8 : asked zeros 0 8 ∷ asked image 0 8 ∷ asked image 16 8 ∷ asked image 17 8 ∷ []
+    ≡ Refuse InvalidVirtualAddress ∷ Halves 4 12 (4 + 2 ^ 32) ∷ Word 16 (2 ^ 32) ∷ Refuse ValueOutOfBounds ∷ []
+unfolding relocationAt usedBefore usedHeader placeOf planAt planRelative relativeText relativeValue wordDeed immediateAt programAddress within _if_else_ le bytesOf entryAt rel
+type-8 = refl
+
+-- type 0, which the standard passes over: 30; and every other type
+type-0 : asked image 0 0 ∷ asked image 0 2 ∷ [] ≡ Refuse (UnknownRelocation 0) ∷ Refuse (UnknownRelocation 2) ∷ []
+unfolding relocationAt usedBefore usedHeader placeOf planAt within _if_else_ le bytesOf entryAt rel
+type-0 = refl
+
+-- version 2: address 0x18 is the second header's; address 8 is in both, and the header used last maps it. Taken alone, the first maps it
+used-last : placeAt (file (relocation 0x18 8) (relocation 8 8) (symbol 0 0)) (job true) 1 ∷ placeAt (file (relocation 8 8) (relocation 0 0) (symbol 0 0)) (job true) 0 ∷ placeAt (file (relocation 0x28 8) (relocation 0 0) (symbol 0 0)) (job true) 0 ∷ []
+    ≡ At 0x100 ∷ At 8 ∷ Unmapped ∷ []
+unfolding relocationAt headerAt firstFrom usedBefore usedHeader placeOf _if_else_ le bytesOf entryAt rel programHeader
+used-last = refl
+
+-- the mapped place stops at 2 ^ 64 - 1
+stops : placeOf true (Header 0 0x100 0xffff_ffff_ffff_fff0) 0x20 ≡ At 0xffff_ffff_ffff_ffff
+unfolding placeOf _if_else_
+stops = refl
+
+-- type 10 in version 2, by a symbol without a name: of what type and value, at which address, and with which built-ins
+abbrev called : ℕ → ℕ → ℕ → List ℕ → Deed
+called info value r-offset builtins = relocationDeed (file (relocation r-offset 10) (relocation 0 0) (symbol info value)) builtins (job true) 0 image
+
+abbrev second : Row
+second = record { key = 1; index = 1; kind = 0; start = 0; length = 0 }
+
+-- a function at index 1; its key outside the image; a function at the text's end; then the hash of no bytes, 0, which is no built-in's key, or is one
+type-10 : called 2 8 0 [] ∷ called 2 8 0x18 [] ∷ called 2 16 0 [] ∷ called 0 8 0 [] ∷ called 2 0 0x18 [] ∷ called 0 8 0 (0 ∷ []) ∷ []
+    ≡ Register second 4
+    ∷ RegisterOutside second
+    ∷ Refuse ValueOutOfBounds
+    ∷ Refuse (UnresolvedSymbol 232 0 0)
+    ∷ Refuse (UnresolvedSymbol 232 0 0x110)
+    ∷ Key 4 0
+    ∷ []
+unfolding relocationAt headerAt firstFrom usedBefore usedHeader placeOf planAt plan6432 callByName functionCall builtinCall immediateAt within rowFor legacyRow legacyKey keptSymbol isTaken isAmong halves between nameBy stringIn stringCheck gives terminated beforeZero sameBytes body murmur3 _if_else_ le bytesOf entryAt rel sym programHeader sectionHeader
+type-10 = refl
+
+-- labels: 2 and 0x12 are taken, value 0 too; 1 and 0x22 are passed over; a value at the text's end
+abbrev labelled : ℕ → ℕ → Deed
+labelled info value = labelDeed (file (relocation 0 0) (relocation 0 0) (symbol info value)) [] (job true) (record { offset = 32; count = 1 }) 0
+
+labels : labelled 2 8 ∷ labelled 0x12 8 ∷ labelled 2 0 ∷ labelled 1 8 ∷ labelled 0x22 8 ∷ labelled 2 16 ∷ []
+    ≡ RegisterOnly second
+    ∷ RegisterOnly second
+    ∷ RegisterOnly (record { key = 0; index = 0; kind = 0; start = 0; length = 0 })
+    ∷ Skip
+    ∷ Skip
+    ∷ Refuse ValueOutOfBounds
+    ∷ []
+unfolding labelDeed labelOf rowFor legacyRow legacyKey keptSymbol isTaken nameBy stringIn stringCheck gives terminated beforeZero sameBytes _if_else_ le bytesOf entryAt sym sectionHeader
+labels = refl

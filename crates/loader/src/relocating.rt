@@ -1,0 +1,78 @@
+// The relocations of a file, applied to the image one after another.
+use crate::deeds::Outcome;
+use crate::deeds::perform;
+use crate::relocations::Used;
+use crate::relocations::plan_relocation;
+use crate::relocations::relocation_at;
+use crate::relocations::used_header;
+use crate::validate::Job;
+ghost use mathlib.Core.Path.{_≡_};
+ghost use lib.ListN.{length};
+ghost use Rattle.program.specs.Table.{slices};
+ghost use Rattle.loader.specs.Functions.{Keyed};
+ghost use Rattle.loader.specs.Relocations.{relocationsTrace};
+ghost use Rattle.loader.specs.Contracts.{InFile, Begins, Settles};
+
+// Every relocation in turn, up to the first refusal. `header` is the program header used last.
+pub(crate) fn apply_relocations(
+    image: &mut [u8],
+    keys: &mut [u32],
+    indices: &mut [u32],
+    kinds: &mut [u32],
+    starts: &mut [u32],
+    lengths: &mut [u32],
+    file: &[u8],
+    builtins: &[u32],
+    table: &[u32],
+    job: Job,
+    rows: u64,
+    held: usize,
+    moved: u64,
+) -> Outcome
+    requires { ⌜ InFile (now file) job × Keyed (now table) × (length (now image) ≡ length (now file)) × Begins (job .layout .«dynamic_relocations» .count) (slices (now keys) (now indices) (now kinds) (now starts) (now lengths)) rows held moved ⌝ }
+    ensures { λ r. ⌜ Settles (relocationsTrace (now (file .entry)) (now (builtins .entry)) job (now (image .entry))) (now (image .exit)) (slices (now (keys .entry)) (now (indices .entry)) (now (kinds .entry)) (now (starts .entry)) (now (lengths .entry))) (slices (now (keys .exit)) (now (indices .exit)) (now (kinds .exit)) (now (starts .exit)) (now (lengths .exit))) (job .layout .«dynamic_relocations» .count) held moved r ⌝ }
+{
+    let layout = job.layout;
+    let version2 = job.version2;
+    let relocations = layout.dynamic_relocations;
+    let count = relocations.count as u32;
+    let mut header = Used::None;
+    let mut used = held;
+    let mut moves = moved;
+    let mut i: u32 = 0;
+    while i < count {
+        let r = relocation_at(file, layout, i);
+        let next = used_header(file, layout, version2, header, r.r_offset);
+        header = next;
+        let deed = plan_relocation(
+            file,
+            image,
+            builtins,
+            table,
+            job,
+            next,
+            r.r_offset,
+            r.r_info,
+        );
+        match perform(
+            image,
+            keys,
+            indices,
+            kinds,
+            starts,
+            lengths,
+            rows,
+            used,
+            moves,
+            deed,
+        ) {
+            Outcome::Refused(r) => return Outcome::Refused(r),
+            Outcome::Holds(u, m) => {
+                used = u;
+                moves = m;
+                i += 1;
+            }
+        }
+    }
+    Outcome::Holds(used, moves)
+}
