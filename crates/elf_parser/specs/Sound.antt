@@ -2,19 +2,20 @@
 use Prim.Native.Nat.{ℕ, zero, suc, _+_, _-_, _*_, _≤_, _<_}
 use native.Mathlib.Omega.{arith}
 use native.Mathlib.Nat.{mul-zero, add-zero, mul-suc}
-use mathlib.Core.Bool.{Bool, true, false}
+use mathlib.Core.Bool.{Bool, true, false, not}
 use mathlib.Core.List.{List}
 use mathlib.Core.Path.{_≡_, refl, sym, ap, subst, _∙_}
 use lib.ListN.{length}
 use lib.Dec.{eqb, ltb, leb}
 use borrow.Author.Tests.{ltb-false, eqb-true, eqb-false, not-false, le-ltb, lt-leb, ne-eqb}
-use Rattle.ebpf.specs.Choice.{_if_else_, yes, no-go, not-first, row-rest}
+use Rattle.ebpf.specs.Choice.{_if_else_, yes, no-go, not-first, row-rest, eq-not, pastWord}
 use Rattle.ebpf.specs.LittleEndian.{le}
 use Rattle.elf_parser.specs.declared.error.ElfParserError.{ElfParserError}
-use Rattle.elf_parser.specs.declared.error.ElfParserError.the-variants.{NoSectionNameStringTable, OutOfBounds}
+use Rattle.elf_parser.specs.declared.error.ElfParserError.the-variants.{NoSectionNameStringTable, OutOfBounds, InvalidProgramHeader}
 use Rattle.elf_parser.specs.declared.error.Check.{Check}
 use Rattle.elf_parser.specs.declared.error.Check.the-variants.{Pass, Refused}
 use Rattle.elf_parser.specs.declared.types.Elf64Ehdr.{Elf64Ehdr}
+use Rattle.elf_parser.specs.declared.types.Elf64Phdr.{Elf64Phdr}
 use Rattle.elf_parser.specs.declared.types.Elf64Shdr.{Elf64Shdr}
 use Rattle.elf_parser.specs.declared.parts.Place.{Place}
 use Rattle.elf_parser.specs.declared.parts.Place.the-variants.{At, Refused as NoPlace}
@@ -30,15 +31,15 @@ use Rattle.elf_parser.specs.declared.dynamic.Linking.the-variants.{Found
 use Rattle.elf_parser.specs.declared.layout.Layout.{Layout}
 use Rattle.elf_parser.specs.declared.layout.Parsed.{Parsed}
 use Rattle.elf_parser.specs.declared.layout.Parsed.the-variants.{File, Refused as NoFile}
-use Rattle.elf_parser.specs.Errors.{pass-first, pass-rest}
+use Rattle.elf_parser.specs.Errors.{apart, pass-first, pass-rest}
 use Rattle.elf_parser.specs.Loops.{Turn, goes, ends, _into_, over}
-use Rattle.elf_parser.specs.Types.{fileHeader, sectionHeader, SHT-STRTAB, SHT-NOBITS}
-use Rattle.elf_parser.specs.ProgramHeaders.{turnOf, checkOf}
+use Rattle.elf_parser.specs.Types.{fileHeader, programHeader, sectionHeader, PT-LOAD, SHT-STRTAB, SHT-NOBITS}
+use Rattle.elf_parser.specs.ProgramHeaders.{turnOf, checkOf, loadStep}
 use Rattle.elf_parser.specs.SectionHeaders.{sectionCheck, section-within, leaves, sectionStep, sectionsCheck}
-use Rattle.elf_parser.specs.Strings.{stringIn}
+use Rattle.elf_parser.specs.Strings.{stringIn, stringCheck, searchEnd, gives, terminated}
 use Rattle.elf_parser.specs.SectionNames.{named, nameStep, namingTurn, namingBy, none-named, namesOf}
 use Rattle.elf_parser.specs.Names.{nameBy, sectionName}
-use Rattle.elf_parser.specs.Dynamic.{dynamicOf}
+use Rattle.elf_parser.specs.Dynamic.{dynamicOf, LinkedInside, linked-inside}
 use Rattle.elf_parser.specs.Parse.{rangesOf, tablesOf, fileCheck, layoutOf, linkedLayout, namedBy, namedLayout, parsedBy, parsed, Room, room}
 
 -- ---- a loop that went through went through at each entry
@@ -165,6 +166,42 @@ step-within s t at low next e bits = go (eqb (h .«sh_type») SHT-NOBITS) refl (
     go false p Pass q e = section-within _ _ _ _ _ q
     go false p (Refused r) q e = absurd (let z : _≡_ {A = ℕ} 0 1 = cc in omega arith)
 
+-- a PT_LOAD header has its contents in the file
+load-within : (s : List ℕ) (at low next : ℕ)
+    → turnOf (loadStep s at low) ≡ goes next
+    → programHeader s at .«p_type» ≡ PT-LOAD
+    → programHeader s at .«p_offset» + programHeader s at .«p_filesz» ≤ length s
+unfolding loadStep _if_else_
+load-within s at low next e is =
+    go (not (eqb (h .«p_type») PT-LOAD)) (eq-not (h .«p_type») PT-LOAD is) (ltb (h .«p_vaddr») low) (pastWord (h .«p_offset» + h .«p_filesz»)) (ltb (length s) (h .«p_offset» + h .«p_filesz»)) refl e
+  where
+    h : Elf64Phdr
+    h = programHeader s at
+
+    go : (b : Bool)
+        → b ≡ false
+        → (x y z : Bool)
+        → ltb (length s) (h .«p_offset» + h .«p_filesz») ≡ z
+        → turnOf (Next low if b else Stop InvalidProgramHeader if x else Stop OutOfBounds if y else Stop OutOfBounds if z else Next (h .«p_vaddr»)) ≡ goes next
+        → h .«p_offset» + h .«p_filesz» ≤ length s
+    go true p x y z q e = absurd (let n : _≡_ {A = Bool} true false = p in let w : _≡_ {A = ℕ} 0 1 = cc in omega arith)
+    go false p true y z q e = absurd (let w : _≡_ {A = ℕ} 0 1 = cc in omega arith)
+    go false p false true z q e = absurd (let w : _≡_ {A = ℕ} 0 1 = cc in omega arith)
+    go false p false false true q e = absurd (let w : _≡_ {A = ℕ} 0 1 = cc in omega arith)
+    go false p false false false q e = ltb-false _ _ q
+
+-- a name is found only in a string table
+in-string-table : (s : List ℕ) (h : Elf64Shdr) (offset most : ℕ) → Given (stringIn s h offset most) → h .«sh_type» ≡ SHT-STRTAB
+unfolding stringIn gives stringCheck
+in-string-table s h offset most v = go (stringCheck (length s) (h .«sh_type») (h .«sh_offset») (h .«sh_size») offset most) refl (v .given)
+  where
+    go : (d : Check)
+        → stringCheck (length s) (h .«sh_type») (h .«sh_offset») (h .«sh_size») offset most ≡ d
+        → gives d (terminated (searchEnd (h .«sh_offset») (h .«sh_size») offset most - (h .«sh_offset» + offset)) s (h .«sh_offset» + offset)) ≡ At (v .start) (v .size)
+        → h .«sh_type» ≡ SHT-STRTAB
+    go Pass p q = eqb-true _ _ (not-false _ (not-first _ _ _ _ (apart _) p))
+    go (Refused r) p q = absurd (let z : _≡_ {A = ℕ} 0 1 = cc in omega arith)
+
 -- what a parse that succeeds says of the file and its layout
 pub record Sound (s : List ℕ) (l : Layout) : Type 0 where
   -- both header tables lie in the file, and there is a section
@@ -174,6 +211,7 @@ pub record Sound (s : List ℕ) (l : Layout) : Type 0 where
   -- the section name table's header lies in the file, and every section's name is in that table
   pub names-present : l .shstrtab ≡ 0 → ⊥
   pub names-header : l .shstrtab + 64 ≤ length s
+  pub names-table : sectionHeader s (l .shstrtab) .«sh_type» ≡ SHT-STRTAB
   pub named-in :
       (i : ℕ)
       → i < l .«section_headers» .count
@@ -186,6 +224,17 @@ pub record Sound (s : List ℕ) (l : Layout) : Type 0 where
       → sectionHeader s (l .«section_headers» .offset + 64 * i) .«sh_offset»
       + sectionHeader s (l .«section_headers» .offset + 64 * i) .«sh_size»
       ≤ length s
+  -- every PT_LOAD header has its contents in the file
+  pub loads :
+      (i : ℕ)
+      → i < l .«program_headers» .count
+      → programHeader s (l .«program_headers» .offset + 56 * i) .«p_type» ≡ PT-LOAD
+      → programHeader s (l .«program_headers» .offset + 56 * i) .«p_offset»
+      + programHeader s (l .«program_headers» .offset + 56 * i) .«p_filesz»
+      ≤ length s
+  -- the dynamic relocations and symbols lie in the file
+  pub relocations : l .«dynamic_relocations» .offset + 16 * l .«dynamic_relocations» .count ≤ length s
+  pub symbols : l .«dynamic_symbols» .offset + 24 * l .«dynamic_symbols» .count ≤ length s
 
 -- of the layout as the steps give it
 sound-steps : (s : List ℕ) (l : Layout) (x : Steps s l) (k : Layout) → File k ≡ layoutOf (fileHeader s) (fileHeader s .«e_shoff» + fileHeader s .«e_shstrndx» * 64) (x .found) (Links (x .linked)) → Sound s k
@@ -220,6 +269,15 @@ sound-steps s l x k e = subst (Sound s) (sym whole) sound-whole
     sections : (y : ℕ) × (over (λ p low. turnOf (sectionStep s (rangesOf h) p low)) 64 (h .«e_shnum») (h .«e_shoff») 0 ≡ goes y)
     sections = went-checks _ (pass-rest _ _ (pass-rest _ _ (pass-rest _ _ (pass-rest _ _ (x .checks)))))
 
+    segments : (y : ℕ) × (over (λ p low. turnOf (loadStep s p low)) 56 (h .«e_phnum») (h .«e_phoff») 0 ≡ goes y)
+    segments = went-checks _ (pass-first _ _ (pass-rest _ _ (pass-rest _ _ (pass-rest _ _ (x .checks)))))
+
+    linked-in : LinkedInside (length s) (x .linked)
+    linked-in = linked-inside s (tablesOf h) (x .linked) (x .links)
+
+    name-at : (i : ℕ) → i < h .«e_shnum» → Given (stringIn s (sectionHeader s names) (le 4 s (h .«e_shoff» + 64 * i)) 16)
+    name-at i r = let v = each-went _ 64 _ _ _ _ (went-by _ _ (x .names)) i r in turn-named s _ _ _ _ (v .turn)
+
     sound-whole : Sound s m
     sound-whole =
         record {
@@ -228,7 +286,11 @@ sound-steps s l x k e = subst (Sound s) (sym whole) sound-whole
           some-section = omega (arith, fits);
           names-present = λ z. x .some-names (omega arith);
           names-header = omega (arith, fits);
-          named-in = λ i r. let v = each-went _ 64 _ _ _ _ (went-by _ _ (x .names)) i r in turn-named s _ _ _ _ (v .turn);
+          names-table = in-string-table s (sectionHeader s names) _ 16 (name-at 0 (omega (arith, fits)));
+          named-in = name-at;
+          loads = λ i r. let v = each-went _ 56 _ _ _ _ (segments .1) i r in load-within s _ _ _ (v .turn);
+          relocations = linked-in .relocations;
+          symbols = linked-in .symbols;
           contents = λ i r. let v = each-went _ 64 _ _ _ _ (sections .1) i r in step-within s (rangesOf h) _ _ _ (v .turn);
         }
 
