@@ -9,3 +9,5 @@ pub mod Symbols
 pub mod Forgetting
 pub mod Turns
 pub mod Readied
+pub mod Over
+pub mod Loading

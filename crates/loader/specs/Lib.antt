@@ -17,3 +17,4 @@ pub mod Relocations
 pub mod Labels
 pub mod RelocationExamples
 pub mod Parts
+pub mod Load

@@ -7,6 +7,7 @@ mod error;
 mod functions;
 mod labelling;
 mod labels;
+mod load;
 mod parts;
 mod read_only;
 mod relocating;

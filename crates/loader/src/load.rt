@@ -1,0 +1,251 @@
+// A load around its parts: the lent slices cleared, the file copied, and the parts one after another.
+use crate::deeds::Outcome;
+use crate::parts::calls_and_relocations;
+use crate::parts::labels_and_entry;
+use crate::read_only::Placing;
+use crate::read_only::copy_sections;
+use crate::validate::Job;
+use elf_parser::Layout;
+use elf_parser::file_header;
+ghost use mathlib.Core.Path.{_≡_};
+ghost use mathlib.Core.List.{[]};
+ghost use lib.ListN.{length, replicate};
+ghost use Rattle.program.specs.Table.{slices, capacity, lay};
+ghost use Rattle.loader.specs.Functions.{Keyed};
+ghost use Rattle.loader.specs.Parts.{jobTrace};
+ghost use Rattle.loader.specs.Load.{allCount, afterPlacing, Cleared, placedBytes, HeldBytes};
+ghost use Rattle.loader.specs.Contracts.{InFile, Begins, Settles};
+
+// Every byte zero.
+fn clear_bytes(s: &mut [u8])
+    ensures { λ _. ⌜ now (s .exit) ≡ replicate (length (now (s .entry))) 0 ⌝ }
+{
+    let mut i = 0;
+    while i < s.len() {
+        s[i] = 0;
+        i += 1;
+    }
+}
+
+// Every number zero.
+fn clear_words(s: &mut [u32])
+    ensures { λ _. ⌜ now (s .exit) ≡ replicate (length (now (s .entry))) 0 ⌝ }
+{
+    let mut i = 0;
+    while i < s.len() {
+        s[i] = 0;
+        i += 1;
+    }
+}
+
+// The file's bytes, into as many.
+fn copy_file(s: &mut [u8], file: &[u8])
+    requires { ⌜ length (now s) ≡ length (now file) ⌝ }
+    ensures { λ _. ⌜ now (s .exit) ≡ now (file .entry) ⌝ }
+{
+    let mut i = 0;
+    while i < s.len() {
+        let b = file[i];
+        s[i] = b;
+        i += 1;
+    }
+}
+
+// Every lent byte and number zero.
+pub(crate) fn clear_all(
+    image: &mut [u8],
+    ro: &mut [u8],
+    keys: &mut [u32],
+    indices: &mut [u32],
+    kinds: &mut [u32],
+    starts: &mut [u32],
+    lengths: &mut [u32],
+)
+    ensures { λ _. ⌜ Cleared (now (image .entry)) (now (ro .entry)) (slices (now (keys .entry)) (now (indices .entry)) (now (kinds .entry)) (now (starts .entry)) (now (lengths .entry))) (now (image .exit)) (now (ro .exit)) (slices (now (keys .exit)) (now (indices .exit)) (now (kinds .exit)) (now (starts .exit)) (now (lengths .exit))) ⌝ }
+{
+    clear_bytes(image);
+    clear_bytes(ro);
+    clear_words(keys);
+    clear_words(indices);
+    clear_words(kinds);
+    clear_words(starts);
+    clear_words(lengths);
+}
+
+// The placing of the read-only sections refuses after everything else.
+fn after_placing(a: Outcome, placing: Placing) -> Outcome
+    ensures { λ r. ⌜ r ≡ afterPlacing a placing ⌝ }
+{
+    match a {
+        Outcome::Refused(r) => Outcome::Refused(r),
+        Outcome::Holds(used, moves) => match placing {
+            Placing::Refused(r) => Outcome::Refused(r),
+            Placing::Borrowed {
+                offset: _,
+                start: _,
+                length: _,
+            } => Outcome::Holds(used, moves),
+            Placing::Owned {
+                offset: _,
+                lowest: _,
+                length: _,
+            } => Outcome::Holds(used, moves),
+        },
+    }
+}
+
+// All parts of a load.
+pub(crate) fn all_parts(
+    image: &mut [u8],
+    keys: &mut [u32],
+    indices: &mut [u32],
+    kinds: &mut [u32],
+    starts: &mut [u32],
+    lengths: &mut [u32],
+    file: &[u8],
+    builtins: &[u32],
+    table: &[u32],
+    job: Job,
+    rows: u64,
+    used: usize,
+    moves: u64,
+) -> Outcome
+    requires { ⌜ InFile (now file) job × Keyed (now table) × (length (now image) ≡ length (now file)) × Begins (allCount (now file) job) (slices (now keys) (now indices) (now kinds) (now starts) (now lengths)) rows used moves ⌝ }
+    ensures { λ r. ⌜ Settles (jobTrace (now (file .entry)) (now (builtins .entry)) job (now (image .entry))) (now (image .exit)) (slices (now (keys .entry)) (now (indices .entry)) (now (kinds .entry)) (now (starts .entry)) (now (lengths .entry))) (slices (now (keys .exit)) (now (indices .exit)) (now (kinds .exit)) (now (starts .exit)) (now (lengths .exit))) (allCount (now (file .entry)) job) used moves r ⌝ }
+{
+    match calls_and_relocations(
+        image,
+        keys,
+        indices,
+        kinds,
+        starts,
+        lengths,
+        file,
+        builtins,
+        table,
+        job,
+        rows,
+        used,
+        moves,
+    ) {
+        Outcome::Refused(r) => Outcome::Refused(r),
+        Outcome::Holds(u, m) => {
+            let a = labels_and_entry(
+                image,
+                keys,
+                indices,
+                kinds,
+                starts,
+                lengths,
+                file,
+                builtins,
+                table,
+                job,
+                rows,
+                u,
+                m,
+            );
+            let placing = job.placing;
+            after_placing(a, placing)
+        }
+    }
+}
+
+// The image of a file that passed the checks, in as many bytes, and the table.
+pub(crate) fn fill(
+    image: &mut [u8],
+    keys: &mut [u32],
+    indices: &mut [u32],
+    kinds: &mut [u32],
+    starts: &mut [u32],
+    lengths: &mut [u32],
+    file: &[u8],
+    builtins: &[u32],
+    table: &[u32],
+    job: Job,
+    rows: u64,
+) -> Outcome
+    requires { ⌜ InFile (now file) job × Keyed (now table) × (length (now image) ≡ length (now file)) × (rows ≡ capacity (slices (now keys) (now indices) (now kinds) (now starts) (now lengths))) × ((slices (now keys) (now indices) (now kinds) (now starts) (now lengths)) ≡ lay (slices (now keys) (now indices) (now kinds) (now starts) (now lengths)) []) ⌝ }
+    ensures { λ r. ⌜ Settles (jobTrace (now (file .entry)) (now (builtins .entry)) job (now (file .entry))) (now (image .exit)) (slices (now (keys .entry)) (now (indices .entry)) (now (kinds .entry)) (now (starts .entry)) (now (lengths .entry))) (slices (now (keys .exit)) (now (indices .exit)) (now (kinds .exit)) (now (starts .exit)) (now (lengths .exit))) (allCount (now (file .entry)) job) 0 0 r ⌝ }
+{
+    copy_file(image, file);
+    all_parts(
+        image,
+        keys,
+        indices,
+        kinds,
+        starts,
+        lengths,
+        file,
+        builtins,
+        table,
+        job,
+        rows,
+        0,
+        0,
+    )
+}
+
+// The read-only sections' bytes, where they are copied.
+fn copy_placed(ro: &mut [u8], image: &[u8], file: &[u8], layout: Layout, placing: Placing)
+    ensures { λ _. ⌜ now (ro .exit) ≡ placedBytes (now (file .entry)) layout placing (now (image .entry)) (now (ro .entry)) ⌝ }
+{
+    match placing {
+        Placing::Owned {
+            offset: _,
+            lowest,
+            length: _,
+        } => {
+            let h = file_header(file);
+            let count = h.e_shnum as u32;
+            copy_sections(ro, image, file, layout, count, lowest);
+        }
+        Placing::Borrowed {
+            offset: _,
+            start: _,
+            length: _,
+        } => {}
+        Placing::Refused(_) => {}
+    }
+}
+
+// The image, the read-only bytes and the table of a file that passed the checks.
+pub(crate) fn fill_all(
+    image: &mut [u8],
+    ro: &mut [u8],
+    keys: &mut [u32],
+    indices: &mut [u32],
+    kinds: &mut [u32],
+    starts: &mut [u32],
+    lengths: &mut [u32],
+    file: &[u8],
+    builtins: &[u32],
+    table: &[u32],
+    job: Job,
+    rows: u64,
+) -> Outcome
+    requires { ⌜ InFile (now file) job × Keyed (now table) × (length (now image) ≡ length (now file)) × (rows ≡ capacity (slices (now keys) (now indices) (now kinds) (now starts) (now lengths))) × ((slices (now keys) (now indices) (now kinds) (now starts) (now lengths)) ≡ lay (slices (now keys) (now indices) (now kinds) (now starts) (now lengths)) []) ⌝ }
+    ensures { λ r. ⌜ Settles (jobTrace (now (file .entry)) (now (builtins .entry)) job (now (file .entry))) (now (image .exit)) (slices (now (keys .entry)) (now (indices .entry)) (now (kinds .entry)) (now (starts .entry)) (now (lengths .entry))) (slices (now (keys .exit)) (now (indices .exit)) (now (kinds .exit)) (now (starts .exit)) (now (lengths .exit))) (allCount (now (file .entry)) job) 0 0 r × HeldBytes r (now (ro .exit)) (placedBytes (now (file .entry)) (job .layout) (job .placing) (now (image .exit)) (now (ro .entry))) ⌝ }
+{
+    let layout = job.layout;
+    let placing = job.placing;
+    match fill(
+        image,
+        keys,
+        indices,
+        kinds,
+        starts,
+        lengths,
+        file,
+        builtins,
+        table,
+        job,
+        rows,
+    ) {
+        Outcome::Refused(r) => Outcome::Refused(r),
+        Outcome::Holds(u, m) => {
+            copy_placed(ro, image, file, layout, placing);
+            Outcome::Holds(u, m)
+        }
+    }
+}
