@@ -1,9 +1,22 @@
--- A load around its parts: the registrations at most, the placing's refusal, the slices cleared, the read-only bytes.
-use Prim.Native.Nat.{ℕ, _+_}
+-- A whole load: its answer, and every lent byte and number afterwards.
+use Prim.Native.Nat.{ℕ, _+_, _-_, _/_}
 use mathlib.Core.Path.{_≡_}
-use mathlib.Core.List.{List, []}
+use mathlib.Core.Bool.{Bool, true, false}
+use mathlib.Core.List.{List, [], _++_}
 use lib.ListN.{length, replicate}
+use Rattle.ebpf.specs.Choice.{_if_else_}
+use Rattle.program.specs.declared.Row.{Row}
 use Rattle.program.specs.Table.{Slices, lay}
+use Rattle.loader.specs.declared.error.ElfError.{ElfError}
+use Rattle.loader.specs.declared.answer.Accepted.{Accepted}
+use Rattle.loader.specs.declared.answer.Load.{Load}
+use Rattle.loader.specs.declared.answer.Load.the-variants.{Accepted as Accepts, Refused as Refuses}
+use Rattle.loader.specs.declared.validate.Config.{Config}
+use Rattle.loader.specs.declared.validate.Prepared.{Prepared}
+use Rattle.loader.specs.declared.validate.Prepared.the-variants.{Ready, Refused as NotReady}
+use Rattle.loader.specs.Trace.{Settled, accepted, refused, settle}
+use Rattle.loader.specs.Parts.{jobTrace}
+use Rattle.loader.specs.Validate.{prepared}
 use Rattle.loader.specs.declared.read_only.Placing.{Placing}
 use Rattle.loader.specs.declared.read_only.Placing.the-variants.{Borrowed, Owned, Refused as NotPlaced}
 use Rattle.loader.specs.declared.validate.Job.{Job}
@@ -45,3 +58,93 @@ placedBytes file l (NotPlaced r) im ro = ro
 abbrev pub HeldBytes : Outcome → List ℕ → List ℕ → Type 0
 HeldBytes (Holds used moves) ro′ ro = ro′ ≡ ro
 HeldBytes (Refused r) ro′ ro = Unit {0}
+
+-- ---- the answer
+
+-- of an accepted load, with the place of the read-only bytes
+abbrev pub acceptedAs : Job → Bool → ℕ → ℕ → ℕ → ℕ → ℕ → Accepted
+acceptedAs j copied offset start n used moves = record {
+  version = 2 if j .version2 else 1;
+  entry = (j .«e_entry» - j .«sh_addr») / 8;
+  used = used;
+  moves = moves;
+  «ro_copied» = copied;
+  «ro_offset» = offset;
+  «ro_start» = start;
+  «ro_length» = n;
+  «text_addr» = j .addr;
+  «text_start» = j .start;
+  «text_length» = j .length;
+}
+
+-- copied read-only bytes start at 0 in their buffer
+abbrev pub answerBy : Job → Placing → ℕ → ℕ → Load
+answerBy j (Borrowed offset start n) used moves = Accepts (acceptedAs j false offset start n used moves)
+answerBy j (Owned offset lowest n) used moves = Accepts (acceptedAs j true offset 0 n used moves)
+answerBy j (NotPlaced r) used moves = Refuses r
+
+abbrev pub answerFor : Outcome → Job → Load
+answerFor (Holds used moves) j = answerBy j (j .placing) used moves
+answerFor (Refused r) j = Refuses r
+
+-- ---- what comes of a load
+
+-- the answer, the relocated image, the whole read-only buffer and the rows; or a refusal
+pub data Loading : Type 0 where
+  holds : Accepted → List ℕ → List ℕ → List Row → Loading
+  refuses : ElfError → Loading
+
+-- by the placing, where the trace came to an end: it has stopped where the placing refuses
+abbrev pub heldBy : List ℕ → Job → ℕ → Placing → List ℕ → List Row → ℕ → Loading
+heldBy file j m (Borrowed offset start n) im rows moves =
+    holds (acceptedAs j false offset start n (length rows) moves) im (replicate m 0) rows
+heldBy file j m (Owned offset lowest n) im rows moves =
+    holds (acceptedAs j true offset 0 n (length rows) moves) im (copiedFrom im file (j .layout) lowest (fileHeader file .«e_shnum») 0 (replicate m 0)) rows
+heldBy file j m (NotPlaced r) im rows moves = refuses r
+
+abbrev pub onTrace : List ℕ → Job → ℕ → Settled → Loading
+onTrace file j m (accepted im rows moves) = heldBy file j m (j .placing) im rows moves
+onTrace file j m (refused r) = refuses r
+
+abbrev pub onPrepared : List ℕ → List ℕ → ℕ → ℕ → Prepared → Loading
+onPrepared file builtins m rows (Ready j) = onTrace file j m (settle rows (jobTrace file builtins j file) [] 0)
+onPrepared file builtins m rows (NotReady r) = refuses r
+
+-- WHAT COMES OF A LOAD of a file, with n bytes lent for the image, m for the read-only bytes, and so many rows
+unfoldable pub loadOf : List ℕ → List ℕ → Config → ℕ → ℕ → ℕ → Loading
+loadOf file builtins c n m rows = onPrepared file builtins m rows (prepared file builtins c n m)
+
+abbrev pub answerOf : Loading → Load
+answerOf (holds a im ro rows) = Accepts a
+answerOf (refuses r) = Refuses r
+
+-- ---- every lent byte and number afterwards
+
+-- the image in n bytes: the relocated file and zeros
+abbrev pub imageOf : ℕ → Loading → List ℕ
+imageOf n (holds a im ro rows) = im ++ replicate (n - length im) 0
+imageOf n (refuses r) = replicate n 0
+
+abbrev pub readOnlyOf : ℕ → Loading → List ℕ
+readOnlyOf m (holds a im ro rows) = ro
+readOnlyOf m (refuses r) = replicate m 0
+
+abbrev pub rowsIn : Loading → List Row
+rowsIn (holds a im ro rows) = rows
+rowsIn (refuses r) = []
+
+-- DEMAND 1: the lent image, read-only buffer and table hold the whole content of an accepted load, or only zeros
+pub record WholeOrZeros (x : Loading) (im ro : List ℕ) (t : Slices) (im′ ro′ : List ℕ) (t′ : Slices) : Type 0 where
+  pub image : im′ ≡ imageOf (length im) x
+  pub readonly : ro′ ≡ readOnlyOf (length ro) x
+  pub table : t′ ≡ lay t (rowsIn x)
+
+-- WHAT A LOAD LEAVES
+pub record Loaded (x : Loading) (im ro : List ℕ) (t : Slices) (im′ ro′ : List ℕ) (t′ : Slices) (a : Load) : Type 0 where
+  pub answers : a ≡ answerOf x
+  pub demand-1 : WholeOrZeros x im ro t im′ ro′ t′
+
+-- the same, but that a refusal leaves anything
+abbrev pub Tried : Loading → List ℕ → List ℕ → Slices → List ℕ → List ℕ → Slices → Load → Type 0
+Tried x im ro t im′ ro′ t′ (Accepts a) = Loaded x im ro t im′ ro′ t′ (Accepts a)
+Tried x im ro t im′ ro′ t′ (Refuses r) = x ≡ refuses r

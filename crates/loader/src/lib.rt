@@ -1,13 +1,25 @@
 // Loading a profile: the port of src/elf.rs.
+use answer::answer_of;
+use ebpf::key_table;
+use filling::clear_all;
+use filling::fill_all;
+use program::rows_lent;
+use validate::Prepared;
+use validate::prepare;
+ghost use lib.ListN.{length};
+ghost use Rattle.program.specs.Table.{slices, capacity};
+ghost use Rattle.loader.specs.Load.{loadOf, Tried, Loaded};
+
 mod addresses;
+mod answer;
 mod calls;
 mod deeds;
 mod entry;
 mod error;
+mod filling;
 mod functions;
 mod labelling;
 mod labels;
-mod load;
 mod parts;
 mod read_only;
 mod relocating;
@@ -16,6 +28,8 @@ mod sections;
 mod text_part;
 mod validate;
 
+pub use answer::Accepted;
+pub use answer::Load;
 pub use error::ElfError;
 pub use error::from_parser;
 pub use error::report_of;
@@ -24,3 +38,94 @@ pub use text_part::TextPlace;
 pub use text_part::text_bytes;
 pub use text_part::text_place;
 pub use validate::Config;
+
+// A load that leaves anything where it refuses. The image's front is not cleared, since the file is
+// copied over it.
+fn attempt(
+    image: &mut [u8],
+    ro_section: &mut [u8],
+    keys: &mut [u32],
+    indices: &mut [u32],
+    kinds: &mut [u32],
+    starts: &mut [u32],
+    lengths: &mut [u32],
+    file: &[u8],
+    builtins: &[u32],
+    config: Config,
+) -> Load
+    ensures { λ r. ⌜ Tried (loadOf (now (file .entry)) (now (builtins .entry)) config (length (now (image .entry))) (length (now («ro_section» .entry))) (capacity (slices (now (keys .entry)) (now (indices .entry)) (now (kinds .entry)) (now (starts .entry)) (now (lengths .entry))))) (now (image .entry)) (now («ro_section» .entry)) (slices (now (keys .entry)) (now (indices .entry)) (now (kinds .entry)) (now (starts .entry)) (now (lengths .entry))) (now (image .exit)) (now («ro_section» .exit)) (slices (now (keys .exit)) (now (indices .exit)) (now (kinds .exit)) (now (starts .exit)) (now (lengths .exit))) r ⌝ }
+{
+    match prepare(file, builtins, config, image.len(), ro_section.len()) {
+        Prepared::Refused(r) => Load::Refused(r),
+        Prepared::Ready(job) => {
+            let n = file.len();
+            let table = key_table();
+            let rows = rows_lent(
+                keys.len(),
+                indices.len(),
+                kinds.len(),
+                starts.len(),
+                lengths.len(),
+            ) as u64;
+            clear_all(
+                &mut image[n..],
+                ro_section,
+                keys,
+                indices,
+                kinds,
+                starts,
+                lengths,
+            );
+            let a = fill_all(
+                &mut image[..n],
+                ro_section,
+                keys,
+                indices,
+                kinds,
+                starts,
+                lengths,
+                file,
+                builtins,
+                &table,
+                job,
+                rows,
+            );
+            answer_of(a, job)
+        }
+    }
+}
+
+// A LOAD: the image, the read-only bytes and the table of a file, or a refusal and only zeros.
+pub fn load(
+    file: &[u8],
+    builtins: &[u32],
+    config: Config,
+    image: &mut [u8],
+    ro_section: &mut [u8],
+    keys: &mut [u32],
+    indices: &mut [u32],
+    kinds: &mut [u32],
+    starts: &mut [u32],
+    lengths: &mut [u32],
+) -> Load
+    ensures { λ r. ⌜ Loaded (loadOf (now (file .entry)) (now (builtins .entry)) config (length (now (image .entry))) (length (now («ro_section» .entry))) (capacity (slices (now (keys .entry)) (now (indices .entry)) (now (kinds .entry)) (now (starts .entry)) (now (lengths .entry))))) (now (image .entry)) (now («ro_section» .entry)) (slices (now (keys .entry)) (now (indices .entry)) (now (kinds .entry)) (now (starts .entry)) (now (lengths .entry))) (now (image .exit)) (now («ro_section» .exit)) (slices (now (keys .exit)) (now (indices .exit)) (now (kinds .exit)) (now (starts .exit)) (now (lengths .exit))) r ⌝ }
+{
+    match attempt(
+        image,
+        ro_section,
+        keys,
+        indices,
+        kinds,
+        starts,
+        lengths,
+        file,
+        builtins,
+        config,
+    ) {
+        Load::Accepted(a) => Load::Accepted(a),
+        Load::Refused(r) => {
+            clear_all(image, ro_section, keys, indices, kinds, starts, lengths);
+            Load::Refused(r)
+        }
+    }
+}

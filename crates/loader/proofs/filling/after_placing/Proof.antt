@@ -1,9 +1,9 @@
--- `loader::load::after_placing` meets its contract, by the outcome and the placing.
+-- `loader::filling::after_placing` meets its contract, by the outcome and the placing.
 -- Assumes nothing.
 use mathlib.Core.Path.{_≡_, sym, ap, _∙_}
 use borrow.Author.Needs.{needs}
-use Rattle.loader.proofs.load.after_placing.Statement.{statement}
-use Rattle.loader.proofs.load.after_placing.Tie as tie
+use Rattle.loader.proofs.filling.after_placing.Statement.{statement}
+use Rattle.loader.proofs.filling.after_placing.Tie as tie
 
 pub after-placing-spec : {M : Type 1} → statement M
 after-placing-spec =

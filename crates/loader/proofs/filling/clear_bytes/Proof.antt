@@ -1,11 +1,11 @@
--- `loader::load::clear_bytes` meets its contract. The loop's invariant: i bytes are zero.
+-- `loader::filling::clear_bytes` meets its contract. The loop's invariant: i bytes are zero.
 -- Assumes nothing.
 use Prim.Native.Nat.{_-_}
 use lib.ListN.{length, replicate}
 use borrow.Author.Needs.{needs}
 use Rattle.loader.proofs.Over.{Overs, zeros-start, zeros-turn, overs-end}
-use Rattle.loader.proofs.load.clear_bytes.Statement.{statement}
-use Rattle.loader.proofs.load.clear_bytes.Tie as tie
+use Rattle.loader.proofs.filling.clear_bytes.Statement.{statement}
+use Rattle.loader.proofs.filling.clear_bytes.Tie as tie
 
 abbrev Inv-loop : tie.InvT-loop
 Inv-loop s₀ i₀ s i = Overs (replicate (length s₀) 0) s₀ s i

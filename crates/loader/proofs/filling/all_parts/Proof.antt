@@ -1,4 +1,4 @@
--- `loader::load::all_parts` meets its contract: one pair of parts after the other, and the placing's refusal.
+-- `loader::filling::all_parts` meets its contract: one pair of parts after the other, and the placing's refusal.
 -- Assumes nothing.
 use denote.Ref.{now}
 use mathlib.Core.Path.{_≡_, subst, _∙_}
@@ -15,8 +15,8 @@ use Rattle.loader.specs.Contracts.{Settles}
 use Rattle.loader.proofs.Going.{begins-fewer, begins-then}
 use Rattle.loader.proofs.Loading.{parts-stop, parts-all}
 use borrow.Author.Needs.{needs}
-use Rattle.loader.proofs.load.all_parts.Statement.{statement}
-use Rattle.loader.proofs.load.all_parts.Tie as tie
+use Rattle.loader.proofs.filling.all_parts.Statement.{statement}
+use Rattle.loader.proofs.filling.all_parts.Tie as tie
 
 abbrev st : tie.After-calls-and-relocations → tie.Start
 st p = p .before .before .before .before .before .before .before .before .before .before .before .before .before .before .before .before

@@ -1,12 +1,12 @@
--- `loader::load::copy_file` meets its contract. The loop's invariant: i bytes are copied.
+-- `loader::filling::copy_file` meets its contract. The loop's invariant: i bytes are copied.
 -- Assumes nothing.
 use mathlib.Core.Path.{refl, sym}
 use Prim.Native.Nat.{_-_}
 use lib.ListN.{length}
 use borrow.Author.Needs.{needs}
 use Rattle.loader.proofs.Over.{Overs, overs-start, overs-turn, overs-end}
-use Rattle.loader.proofs.load.copy_file.Statement.{statement}
-use Rattle.loader.proofs.load.copy_file.Tie as tie
+use Rattle.loader.proofs.filling.copy_file.Statement.{statement}
+use Rattle.loader.proofs.filling.copy_file.Tie as tie
 
 abbrev Inv-loop : tie.InvT-loop
 Inv-loop s₀ file i₀ s i = Overs file s₀ s i

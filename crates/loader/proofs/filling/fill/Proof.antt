@@ -1,4 +1,4 @@
--- `loader::load::fill` meets its contract: the parts begin with the file's bytes and an empty table.
+-- `loader::filling::fill` meets its contract: the parts begin with the file's bytes and an empty table.
 -- Assumes nothing.
 use denote.Ref.{now}
 use mathlib.Core.Path.{ap}
@@ -7,8 +7,8 @@ use Rattle.program.specs.Table.{Slices, slices}
 use Rattle.loader.specs.Load.{allCount}
 use Rattle.loader.proofs.Loading.{begins-all, filled}
 use borrow.Author.Needs.{needs}
-use Rattle.loader.proofs.load.fill.Statement.{statement}
-use Rattle.loader.proofs.load.fill.Tie as tie
+use Rattle.loader.proofs.filling.fill.Statement.{statement}
+use Rattle.loader.proofs.filling.fill.Tie as tie
 
 abbrev T : tie.Start → Slices
 T s = slices (s .args .keys .now) (s .args .indices .now) (s .args .kinds .now) (s .args .starts .now) (s .args .lengths .now)

@@ -1,9 +1,9 @@
--- `loader::load::clear_all` meets its contract: five slices of zeros are an empty table.
+-- `loader::filling::clear_all` meets its contract: five slices of zeros are an empty table.
 -- Assumes nothing.
 use borrow.Author.Needs.{needs}
 use Rattle.program.proofs.Tables.{zeros-lay}
-use Rattle.loader.proofs.load.clear_all.Statement.{statement}
-use Rattle.loader.proofs.load.clear_all.Tie as tie
+use Rattle.loader.proofs.filling.clear_all.Statement.{statement}
+use Rattle.loader.proofs.filling.clear_all.Tie as tie
 
 returns : tie.Need-returns
 returns c = record {

@@ -1,4 +1,4 @@
--- `loader::load::fill_all` meets its contract: the image and the table, then the read-only bytes.
+-- `loader::filling::fill_all` meets its contract: the image and the table, then the read-only bytes.
 -- Assumes nothing.
 use denote.Ref.{now}
 use mathlib.Core.Path.{_≡_, subst}
@@ -8,8 +8,8 @@ use Rattle.loader.specs.Parts.{jobTrace}
 use Rattle.loader.specs.Load.{allCount}
 use Rattle.loader.specs.Contracts.{Settles}
 use borrow.Author.Needs.{needs}
-use Rattle.loader.proofs.load.fill_all.Statement.{statement}
-use Rattle.loader.proofs.load.fill_all.Tie as tie
+use Rattle.loader.proofs.filling.fill_all.Statement.{statement}
+use Rattle.loader.proofs.filling.fill_all.Tie as tie
 
 abbrev st : tie.After-fill → tie.Start
 st p = p .before .before .before .before .before .before .before .before .before .before .before .before .before .before .before .before .before .before

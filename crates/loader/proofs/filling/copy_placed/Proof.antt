@@ -1,9 +1,9 @@
--- `loader::load::copy_placed` meets its contract, by the placing.
+-- `loader::filling::copy_placed` meets its contract, by the placing.
 -- Assumes nothing.
 use mathlib.Core.Path.{_≡_, sym, ap, _∙_}
 use borrow.Author.Needs.{needs}
-use Rattle.loader.proofs.load.copy_placed.Statement.{statement}
-use Rattle.loader.proofs.load.copy_placed.Tie as tie
+use Rattle.loader.proofs.filling.copy_placed.Statement.{statement}
+use Rattle.loader.proofs.filling.copy_placed.Tie as tie
 
 returns : tie.Need-returns
 returns c = rw (c .before .before .before .before .before .before .before .placing .given .1, ← c .before .before .before .before .before .file-header .ensures) (c .before .before .copy-sections .ensures)

@@ -1,4 +1,4 @@
-// A load around its parts: the lent slices cleared, the file copied, and the parts one after another.
+// The lent slices cleared, the file copied, and the parts of a load one after another.
 use crate::deeds::Outcome;
 use crate::parts::calls_and_relocations;
 use crate::parts::labels_and_entry;

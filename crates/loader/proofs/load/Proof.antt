@@ -1,0 +1,65 @@
+-- `loader::load` meets its contract: an attempt, and where it is refused everything cleared. Assumes nothing.
+use denote.Ref.{now}
+use lib.ListN.{length}
+use borrow.Author.Needs.{needs}
+use Rattle.program.specs.Table.{Slices, slices, capacity}
+use Rattle.program.proofs.Tables.{SameLens}
+use Rattle.loader.specs.Load.{Loading, loadOf}
+use Rattle.loader.proofs.Loading.{load-held, load-refused}
+use Rattle.loader.proofs.load.Statement.{statement}
+use Rattle.loader.proofs.load.Tie as tie
+
+abbrev st : tie.After-attempt → tie.Start
+st p = p .before .before .before .before .before .before .before .before .before .before .before .before .before .before .before .before .before
+
+abbrev T : tie.Start → Slices
+T s = slices (s .args .keys .now) (s .args .indices .now) (s .args .kinds .now) (s .args .starts .now) (s .args .lengths .now)
+
+abbrev T₁ : tie.After-attempt → Slices
+T₁ p = let l = p .attempt .last in slices (l .1 .1 .0) (l .1 .1 .1 .0) (l .1 .1 .1 .1 .0) (l .1 .1 .1 .1 .1 .0) (l .1 .1 .1 .1 .1 .1 .0)
+
+abbrev T₂ : tie.After-clear-all → Slices
+T₂ p = let l = p .clear-all .last in slices (l .1 .1 .0) (l .1 .1 .1 .0) (l .1 .1 .1 .1 .0) (l .1 .1 .1 .1 .1 .0) (l .1 .1 .1 .1 .1 .1 .0)
+
+abbrev whole : tie.Start → Loading
+whole s = loadOf (now (s .args .file)) (now (s .args .builtins)) (s .args .config) (length (s .args .image .now)) (length (s .args .«ro-section» .now)) (capacity (T s))
+
+returns : tie.Need-returns
+returns c =
+    let p = c .before .before .before .before .before .before .before .before .before .before .before .before .before .before .before .before .before in
+    let s = st p in
+    load-held (whole s) (s .args .image .now) (s .args .«ro-section» .now) (T s) (p .attempt .last .0) (p .attempt .last .1 .0) (T₁ p) (p .attempt .result) (p .attempt .ensures) _ (c .before .a .given .1)
+
+returns-2 : tie.Need-returns-2
+returns-2 c =
+    let q = c .before .before .before .before .before .before .before .before .before .before .before .before .before .before in
+    let p = c .before .before .before .before .before .before .before .before .before .before .before .before .before .before .before .before .before .before .before .before .before .before .before .before .before .before .before .before .before .before .before .before .before .before .before .before .before .before .before in
+    let s = st p in
+    let k = p .attempt .kept in
+    load-refused (whole s) (s .args .image .now) (s .args .«ro-section» .now) (T s) (p .attempt .last .0) (p .attempt .last .1 .0) (T₁ p) (p .attempt .result) (p .attempt .ensures) (q .clear-all .last .0) (q .clear-all .last .1 .0) (T₂ q) _ (c .before .before .before .before .before .before .before .before .before .before .before .before .before .before .before .before .before .before .before .before .before .before .before .r .given .1)
+    (k .0) (k .1 .0) (record { keys-as = k .1 .1 .0; indices-as = k .1 .1 .1 .0; kinds-as = k .1 .1 .1 .1 .0; starts-as = k .1 .1 .1 .1 .1 .0; lengths-as = k .1 .1 .1 .1 .1 .1 .0 }) (q .clear-all .ensures)
+
+pub load-spec : {M : Type 1} → statement M
+load-spec =
+    tie.close
+    (tie.spec
+    (search needs)
+    (search needs)
+    (search needs)
+    (search needs)
+    (search needs)
+    (search needs)
+    (search needs)
+    (search needs)
+    (search needs)
+    (search needs)
+    (search needs)
+    returns
+    (search needs)
+    (search needs)
+    (search needs)
+    (search needs)
+    (search needs)
+    (search needs)
+    (search needs)
+    returns-2)
