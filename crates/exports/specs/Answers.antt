@@ -1,6 +1,8 @@
 -- What the exported functions answer: a number, 0 where nothing was refused, and 15 words behind it.
-use Prim.Native.Nat.{ℕ, zero, suc}
+use Prim.Native.Nat.{ℕ, zero, suc, _/_, _%_}
 use mathlib.Core.Path.{_≡_}
+use mathlib.Core.Bool.{Bool, true, false}
+use lib.Dec.{eqb}
 use mathlib.Core.List.{List, [], _∷_}
 use lib.ListN.{length}
 use Rattle.elf_parser.specs.declared.error.ElfParserError.{ElfParserError}
@@ -16,6 +18,15 @@ use Rattle.elf_parser.specs.Errors.{reportOf}
 use Rattle.program.specs.declared.Row.{Row}
 use Rattle.program.specs.declared.Found.{Found}
 use Rattle.program.specs.declared.Found.the-variants.{At, Nothing}
+use Rattle.program.specs.Table.{Slices}
+use Rattle.loader.specs.declared.answer.Accepted.{Accepted}
+use Rattle.loader.specs.declared.answer.Load.{Load}
+use Rattle.loader.specs.declared.answer.Load.the-variants.{Accepted as Accepts, Refused as Refuses}
+use Rattle.loader.specs.declared.validate.Config.{Config}
+use Rattle.loader.specs.declared.text_part.TextPlace.{TextPlace}
+use Rattle.loader.specs.declared.text_part.TextPlace.the-variants.{At as TextAt, Refused as NoText}
+use Rattle.loader.specs.Errors as load
+use Rattle.loader.specs.Load.{Loading, answerOf, WholeOrZeros}
 use Rattle.exports.specs.declared.answers.Answer.{Answer}
 
 -- the words of an answer, all sixteen
@@ -91,3 +102,61 @@ asked (NoFile e) question = refused e
 abbrev pub rowAnswer : Found → Answer
 rowAnswer (At r) = record { number = 0; words = r .index ∷ r .kind ∷ r .start ∷ r .length ∷ 0 ∷ 0 ∷ 0 ∷ 0 ∷ 0 ∷ 0 ∷ 0 ∷ 0 ∷ 0 ∷ 0 ∷ 0 ∷ [] }
 rowAnswer Nothing = record { number = 1; words = 0 ∷ 0 ∷ 0 ∷ 0 ∷ 0 ∷ 0 ∷ 0 ∷ 0 ∷ 0 ∷ 0 ∷ 0 ∷ 0 ∷ 0 ∷ 0 ∷ 0 ∷ [] }
+
+-- ---- a load
+
+-- the bit of that value, a power of two, is set
+unfoldable pub bitOf : ℕ → ℕ → Bool
+bitOf settings value = eqb (settings / value % 2) 1
+
+-- 1 labels, 2 reject broken files, 4 collision check, 8 optimize, 16 version 1, 32 version 2
+abbrev pub configOf : ℕ → Config
+configOf settings = record {
+  «enable_symbol_and_section_labels» = bitOf settings 1;
+  «reject_broken_elfs» = bitOf settings 2;
+  «external_internal_function_hash_collision» = bitOf settings 4;
+  «optimize_rodata» = bitOf settings 8;
+  «enable_sbpf_v1» = bitOf settings 16;
+  «enable_sbpf_v2» = bitOf settings 32;
+}
+
+abbrev pub numberOf : Bool → ℕ
+numberOf true = 1
+numberOf false = 0
+
+-- an accepted load: after three zeros its numbers, in the order of `Accepted`
+abbrev pub acceptedAnswer : Accepted → Answer
+acceptedAnswer a = record {
+  number = 0;
+  words =
+      0
+      ∷ 0
+      ∷ 0
+      ∷ a .version
+      ∷ a .entry
+      ∷ a .used
+      ∷ a .moves
+      ∷ numberOf (a .«ro_copied»)
+      ∷ a .«ro_offset»
+      ∷ a .«ro_start»
+      ∷ a .«ro_length»
+      ∷ a .«text_addr»
+      ∷ a .«text_start»
+      ∷ a .«text_length»
+      ∷ 0
+      ∷ [];
+}
+
+abbrev pub loadAnswer : Load → Answer
+loadAnswer (Accepts a) = acceptedAnswer a
+loadAnswer (Refuses e) = reported (load.reportOf e)
+
+-- the seven slices and the answer after a load
+pub record GivesLoad (x : Loading) (im ro : List ℕ) (t : Slices) (im′ ro′ : List ℕ) (t′ : Slices) (before after : List ℕ) (r : ℕ) : Type 0 where
+  pub demand-1 : WholeOrZeros x im ro t im′ ro′ t′
+  pub gives : Gives (loadAnswer (answerOf x)) before after r
+
+-- the text's place: after three zeros its start and its length
+abbrev pub textAnswer : TextPlace → Answer
+textAnswer (TextAt start n) = record { number = 0; words = 0 ∷ 0 ∷ 0 ∷ start ∷ n ∷ 0 ∷ 0 ∷ 0 ∷ 0 ∷ 0 ∷ 0 ∷ 0 ∷ 0 ∷ 0 ∷ 0 ∷ [] }
+textAnswer (NoText e) = reported (load.reportOf e)

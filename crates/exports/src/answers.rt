@@ -3,12 +3,13 @@ use elf_parser::ElfParserError;
 use elf_parser::Layout;
 use elf_parser::Parsed;
 use elf_parser::Place;
+use elf_parser::Report;
 use elf_parser::Sliced;
 use elf_parser::report_of;
 use program::Found;
 ghost use mathlib.Core.Path.{_≡_};
 ghost use lib.ListN.{getD};
-ghost use Rattle.exports.specs.Answers.{wordsOf, Gives, refused, laidOut, parseAnswer, placeAnswer, tableAnswer, rowAnswer};
+ghost use Rattle.exports.specs.Answers.{wordsOf, Gives, reported, refused, laidOut, parseAnswer, placeAnswer, tableAnswer, rowAnswer};
 
 // A number, 0 where nothing was refused, and what goes with it.
 pub struct Answer {
@@ -16,10 +17,10 @@ pub struct Answer {
     pub words: [u64; 15],
 }
 
-pub fn refused(e: ElfParserError) -> Answer
-    ensures { λ r. ⌜ r ≡ refused e ⌝ }
+// A refusal in numbers.
+pub fn reported(r: Report) -> Answer
+    ensures { λ a. ⌜ a ≡ reported r ⌝ }
 {
-    let r = report_of(e);
     let words = [
         r.value,
         r.start,
@@ -41,6 +42,12 @@ pub fn refused(e: ElfParserError) -> Answer
         number: r.number,
         words,
     }
+}
+
+pub fn refused(e: ElfParserError) -> Answer
+    ensures { λ r. ⌜ r ≡ refused e ⌝ }
+{
+    reported(report_of(e))
 }
 
 fn laid_out(l: Layout) -> Answer

@@ -11,17 +11,26 @@ use asked::symbol_name_answer;
 use asked::symbol_table_answer;
 use ebpf::hash_symbol_name;
 use elf_parser::parse;
+use loader::load;
+use loader::text_place;
+use loading::config_of;
+use loading::load_answer;
+use loading::text_answer;
 use program::lookup_by_key;
 ghost use mathlib.Core.Path.{_≡_};
 ghost use Rattle.ebpf.specs.Murmur3.{murmur3};
 ghost use Rattle.elf_parser.specs.Names.{sectionName, symbolName, dynamicSymbolName};
 ghost use Rattle.elf_parser.specs.Parse.{parsed};
 ghost use Rattle.elf_parser.specs.Records.{sectionPlaceOf, symbolTableOf};
-ghost use Rattle.program.specs.Table.{slices, lookupIn};
-ghost use Rattle.exports.specs.Answers.{Gives, parseAnswer, asked, placeAnswer, tableAnswer, rowAnswer};
+ghost use lib.ListN.{length};
+ghost use Rattle.program.specs.Table.{slices, lookupIn, capacity};
+ghost use Rattle.loader.specs.Load.{loadOf};
+ghost use Rattle.loader.specs.TextPart.{textPlace};
+ghost use Rattle.exports.specs.Answers.{Gives, GivesLoad, configOf, textAnswer, parseAnswer, asked, placeAnswer, tableAnswer, rowAnswer};
 
 mod answers;
 mod asked;
+mod loading;
 
 // The hash of a name.
 #[no_mangle]
@@ -99,5 +108,58 @@ pub extern "C" fn sbpf_lookup(
     give(
         answer,
         row_answer(lookup_by_key(keys, indices, kinds, starts, lengths, used as usize, key)),
+    )
+}
+
+// A load, as `loader::load`, with the settings by their bits.
+#[no_mangle]
+pub extern "C" fn sbpf_load(
+    file: &[u8],
+    builtins: &[u32],
+    settings: u32,
+    image: &mut [u8],
+    ro: &mut [u8],
+    keys: &mut [u32],
+    indices: &mut [u32],
+    kinds: &mut [u32],
+    starts: &mut [u32],
+    lengths: &mut [u32],
+    answer: &mut [u64],
+) -> u32
+    ensures { λ r. ⌜ GivesLoad (loadOf (now (file .entry)) (now (builtins .entry)) (configOf settings) (length (now (image .entry))) (length (now (ro .entry))) (capacity (slices (now (keys .entry)) (now (indices .entry)) (now (kinds .entry)) (now (starts .entry)) (now (lengths .entry))))) (now (image .entry)) (now (ro .entry)) (slices (now (keys .entry)) (now (indices .entry)) (now (kinds .entry)) (now (starts .entry)) (now (lengths .entry))) (now (image .exit)) (now (ro .exit)) (slices (now (keys .exit)) (now (indices .exit)) (now (kinds .exit)) (now (starts .exit)) (now (lengths .exit))) (now (answer .entry)) (now (answer .exit)) r ⌝ }
+{
+    let a = load(
+        file,
+        builtins,
+        config_of(settings),
+        image,
+        ro,
+        keys,
+        indices,
+        kinds,
+        starts,
+        lengths,
+    );
+    give(answer, load_answer(a))
+}
+
+// Where the text stands among the read-only bytes of a load: by how many bytes are lent that hold
+// them, their offset, start and number, and the text's address and length, all but the first from
+// the answer of the load.
+#[no_mangle]
+pub extern "C" fn sbpf_text_place(
+    lent: u64,
+    ro_offset: u64,
+    ro_start: u64,
+    ro_length: u64,
+    text_addr: u64,
+    text_length: u64,
+    answer: &mut [u64],
+) -> u32
+    ensures { λ r. ⌜ Gives (textAnswer (textPlace lent «ro_offset» «ro_start» «ro_length» «text_addr» «text_length»)) (now (answer .entry)) (now (answer .exit)) r ⌝ }
+{
+    give(
+        answer,
+        text_answer(text_place(lent, ro_offset, ro_start, ro_length, text_addr, text_length)),
     )
 }

@@ -1,0 +1,15 @@
+-- `exports::loading::accepted_answer` meets its contract: word by word.
+-- Assumes nothing.
+use mathlib.Core.Path.{refl}
+use borrow.Author.Needs.{needs}
+use Rattle.exports.proofs.loading.accepted_answer.Statement.{statement}
+use Rattle.exports.proofs.loading.accepted_answer.Tie as tie
+
+pub accepted-answer-spec : {M : Type 1} → statement M
+accepted-answer-spec =
+    tie.close
+    (tie.spec
+    (search needs)
+    (search needs)
+    (search needs)
+    (λ c. rw (c .before .before .number-of .ensures) refl))

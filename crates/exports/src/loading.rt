@@ -1,0 +1,87 @@
+// The settings of a load by their bits, and what a load answers in words.
+use crate::answers::Answer;
+use crate::answers::reported;
+use loader::Accepted;
+use loader::Config;
+use loader::Load;
+use loader::TextPlace;
+use loader::report_of;
+ghost use Prim.Native.Nat.{_<_};
+ghost use mathlib.Core.Path.{_≡_};
+ghost use Rattle.exports.specs.Answers.{bitOf, configOf, numberOf, acceptedAnswer, loadAnswer, textAnswer};
+
+// Whether the bit of that value, a power of two, is set.
+fn bit(settings: u32, value: u32) -> bool
+    requires { ⌜ 0 < value ⌝ }
+    ensures { λ r. ⌜ r ≡ bitOf settings value ⌝ }
+{
+    (settings / value) % 2 == 1
+}
+
+// The settings of a load by their bits.
+pub fn config_of(settings: u32) -> Config
+    ensures { λ r. ⌜ r ≡ configOf settings ⌝ }
+{
+    Config {
+        enable_symbol_and_section_labels: bit(settings, 1),
+        reject_broken_elfs: bit(settings, 2),
+        external_internal_function_hash_collision: bit(settings, 4),
+        optimize_rodata: bit(settings, 8),
+        enable_sbpf_v1: bit(settings, 16),
+        enable_sbpf_v2: bit(settings, 32),
+    }
+}
+
+fn number_of(b: bool) -> u64
+    ensures { λ r. ⌜ r ≡ numberOf b ⌝ }
+{
+    if b {
+        return 1;
+    }
+    0
+}
+
+fn accepted_answer(a: Accepted) -> Answer
+    ensures { λ r. ⌜ r ≡ acceptedAnswer a ⌝ }
+{
+    let copied = number_of(a.ro_copied);
+    let words = [
+        0,
+        0,
+        0,
+        a.version as u64,
+        a.entry as u64,
+        a.used as u64,
+        a.moves,
+        copied,
+        a.ro_offset,
+        a.ro_start,
+        a.ro_length,
+        a.text_addr,
+        a.text_start as u64,
+        a.text_length as u64,
+        0,
+    ];
+    Answer { number: 0, words }
+}
+
+pub fn load_answer(a: Load) -> Answer
+    ensures { λ r. ⌜ r ≡ loadAnswer a ⌝ }
+{
+    match a {
+        Load::Accepted(a) => accepted_answer(a),
+        Load::Refused(e) => reported(report_of(e)),
+    }
+}
+
+pub fn text_answer(p: TextPlace) -> Answer
+    ensures { λ r. ⌜ r ≡ textAnswer p ⌝ }
+{
+    match p {
+        TextPlace::At { start, length } => {
+            let words = [0, 0, 0, start, length, 0, 0, 0, 0, 0, 0, 0, 0, 0, 0];
+            Answer { number: 0, words }
+        }
+        TextPlace::Refused(e) => reported(report_of(e)),
+    }
+}

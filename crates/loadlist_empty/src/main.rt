@@ -1,0 +1,4 @@
+// What loadlist does, run in the gate on no input.
+fn main() {
+    listing::list_input();
+}
