@@ -18,3 +18,4 @@ pub mod Labels
 pub mod RelocationExamples
 pub mod Parts
 pub mod Load
+pub mod Demand

@@ -1,0 +1,258 @@
+-- Demand 3: one claim about a whole load, in document 01's words.
+use Prim.Native.Nat.{ℕ, suc, _+_, _-_, _/_, _%_, _<_, _^_}
+use mathlib.Core.Path.{_≡_}
+use mathlib.Core.Bool.{Bool, true, false, _&&_, _||_, not}
+use mathlib.Core.Logic.{_⊎_, _↔_}
+use mathlib.Core.List.{List, [], _∷_, map}
+use lib.ListN.{length, take, drop, getD}
+use lib.Dec.{ltb, leb, eqb}
+use lib.Bits.{bitAnd}
+use Rattle.ebpf.specs.Choice.{_if_else_}
+use Rattle.ebpf.specs.LittleEndian.{le}
+use Rattle.ebpf.specs.IndexKeys.{indexKey}
+use Rattle.ebpf.specs.Murmur3.{murmur3}
+use Rattle.elf_parser.specs.declared.parts.Place.the-variants.{At as Stands}
+use Rattle.elf_parser.specs.declared.records.Sym.the-variants.{Symbol}
+use Rattle.elf_parser.specs.declared.types.Elf64Sym.{Elf64Sym}
+use Rattle.elf_parser.specs.Names.{symbolName, dynamicSymbolName}
+use Rattle.elf_parser.specs.Records.{dynamicSymbolOf, symOf}
+use Rattle.program.specs.declared.FunctionName.the-variants.{OfIndex, Entrypoint}
+use Rattle.program.specs.declared.Legacy.the-variants.{Free}
+use Rattle.program.specs.declared.Row.{Row}
+use Rattle.program.specs.declared.Found.{Found}
+use Rattle.program.specs.declared.Found.the-variants.{At}
+use Rattle.program.specs.declared.Registered.{Registered}
+use Rattle.program.specs.declared.Registered.the-variants.{Inserted, Repeat, Collision, Full}
+use Rattle.program.specs.Rows.{registered, remove}
+use Rattle.program.specs.Rows as table
+use Rattle.program.specs.Table.{Slices, capacity, lookupIn}
+use Rattle.loader.specs.declared.answer.Load.{Load}
+use Rattle.loader.specs.declared.answer.Load.the-variants.{Accepted as Accepts, Refused as Refuses}
+use Rattle.loader.specs.declared.calls.Call.the-variants.{To}
+use Rattle.loader.specs.declared.error.ElfError.the-variants.{SymbolHashCollision, TableFull}
+use Rattle.loader.specs.declared.relocations.Mapped.{Mapped}
+use Rattle.loader.specs.declared.relocations.Mapped.the-variants.{At as Placed, Refused as Unmapped}
+use Rattle.loader.specs.declared.validate.Config.{Config}
+use Rattle.loader.specs.declared.validate.Job.{Job}
+use Rattle.loader.specs.declared.validate.Prepared.{Prepared}
+use Rattle.loader.specs.declared.validate.Prepared.the-variants.{Ready, Refused as NotReady}
+use Rattle.loader.specs.Calls.{callAt, textOf, slotCount, immediate}
+use Rattle.loader.specs.Functions.{rowFor, entrypoint, symbolFunction, indexOf}
+use Rattle.loader.specs.Labels.{labelSymbols, labelsTrace}
+use Rattle.loader.specs.Relocations.{relocationAt, placeAt, textHolds, isFunction}
+use Rattle.loader.specs.Parts.{writingTrace, jobTrace}
+use Rattle.loader.specs.Trace.{Trace, done, stop, register, forget, andThen}
+use Rattle.loader.specs.Validate.{prepared}
+
+-- ---- local calls
+
+-- slot number i is, in the file, a local call of slot number `to`
+abbrev pub CallsTo : List ℕ → Job → ℕ → ℕ → Type 0
+CallsTo file j i to = (i < slotCount j) × (callAt (textOf file j) (j .version2) i ≡ To to)
+
+-- b is one of the n places from `start` on
+abbrev pub isIn : ℕ → ℕ → ℕ → Bool
+isIn start n b = leb start b && ltb b (start + n)
+
+-- ---- the bytes that a relocation names
+
+-- an instruction's two halves
+abbrev pub inHalves : ℕ → ℕ → Bool
+inHalves r b = isIn (r + 4) 4 b || isIn (r + 12) 4 b
+
+-- by the version, whether the place r is in the text, and the relocation's type
+unfoldable pub namedBy : Bool → Bool → ℕ → ℕ → ℕ → Bool
+namedBy version2 in-text type r b =
+    (inHalves r b if in-text || not version2 else isIn r 8 b) if eqb type 1 else
+    (inHalves r b if in-text else isIn r 8 b) if eqb type 8 else
+    isIn (r + 4) 4 b if eqb type 10 else
+    false
+
+abbrev pub namedAt : Job → Mapped → ℕ → ℕ → Bool
+namedAt j (Placed r) type b = namedBy (j .version2) (textHolds j r) type r b
+namedAt j Unmapped type b = false
+
+abbrev pub relocationCount : Job → ℕ
+relocationCount j = j .layout .«dynamic_relocations» .count
+
+abbrev pub infoOf : List ℕ → Job → ℕ → ℕ
+infoOf file j i = relocationAt file (j .layout) i .«r_info»
+
+-- the relocation number i names the byte b
+abbrev pub names : List ℕ → Job → ℕ → ℕ → Bool
+names file j i b = namedAt j (placeAt file j i) (infoOf file j i % 2 ^ 32) b
+
+-- no relocation names the byte b
+abbrev pub Unnamed : List ℕ → Job → ℕ → Type 0
+Unnamed file j b = (i : ℕ) → i < relocationCount j → names file j i b ≡ false
+
+-- ---- registrations: each a row, with its key and its index
+
+-- the target of the local call in slot number i
+abbrev pub OfCall : List ℕ → List ℕ → Job → ℕ → Row → Type 0
+OfCall file builtins j i row = (to : ℕ) × CallsTo file j i to × (rowFor builtins j OfIndex to ≡ Free row)
+
+-- the function symbol of the relocation number i, of type 10
+abbrev pub OfRelocation : List ℕ → List ℕ → Job → ℕ → Row → Type 0
+OfRelocation file builtins j i row =
+    (i < relocationCount j)
+    × (infoOf file j i % 2 ^ 32 ≡ 10)
+    × (y : Elf64Sym)
+    × (dynamicSymbolOf file (j .layout) (infoOf file j i / 2 ^ 32) ≡ Symbol y)
+    × (isFunction y ≡ true)
+    × (start : ℕ)
+    × (n : ℕ)
+    × (dynamicSymbolName file (j .layout) (y .«st_name») ≡ Stands start n)
+    × (rowFor builtins j (symbolFunction (take n (drop start file)) start n) (indexOf j (y .«st_value»)) ≡ Free row)
+
+-- with labels on, the symbol number i of .symtab, where st_info & 0xEF = 2
+abbrev pub OfLabel : List ℕ → List ℕ → Job → ℕ → Row → Type 0
+OfLabel file builtins j i row =
+    (i < labelSymbols file j .count)
+    × (y : Elf64Sym)
+    × (symOf file (labelSymbols file j) i ≡ Symbol y)
+    × (bitAnd (y .«st_info») 0xef ≡ 2)
+    × (start : ℕ)
+    × (n : ℕ)
+    × (symbolName file (j .layout) (y .«st_name») ≡ Stands start n)
+    × (rowFor builtins j (symbolFunction (take n (drop start file)) start n) (indexOf j (y .«st_value»)) ≡ Free row)
+
+-- e_entry less the text's sh_addr, in slots
+abbrev pub entryIndex : Job → ℕ
+entryIndex j = (j .«e_entry» - j .«sh_addr») / 8
+
+abbrev pub OfEntry : List ℕ → Job → Row → Type 0
+OfEntry builtins j row = rowFor builtins j Entrypoint (entryIndex j) ≡ Free row
+
+-- one of the load's registrations
+abbrev pub Registers : List ℕ → List ℕ → Job → Row → Type 0
+Registers file builtins j row =
+    ((i : ℕ) × OfCall file builtins j i row)
+    ⊎ ((i : ℕ) × OfRelocation file builtins j i row)
+    ⊎ ((i : ℕ) × OfLabel file builtins j i row)
+    ⊎ OfEntry builtins j row
+
+-- ---- keys
+
+-- the key of the name entrypoint
+abbrev pub nameKey : ℕ
+nameKey = murmur3 entrypoint
+
+-- the key of an instruction index
+unfoldable pub keyOf : Bool → ℕ → ℕ
+keyOf version2 index = index if version2 else indexKey index
+
+-- the key finds the index, by a lookup
+abbrev pub Finds : (ℕ → Found) → ℕ → ℕ → Type 0
+Finds look key index = (row : Row) × (look key ≡ At row) × (row .index ≡ index)
+
+-- the key is the table's, by a lookup
+abbrev pub Has : (ℕ → Found) → ℕ → Type 0
+Has look key = (row : Row) × (look key ≡ At row)
+
+-- version 1's key of the name entrypoint
+abbrev pub IsNameKey : Job → ℕ → Type 0
+IsNameKey j key = (j .version2 ≡ false) × (key ≡ nameKey)
+
+-- ---- the sentences about an accepted load
+
+-- each slot that was a local call in the file, of whose immediate no relocation names a byte, holds a key that finds its target,
+-- unless in version 1 it is the key of the name entrypoint
+abbrev pub Calls : List ℕ → Job → List ℕ → (ℕ → Found) → Type 0
+Calls file j im look =
+    (i to : ℕ) → CallsTo file j i to
+    → ((b : ℕ) → isIn (immediate j i) 4 b ≡ true → Unnamed file j b)
+    → IsNameKey j (le 4 im (immediate j i)) ⊎ Finds look (le 4 im (immediate j i)) to
+
+-- the table's keys are those of the registrations: local call targets, function symbols and the entry
+abbrev pub Keys : List ℕ → List ℕ → Job → (ℕ → Found) → Type 0
+Keys file builtins j look = (key : ℕ) → Has look key ↔ ((row : Row) × Registers file builtins j row × (row .key ≡ key))
+
+-- in version 1 the name's key finds the entry
+abbrev pub Entry : Job → (ℕ → Found) → Type 0
+Entry j look = j .version2 ≡ false → Finds look nameKey (entryIndex j)
+
+-- every other key finds the index registered under it
+abbrev pub Others : List ℕ → List ℕ → Job → (ℕ → Found) → Type 0
+Others file builtins j look = (row : Row) → Registers file builtins j row → IsNameKey j (row .key) ⊎ Finds look (row .key) (row .index)
+
+-- outside local call immediates and the bytes that relocations name, the image holds the file's bytes
+abbrev pub Bytes : List ℕ → Job → List ℕ → Type 0
+Bytes file j im =
+    (b : ℕ) → b < length file
+    → ((i to : ℕ) → CallsTo file j i to → isIn (immediate j i) 4 b ≡ false)
+    → Unnamed file j b
+    → getD im b 0 ≡ getD file b 0
+
+-- in either version no two indices share an index key
+abbrev pub Injective : Type 0
+Injective = (version2 : Bool) (x y : ℕ) → x < 2 ^ 32 → y < 2 ^ 32 → keyOf version2 x ≡ keyOf version2 y → x ≡ y
+
+-- an accepted load has a file that passed the checks, and this holds of it and of the rows used
+abbrev pub OnAccepted : Load → Prepared → (Job → ℕ → Type 0) → Type 0
+OnAccepted (Accepts x) (Ready j) P = P j (x .used)
+OnAccepted (Accepts x) (NotReady r) P = ⊥
+OnAccepted (Refuses r) p P = Unit {0}
+
+-- ---- the registrations reached: no refusal stands ahead of them
+
+abbrev pub onReached : Registered → List Row → List Row
+onReached (Inserted m) more = more
+onReached Repeat more = more
+onReached Collision more = []
+onReached Full more = []
+
+-- of a trace, in a table of n rows that holds `rows`
+unfoldable pub reached : ℕ → Trace → List Row → List Row
+reached n (done im) rows = []
+reached n (stop r) rows = []
+reached n (register row t) rows = row ∷ onReached (table.register n row rows) (reached n t (registered n row rows))
+reached n (forget key t) rows = reached n t (remove key rows)
+
+-- of a load
+abbrev pub reachedIn : List ℕ → List ℕ → ℕ → Prepared → List Row
+reachedIn file builtins n (Ready j) = reached n (jobTrace file builtins j file) []
+reachedIn file builtins n (NotReady r) = []
+
+-- of a load, before the entry's: calls, relocations and labels
+abbrev pub earlyTrace : List ℕ → List ℕ → Job → Trace
+earlyTrace file builtins j = andThen (writingTrace file builtins j file) (labelsTrace file builtins j)
+
+abbrev pub reachedEarly : List ℕ → List ℕ → ℕ → Prepared → List Row
+reachedEarly file builtins n (Ready j) = reached n (earlyTrace file builtins j) []
+reachedEarly file builtins n (NotReady r) = []
+
+-- a row of the list
+abbrev pub Among : Row → List Row → Type 0
+Among row [] = ⊥
+Among row (x ∷ xs) = (row ≡ x) ⊎ Among row xs
+
+-- two of them have the name's key and different indices
+abbrev pub Clash : List Row → Type 0
+Clash rows = (x : Row) × (y : Row) × Among x rows × Among y rows × (x .key ≡ nameKey) × (y .key ≡ nameKey) × (x .index ≡ y .index → ⊥)
+
+-- how many distinct numbers
+abbrev pub isOneOf : ℕ → List ℕ → Bool
+isOneOf k [] = false
+isOneOf k (x ∷ xs) = eqb k x || isOneOf k xs
+
+unfoldable pub distinct : List ℕ → ℕ
+distinct [] = 0
+distinct (x ∷ xs) = distinct xs if isOneOf x xs else suc (distinct xs)
+
+-- ---- the claim
+
+-- DEMAND 3, of a load with n bytes lent for the image, m for the read-only bytes, and a table t: the image and the table are im′ and t′
+-- afterwards, and the answer is a
+pub record Demand3 (file builtins : List ℕ) (c : Config) (n m : ℕ) (t : Slices) (im′ : List ℕ) (t′ : Slices) (a : Load) : Type 0 where
+  pub calls : OnAccepted a (prepared file builtins c n m) (λ j used. Calls file j im′ (lookupIn t′ used))
+  pub keys : OnAccepted a (prepared file builtins c n m) (λ j used. Keys file builtins j (lookupIn t′ used))
+  pub entry : OnAccepted a (prepared file builtins c n m) (λ j used. Entry j (lookupIn t′ used))
+  pub others : OnAccepted a (prepared file builtins c n m) (λ j used. Others file builtins j (lookupIn t′ used))
+  pub bytes : OnAccepted a (prepared file builtins c n m) (λ j used. Bytes file j im′)
+  pub injective : Injective
+  -- with the built-in check off, refused loads too
+  pub collision : c .«external_internal_function_hash_collision» ≡ false
+      → ((key : ℕ) × (a ≡ Refuses (SymbolHashCollision key))) ↔ Clash (reachedEarly file builtins (capacity t) (prepared file builtins c n m))
+  pub full : c .«external_internal_function_hash_collision» ≡ false
+      → ((rows : ℕ) × (a ≡ Refuses (TableFull rows))) ↔ (capacity t < distinct (map (λ r. r .key) (reachedIn file builtins (capacity t) (prepared file builtins c n m))))
