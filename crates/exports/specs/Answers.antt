@@ -23,8 +23,8 @@ use Rattle.loader.specs.declared.answer.Accepted.{Accepted}
 use Rattle.loader.specs.declared.answer.Load.{Load}
 use Rattle.loader.specs.declared.answer.Load.the-variants.{Accepted as Accepts, Refused as Refuses}
 use Rattle.loader.specs.declared.validate.Config.{Config}
-use Rattle.loader.specs.declared.text_part.TextPlace.{TextPlace}
-use Rattle.loader.specs.declared.text_part.TextPlace.the-variants.{At as TextAt, Refused as NoText}
+use Rattle.loader.specs.declared.get_bytes.PartPlace.{PartPlace}
+use Rattle.loader.specs.declared.get_bytes.PartPlace.the-variants.{At as TextAt, Refused as NoText}
 use Rattle.loader.specs.Errors as load
 use Rattle.loader.specs.Load.{Loading, answerOf, WholeOrZeros}
 use Rattle.exports.specs.declared.answers.Answer.{Answer}
@@ -157,6 +157,6 @@ pub record GivesLoad (x : Loading) (im ro : List ℕ) (t : Slices) (im′ ro′ 
   pub gives : Gives (loadAnswer (answerOf x)) before after r
 
 -- the text's place: after three zeros its start and its length
-abbrev pub textAnswer : TextPlace → Answer
+abbrev pub textAnswer : PartPlace → Answer
 textAnswer (TextAt start n) = record { number = 0; words = 0 ∷ 0 ∷ 0 ∷ start ∷ n ∷ 0 ∷ 0 ∷ 0 ∷ 0 ∷ 0 ∷ 0 ∷ 0 ∷ 0 ∷ 0 ∷ 0 ∷ [] }
 textAnswer (NoText e) = reported (load.reportOf e)

@@ -25,7 +25,7 @@ ghost use Rattle.elf_parser.specs.Records.{sectionPlaceOf, symbolTableOf};
 ghost use lib.ListN.{length};
 ghost use Rattle.program.specs.Table.{slices, lookupIn, capacity};
 ghost use Rattle.loader.specs.Load.{loadOf};
-ghost use Rattle.loader.specs.TextPart.{textPlace};
+ghost use Rattle.loader.specs.GetBytes.{textPlace};
 ghost use Rattle.exports.specs.Answers.{Gives, GivesLoad, configOf, textAnswer, parseAnswer, asked, placeAnswer, tableAnswer, rowAnswer};
 
 mod answers;

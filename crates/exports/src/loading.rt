@@ -4,7 +4,7 @@ use crate::answers::reported;
 use loader::Accepted;
 use loader::Config;
 use loader::Load;
-use loader::TextPlace;
+use loader::PartPlace;
 use loader::report_of;
 ghost use Prim.Native.Nat.{_<_};
 ghost use mathlib.Core.Path.{_≡_};
@@ -74,14 +74,14 @@ pub fn load_answer(a: Load) -> Answer
     }
 }
 
-pub fn text_answer(p: TextPlace) -> Answer
+pub fn text_answer(p: PartPlace) -> Answer
     ensures { λ r. ⌜ r ≡ textAnswer p ⌝ }
 {
     match p {
-        TextPlace::At { start, length } => {
+        PartPlace::At { start, length } => {
             let words = [0, 0, 0, start, length, 0, 0, 0, 0, 0, 0, 0, 0, 0, 0];
             Answer { number: 0, words }
         }
-        TextPlace::Refused(e) => reported(report_of(e)),
+        PartPlace::Refused(e) => reported(report_of(e)),
     }
 }

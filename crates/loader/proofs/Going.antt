@@ -113,3 +113,15 @@ module _ (step : ℕ → List ℕ → Trace) (n : ℕ) where
         moved = omega (arith, going .moved, did .near .1);
         onward = sym (then-on (step i im) _ im′ t u 1 used moves used′ moves′ lens did) ∙ unrolled;
       }
+
+    -- parts that ask for nothing are passed over, up to number k
+    pub going-ahead : (k : ℕ) → i ≤ k → k ≤ n → each step (n - i) i im ≡ each step (n - k) k im → Going step n im₀ im t₀ t used₀ moves₀ used moves k
+    going-ahead k l h e = record {
+      same = going .same;
+      image-as = going .image-as;
+      ready = going .ready;
+      passed = h;
+      few = omega (arith, going .few);
+      moved = omega (arith, going .moved);
+      onward = ap (λ (T : Trace). settle (capacity t) T (rowsOf t used) moves) (sym e) ∙ going .onward;
+    }

@@ -1,10 +1,12 @@
 -- Local calls.
-use Prim.Native.Nat.{ℕ, _+_, _-_, _*_, _/_}
+use Prim.Native.Nat.{ℕ, zero, suc, _+_, _-_, _*_, _/_, _≤_, _<_}
+use native.Mathlib.Omega.{arith}
 use mathlib.Core.Path.{_≡_, refl}
-use mathlib.Core.Bool.{Bool, _&&_, not}
+use mathlib.Core.Bool.{Bool, true, false, _&&_, not}
 use mathlib.Core.List.{List}
-use lib.ListN.{length, take, drop}
+use lib.ListN.{length, take, drop, getD}
 use lib.Dec.{ltb, eqb}
+use borrow.Author.Tests.{eq-eqb, ne-eqb}
 use Rattle.ebpf.specs.Choice.{_if_else_}
 use Rattle.ebpf.specs.Instructions.{insnAt}
 use Rattle.ebpf.specs.declared.Insn.{Insn}
@@ -81,3 +83,26 @@ slotTrace file builtins j i im = deedTrace (callDeed file builtins j i) im
 -- THE CALLS' PART OF A LOAD
 abbrev pub callsTrace : List ℕ → List ℕ → Job → List ℕ → Trace
 callsTrace file builtins j im = each (slotTrace file builtins j) (slotCount j) 0 im
+
+-- ---- slots passed over without a look at more than their opcode
+
+-- the first of n slots from number i on, in a text that starts at `start`, whose opcode is a call's; the one behind them where none is
+unfoldable pub nextCall : List ℕ → ℕ → ℕ → ℕ → ℕ
+nextCall file start zero i = i
+nextCall file start (suc n) i = i if eqb (getD file (start + 8 * i) 0) 0x85 else nextCall file start n (i + 1)
+
+-- as a loop meets it
+module _ (file : List ℕ) (start i : ℕ) where
+  pub call-here : (n : ℕ) → 0 < n → getD file (start + 8 * i) 0 ≡ 0x85 → nextCall file start n i ≡ i
+  unfolding nextCall _if_else_
+  call-here zero h e = absurd (omega arith)
+  call-here (suc n) h e = let b : eqb (getD file (start + 8 * i) 0) 0x85 ≡ true = eq-eqb _ _ e in rw b
+
+  pub call-later : (n m : ℕ) → n ≡ suc m → (getD file (start + 8 * i) 0 ≡ 0x85 → ⊥) → nextCall file start n i ≡ nextCall file start m (i + 1)
+  unfolding nextCall _if_else_
+  call-later n m h e = let b : eqb (getD file (start + 8 * i) 0) 0x85 ≡ false = ne-eqb _ _ e in rw (h, b)
+
+  pub call-none : (n : ℕ) → n ≤ 0 → nextCall file start n i ≡ i
+  unfolding nextCall
+  call-none zero h = refl
+  call-none (suc n) h = absurd (omega arith)

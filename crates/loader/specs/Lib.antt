@@ -3,7 +3,7 @@ pub mod Addresses
 pub mod Sections
 pub mod ReadOnly
 pub mod Placed
-pub mod TextPart
+pub mod GetBytes
 pub mod PlacedExamples
 pub mod Validate
 pub mod Functions

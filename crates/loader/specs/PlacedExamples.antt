@@ -6,10 +6,10 @@ use Rattle.ebpf.specs.Choice.{_if_else_}
 use Rattle.loader.specs.declared.error.ElfError.the-variants.{ValueOutOfBounds, TextOutsideReadOnly}
 use Rattle.loader.specs.declared.read_only.Extent.{Extent}
 use Rattle.loader.specs.declared.read_only.Placing.the-variants.{Borrowed, Owned, Refused}
-use Rattle.loader.specs.declared.text_part.TextPlace.the-variants.{At, Refused as NoText}
+use Rattle.loader.specs.declared.get_bytes.PartPlace.the-variants.{At, Refused as NoText}
 use Rattle.loader.specs.Addresses.{machineAddr}
 use Rattle.loader.specs.ReadOnly.{gives, invalidBy, endOf, grown, nothing, fromStart, canBorrow, borrowed, owned, placed}
-use Rattle.loader.specs.TextPart.{textPlace}
+use Rattle.loader.specs.GetBytes.{textPlace}
 
 -- version 2: 16 bytes at 0x1000 of the file, at the program's start; and 8 more behind them, by the same constant and by another
 abbrev one : Extent

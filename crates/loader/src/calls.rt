@@ -12,11 +12,11 @@ use ebpf::get_insn;
 use program::FunctionName;
 use program::Legacy;
 ghost use mathlib.Core.Path.{_≡_};
-ghost use Prim.Native.Nat.{_+_, _*_, _/_, _≤_, _<_, _^_};
+ghost use Prim.Native.Nat.{_+_, _-_, _*_, _/_, _≤_, _<_, _^_};
 ghost use lib.ListN.{length, take, drop};
 ghost use Rattle.program.specs.Table.{slices};
 ghost use Rattle.loader.specs.Functions.{Keyed};
-ghost use Rattle.loader.specs.Calls.{inside, target, callOf, callAt, callRow, callDeed, slotCount, slotTrace, callsTrace};
+ghost use Rattle.loader.specs.Calls.{inside, target, callOf, callAt, callRow, callDeed, slotCount, slotTrace, callsTrace, nextCall};
 ghost use Rattle.loader.specs.Contracts.{InFile, Begins, Settles};
 
 // What a slot calls.
@@ -98,6 +98,22 @@ fn call_deed(file: &[u8], builtins: &[u32], table: &[u32], job: Job, i: usize) -
     }
 }
 
+// The first slot from `from` on, of `count`, with a call's opcode; `count` where none has it. Most
+// slots call nothing, and this looks at one byte of them.
+fn next_call(file: &[u8], start: usize, from: usize, count: usize) -> usize
+    requires { ⌜ (start + 8 * count ≤ length (now file)) × (from ≤ count) ⌝ }
+    ensures { λ r. ⌜ r ≡ nextCall (now (file .entry)) start (count - from) from ⌝ }
+{
+    let mut i = from;
+    while i < count {
+        if file[start + 8 * i] == CALL_IMM {
+            return i;
+        }
+        i += 1;
+    }
+    i
+}
+
 // Every slot in turn, up to the first refusal.
 pub(crate) fn register_calls(
     image: &mut [u8],
@@ -117,10 +133,11 @@ pub(crate) fn register_calls(
     requires { ⌜ InFile (now file) job × Keyed (now table) × (length (now image) ≡ length (now file)) × Begins (slotCount job) (slices (now keys) (now indices) (now kinds) (now starts) (now lengths)) rows held moved ⌝ }
     ensures { λ r. ⌜ Settles (callsTrace (now (file .entry)) (now (builtins .entry)) job (now (image .entry))) (now (image .exit)) (slices (now (keys .entry)) (now (indices .entry)) (now (kinds .entry)) (now (starts .entry)) (now (lengths .entry))) (slices (now (keys .exit)) (now (indices .exit)) (now (kinds .exit)) (now (starts .exit)) (now (lengths .exit))) (slotCount job) held moved r ⌝ }
 {
+    let start = job.start;
     let count = job.length / 8;
     let mut used = held;
     let mut moves = moved;
-    let mut i = 0;
+    let mut i = next_call(file, start, 0, count);
     while i < count {
         let deed = call_deed(file, builtins, table, job, i);
         match perform(
@@ -139,7 +156,7 @@ pub(crate) fn register_calls(
             Outcome::Holds(u, m) => {
                 used = u;
                 moves = m;
-                i += 1;
+                i = next_call(file, start, i + 1, count);
             }
         }
     }

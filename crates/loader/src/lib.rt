@@ -18,6 +18,7 @@ mod entry;
 mod error;
 mod filling;
 mod functions;
+mod get_bytes;
 mod labelling;
 mod labels;
 mod parts;
@@ -25,7 +26,6 @@ mod read_only;
 mod relocating;
 mod relocations;
 mod sections;
-mod text_part;
 mod validate;
 
 pub use answer::Accepted;
@@ -33,10 +33,15 @@ pub use answer::Load;
 pub use error::ElfError;
 pub use error::from_parser;
 pub use error::report_of;
-pub use read_only::Placing;
-pub use text_part::TextPlace;
-pub use text_part::text_bytes;
-pub use text_part::text_place;
+pub use get_bytes::PartPlace;
+pub use get_bytes::get_ro_place;
+pub use get_bytes::get_ro_section;
+pub use get_bytes::get_text_bytes;
+pub use get_bytes::get_text_place;
+pub use get_bytes::ro_bytes;
+pub use get_bytes::ro_place;
+pub use get_bytes::text_bytes;
+pub use get_bytes::text_place;
 pub use validate::Config;
 
 // A load that leaves anything where it refuses. The image's front is not cleared, since the file is

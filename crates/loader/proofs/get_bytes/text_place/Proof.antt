@@ -1,14 +1,14 @@
--- `loader::text_part::text_place` meets its contract: a row of checks.
+-- `loader::get_bytes::text_place` meets its contract: a row of checks.
 -- Assumes nothing.
 use Rattle.ebpf.specs.Choice.{choices}
 use native.Mathlib.Omega.{arith}
 use mathlib.Core.Path.{sym, _∙_}
 use Prim.Native.Nat.{_+_, _≤_}
 use borrow.Author.Tests.{ltb-false}
-use Rattle.loader.specs.TextPart.{textPlace}
+use Rattle.loader.specs.GetBytes.{textPlace}
 use borrow.Author.Needs.{needs}
-use Rattle.loader.proofs.text_part.text_place.Statement.{statement}
-use Rattle.loader.proofs.text_part.text_place.Tie as tie
+use Rattle.loader.proofs.get_bytes.text_place.Statement.{statement}
+use Rattle.loader.proofs.get_bytes.text_place.Tie as tie
 
 add-t8 : tie.Need-add-t8
 add-t8 c =

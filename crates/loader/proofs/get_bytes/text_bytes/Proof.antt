@@ -1,12 +1,12 @@
--- `loader::text_part::text_bytes` meets its contract: the bytes at the place.
+-- `loader::get_bytes::text_bytes` meets its contract: the bytes at the place.
 -- Assumes nothing.
 use native.Mathlib.Omega.{arith}
 use mathlib.Core.Path.{sym, _∙_}
 use native.Mathlib.Nat.{add-sub-cancel-left}
-use Rattle.loader.specs.TextPart.{text-within}
+use Rattle.loader.specs.GetBytes.{text-within}
 use borrow.Author.Needs.{needs}
-use Rattle.loader.proofs.text_part.text_bytes.Statement.{statement}
-use Rattle.loader.proofs.text_part.text_bytes.Tie as tie
+use Rattle.loader.proofs.get_bytes.text_bytes.Statement.{statement}
+use Rattle.loader.proofs.get_bytes.text_bytes.Tie as tie
 
 add-end : tie.Need-add-end
 add-end c = omega (arith, text-within _ _ _ _ _ _ _ _ (sym (c .before .before .before .text-place .ensures) ∙ c .before .start .given .1))
