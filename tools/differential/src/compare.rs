@@ -52,7 +52,7 @@ impl Placed {
 }
 
 /// What the lent words must hold: the words, as many as there is room for, and zeros behind them.
-fn written(words: &[u64], room: usize) -> Vec<u64> {
+pub fn written(words: &[u64], room: usize) -> Vec<u64> {
     let mut all = vec![0; room];
     for (to, from) in all.iter_mut().zip(words) {
         *to = *from;
