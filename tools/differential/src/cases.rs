@@ -93,13 +93,13 @@ fn settings(r: &mut Random, made: &elf::Made) -> Settings {
 
 /// The lengths of the lent columns: plenty, just enough, one too few, none; equal or not.
 fn columns(r: &mut Random, most: usize) -> [usize; 5] {
-    let rows = match r.below(12) {
-        0 => 0,
-        1 | 2 => most,
-        3 | 4 => most.saturating_sub(1),
-        5 => most + 1,
-        6 => r.below(most as u64 + 1) as usize,
-        7 => r.below(12) as usize,
+    let rows = match r.below(24) {
+        0 => r.pick(&[0, 1]),
+        1 | 2 => most.saturating_sub(1),
+        3 => r.below(most as u64 + 1) as usize,
+        4..=8 => most,
+        9 => most + 1,
+        10 => most + r.below(12) as usize,
         _ => 64.max(most + 8),
     };
     if !r.one_in(4) {

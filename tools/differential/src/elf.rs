@@ -35,6 +35,9 @@ pub const SYMBOLS: &[&[u8]] = &[
     b"bad \xe2\x82 at sixty-four bytes and more so that it is refused as text \xf0\x9f",
 ];
 
+/// So many of them, the last, are too long.
+const TOO_LONG: usize = 3;
+
 /// Names of further sections: longest, too long, not UTF-8, near those that the load knows.
 const SECTION_NAMES: &[&[u8]] = &[
     b".comment",
@@ -100,6 +103,14 @@ fn section(name: &'static [u8], kind: u32, flags: u64, data: Vec<u8>) -> Section
 
 fn put(bytes: &mut [u8], at: u64, value: u64, width: usize) {
     bytes[at as usize..at as usize + width].copy_from_slice(&value.to_le_bytes()[..width]);
+}
+
+/// The name of a symbol, seldom one that is too long to be read.
+fn symbol_name(r: &mut Random) -> &'static [u8] {
+    if r.odd(4) {
+        return r.pick(SYMBOLS);
+    }
+    r.pick(&SYMBOLS[..SYMBOLS.len() - TOO_LONG])
 }
 
 /// A table of names, each with its zero byte, and where each starts.
@@ -264,7 +275,7 @@ pub fn file(r: &mut Random, style: Style) -> Made {
     let version2 = r.one_in(2);
     let slots = match style {
         _ if r.odd(12) => r.range(0, 1),
-        Style::Small => r.range(1, 4),
+        Style::Small => r.range(1, 8),
         Style::Large => r.range(900, 1500),
         _ if r.one_in(12) => r.range(16, 40),
         _ => r.range(2, 12),
@@ -292,9 +303,10 @@ pub fn file(r: &mut Random, style: Style) -> Made {
     let plan = Plan {
         version2,
         symbols: match style {
-            Style::Large => r.range(0, 400),
-            Style::Small => r.range(0, 3),
-            Style::Usual => r.range(0, 6),
+            _ if r.odd(8) => 0,
+            Style::Large => r.range(1, 400),
+            Style::Small => r.range(1, 3),
+            Style::Usual => r.range(1, 6),
         } as usize,
         relocations: match style {
             _ if r.one_in(4) => 0,
@@ -358,7 +370,9 @@ pub fn file(r: &mut Random, style: Style) -> Made {
     let mut dynamic_names = Vec::new();
     let most_names = if style == Style::Small { 1 } else { 4 };
     if dynamic {
-        let names: Vec<&[u8]> = (0..r.range(1, most_names + 1)).map(|_| r.pick(SYMBOLS)).collect();
+        let names: Vec<&[u8]> = (0..r.range(1, most_names + 1))
+            .map(|_| symbol_name(r))
+            .collect();
         let (table, at) = strings(r, &names);
         dynamic_names = at;
         parts.push(section(
@@ -400,7 +414,9 @@ pub fn file(r: &mut Random, style: Style) -> Made {
         Style::Usual => r.range(0, 5),
     } as usize;
     if r.one_in(if style == Style::Small { 4 } else { 2 }) {
-        let names: Vec<&[u8]> = (0..r.range(1, most_names)).map(|_| r.pick(SYMBOLS)).collect();
+        let names: Vec<&[u8]> = (0..r.range(1, most_names))
+            .map(|_| symbol_name(r))
+            .collect();
         let (table, at) = strings(r, &names);
         label_names = at;
         let kind = if r.odd(4) {
@@ -510,6 +526,8 @@ pub fn file(r: &mut Random, style: Style) -> Made {
     };
     // read-only sections anywhere, over one another too: a later copy overwrites
     let scattered = moved && r.one_in(3);
+    let stacked = moved && r.one_in(4);
+    let text_addr = base.wrapping_add(text_part.at);
     for s in sections.iter_mut() {
         if s.kind == SHT_NULL && s.at == 0 {
             continue;
@@ -520,6 +538,9 @@ pub fn file(r: &mut Random, style: Style) -> Made {
         }
         if scattered && READ_ONLY.contains(&s.name) {
             s.addr = base.wrapping_add(r.below(len));
+        }
+        if stacked && READ_ONLY.contains(&s.name) {
+            s.addr = text_addr;
         }
     }
 

@@ -3,6 +3,7 @@
 //! the proved functions. `cases` makes the inputs, `compare` asks both, and `loads` does for whole
 //! loads, whose answers `expected` has in full.
 
+pub mod bench;
 pub mod cases;
 pub mod compare;
 pub mod elf;

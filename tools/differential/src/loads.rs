@@ -66,11 +66,9 @@ impl<T: Copy + PartialEq + Debug> Guarded<T> {
 #[derive(Default)]
 pub struct Counts {
     pub cases: u64,
-    /// Number of the answer (0: accepted), and the version that the file was made for.
-    pub numbers: BTreeMap<(u64, u32), u64>,
-    /// Files without damage, and those of them that are accepted, by version.
-    pub sound: [u64; 2],
-    pub sound_accepted: [u64; 2],
+    /// By the number of the answer (0: accepted): how many, by the version that the file was made
+    /// for, and then those of files without damage.
+    pub numbers: BTreeMap<u64, [u64; 4]>,
     pub copied: [u64; 2],
     pub borrowed: [u64; 2],
     pub text_aborts: u64,
@@ -81,7 +79,7 @@ pub struct Counts {
     pub most_rows: u64,
     /// Accepted loads into a table with no row to spare.
     pub just_fits: u64,
-    /// Accepted loads that ask for as many rows before the entrypoint's row is removed.
+    /// Accepted loads whose image is not the file.
     pub relocated: u64,
     pub longest_accepted: u64,
 }
@@ -90,15 +88,12 @@ impl Counts {
     fn count(&mut self, case: &Case, e: &Expected) {
         let version = case.version2 as usize;
         self.cases += 1;
-        *self
-            .numbers
-            .entry((e.words[0], 1 + case.version2 as u32))
-            .or_insert(0) += 1;
-        self.sound[version] += case.sound as u64;
+        let row = self.numbers.entry(e.words[0]).or_default();
+        row[version] += 1;
+        row[2 + version] += case.sound as u64;
         if e.words[0] != 0 {
             return;
         }
-        self.sound_accepted[version] += case.sound as u64;
         if e.words[8] == 1 {
             self.copied[version] += 1;
         } else {
@@ -117,29 +112,24 @@ impl Counts {
     }
 
     pub fn print(&self) {
-        println!("number  made for version 1  made for version 2");
-        let mut numbers: Vec<u64> = self.numbers.keys().map(|(n, _)| *n).collect();
-        numbers.dedup();
-        for n in numbers {
-            let of = |version| self.numbers.get(&(n, version)).copied().unwrap_or(0);
-            println!(
-                "{n:>6} {:>19} {:>19}  {}",
-                of(1),
-                of(2),
-                if n == 0 {
-                    "accepted"
-                } else {
-                    number_name(n as u32)
-                }
-            );
+        println!("              all files            without damage");
+        println!("number   version 1   version 2   version 1   version 2");
+        for (n, [a, b, c, d]) in &self.numbers {
+            let name = if *n == 0 {
+                "accepted"
+            } else {
+                number_name(*n as u32)
+            };
+            println!("{n:>6} {a:>11} {b:>11} {c:>11} {d:>11}  {name}");
         }
         for version in 0..2 {
+            let of = |n| self.numbers.get(n).map_or(0, |row| row[2 + version]);
+            let sound: u64 = self.numbers.keys().map(of).sum();
             println!(
-                "version {}: {} files without damage, {} of them accepted ({:.0} %); read-only bytes copied {}, borrowed {}",
+                "version {}: {} of {sound} files without damage are accepted ({:.0} %); read-only bytes of all accepted: copied {}, borrowed {}",
                 version + 1,
-                self.sound[version],
-                self.sound_accepted[version],
-                100.0 * self.sound_accepted[version] as f64 / self.sound[version].max(1) as f64,
+                of(&0),
+                100.0 * of(&0) as f64 / sound.max(1) as f64,
                 self.copied[version],
                 self.borrowed[version]
             );
@@ -157,17 +147,20 @@ impl Counts {
             .filter(|n| *n != 5)
             .chain(20..=34)
             .chain(40..=43)
-            .filter(|n| !self.numbers.keys().any(|(m, _)| m == n))
+            .filter(|n| !self.numbers.contains_key(n))
             .collect();
         if missing.is_empty() && self.text_aborts > 0 {
             println!("every number that a load or its text part can give came");
         } else {
-            println!("never came: {missing:?}");
+            println!(
+                "never came: {missing:?}, 44 came {} times",
+                self.text_aborts
+            );
         }
     }
 }
 
-/// Whether `expected` can be asked at all: it needs no port.
+/// What is expected, counted. Needs no port.
 pub fn expect(case: &Case, counts: &mut Counts) -> Result<Expected, String> {
     let e = expected(case)?;
     counts.count(case, &e);

@@ -49,7 +49,12 @@ fn compare(ask: Ask, cases: u64, seed: u64, first: u64) {
                 differences += 1;
                 println!("DIFFERENCE in case {number} of seed {seed}: {text}");
                 let again = |c: &Case| Comparer::new().reader(c);
-                tell(&case, shrink(&case), &again, &format!("difference-{seed}-{number}"));
+                tell(
+                    &case,
+                    shrink(&case),
+                    &again,
+                    &format!("difference-{seed}-{number}"),
+                );
             }
         }
         let load = |c: &Case, counts: &mut loads::Counts| {
@@ -65,7 +70,12 @@ fn compare(ask: Ask, cases: u64, seed: u64, first: u64) {
                 println!("DIFFERENCE in the load of case {number} of seed {seed}: {text}");
                 let again = |c: &Case| load(c, &mut loads::Counts::default());
                 let small = loads::shrink(&case, &|c| again(c).is_err());
-                tell(&case, small, &again, &format!("difference-load-{seed}-{number}"));
+                tell(
+                    &case,
+                    small,
+                    &again,
+                    &format!("difference-load-{seed}-{number}"),
+                );
             }
         }
         if differences >= MOST_DIFFERENCES {

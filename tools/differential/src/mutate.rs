@@ -74,9 +74,7 @@ fn tables(file: &[u8]) -> Vec<(u64, u64, u64, &'static [(u64, usize)])> {
             2 | 11 => all.push((at, 24, size / 24, SYM)),
             6 => all.push((at, 16, size / 16, DYN)),
             9 => all.push((at, 16, size / 16, REL)),
-            1 if get(file, header.wrapping_add(8), 8) & 4 != 0 => {
-                all.push((at, 8, size / 8, SLOT))
-            }
+            1 if get(file, header.wrapping_add(8), 8) & 4 != 0 => all.push((at, 8, size / 8, SLOT)),
             _ => {}
         }
     }
@@ -88,7 +86,17 @@ fn tables(file: &[u8]) -> Vec<(u64, u64, u64, &'static [(u64, usize)])> {
 fn value(r: &mut Random, file: &[u8], old: u64) -> u64 {
     let len = file.len() as u64;
     match r.below(13) {
-        12 => r.pick(&[0x85, 0x18, 0x10, 0x12, 10, u32::MAX as u64, 0x8000_0000, 9, 0x20]),
+        12 => r.pick(&[
+            0x85,
+            0x18,
+            0x10,
+            0x12,
+            10,
+            u32::MAX as u64,
+            0x8000_0000,
+            9,
+            0x20,
+        ]),
         0 => old.wrapping_add(r.pick(&[1, 8, 16, 56, 64, 24, 4])),
         1 => old.wrapping_sub(r.pick(&[1, 8, 16, 56, 64, 24, 4])),
         2 => r.pick(&[0, 1, 2, 3, 6, 8, 11]),
