@@ -147,7 +147,7 @@ impl Case {
             // zeros behind a file change nothing, up to the longest
             if r.one_in(40_000) {
                 file.resize(LONGEST + 1 + r.below(2) as usize, 0);
-            } else if r.one_in(2_000_000) {
+            } else if r.one_in(500_000) {
                 file.resize(LONGEST, 0);
             }
         }

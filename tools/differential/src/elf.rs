@@ -259,6 +259,18 @@ fn uneven(r: &mut Random) -> usize {
     }
 }
 
+/// A program header.
+fn header(bytes: &mut [u8], at: u64, kind: u64, from: u64, vaddr: u64, size: u64, memory: u64) {
+    put(bytes, at, kind, 4);
+    put(bytes, at + 4, 5, 4);
+    put(bytes, at + 8, from, 8);
+    put(bytes, at + 16, vaddr, 8);
+    put(bytes, at + 24, vaddr, 8);
+    put(bytes, at + 32, size, 8);
+    put(bytes, at + 40, memory, 8);
+    put(bytes, at + 48, 8, 8);
+}
+
 /// Where the file stands in memory: what is added to file offsets.
 #[derive(Clone, Copy)]
 enum Base {
@@ -285,6 +297,8 @@ pub fn file(r: &mut Random, style: Style) -> Made {
     let base = match (version2, moved) {
         (true, false) => Base::At(PROGRAM_START),
         (false, false) => Base::At(0),
+        // the text's last address is the last of all
+        _ if moved && r.one_in(12) => Base::TextEnds(r.pick(&[0, u64::MAX, 1])),
         (true, true) => match r.below(6) {
             0 => Base::At(0),
             1 => Base::At(STACK_START - 0x400 - 8 * r.below(64)),
@@ -468,7 +482,11 @@ pub fn file(r: &mut Random, style: Style) -> Made {
     sections[shstrndx].data = table;
 
     // where they stand
+    // program headers over one another that map the text differently: which of them version 2's
+    // relocations use depends on the one used before
+    let quilt = plan.version2 && plan.relocations > 0 && r.one_in(5);
     let ph_count = match r.below(10) {
+        _ if quilt => 4,
         // version 2 needs them for every relocation
         0 if !plan.version2 || r.odd(2) => 0,
         1 if !plan.version2 => 0,
@@ -543,6 +561,18 @@ pub fn file(r: &mut Random, style: Style) -> Made {
             s.addr = text_addr;
         }
     }
+    if moved && r.one_in(6) {
+        // one so far behind the others that a copy of all just has the file's length, or just not
+        let parts: Vec<usize> = (0..sections.len())
+            .filter(|k| READ_ONLY.contains(&sections[*k].name))
+            .collect();
+        let last = r.pick(&parts);
+        let others = parts.iter().filter(|k| **k != last);
+        let lowest = others.map(|k| sections[*k].addr).min().unwrap_or(0);
+        let lowest = if r.one_in(3) { 0 } else { lowest };
+        let end = lowest.wrapping_add(len).wrapping_add(r.pick(&[0, 0, 1]));
+        sections[last].addr = end.wrapping_sub(sections[last].size());
+    }
 
     // what the tables hold
     let find = |sections: &[Section], name: &[u8]| sections.iter().position(|s| s.name == name);
@@ -595,6 +625,8 @@ pub fn file(r: &mut Random, style: Style) -> Made {
             };
             last = place;
             let r_offset = match () {
+                // where the last header of a quilt lies
+                _ if quilt && r.odd(12) => u64::MAX - r.pick(&[0, 0, 1, 1, 8, 16]),
                 _ if r.odd(30) => r.pick(&[u64::MAX, u64::MAX - 1, 0, len]),
                 _ if plan.version2 => place.wrapping_add(base),
                 _ => place,
@@ -661,7 +693,8 @@ pub fn file(r: &mut Random, style: Style) -> Made {
     put(&mut bytes, 18, r.pick(&[247, 263]), 2);
     put(&mut bytes, 20, 1, 4);
     let entry = match r.odd(5) {
-        true => match r.below(3) {
+        true => match r.below(4) {
+            3 => text_addr.wrapping_add(text_size).wrapping_sub(1),
             0 => text_addr.wrapping_add(text_size),
             1 => text_addr.wrapping_add(r.below(text_size + 1)),
             _ => text_addr.wrapping_sub(1),
@@ -696,6 +729,31 @@ pub fn file(r: &mut Random, style: Style) -> Made {
     let mut vaddrs = Vec::new();
     for k in 0..ph_count {
         let at = phoff + 56 * k;
+        if quilt {
+            // the first two cover parts of the text that overlap, from elsewhere in the file; then
+            // all of the file; then the end of all addresses. Only one is loaded, so that no order
+            // is asked for.
+            let third = text_size / 24 * 8;
+            let shift = |r: &mut Random, from: u64| match () {
+                _ if r.odd(8) => u64::MAX - r.below(16),
+                _ => from.wrapping_add(r.pick(&[0, 8, 16, 0u64.wrapping_sub(8)])),
+            };
+            let (kind, from, vaddr, memory) = match k {
+                0 => (6, shift(r, text_at), base.wrapping_add(text_at), 2 * third),
+                1 => {
+                    let at = text_at + third;
+                    (6, shift(r, at), base.wrapping_add(at), text_size - third)
+                }
+                2 => (1, 0, base, len),
+                _ => {
+                    let before = 8 * r.range(1, 3);
+                    let memory = r.pick(&[u64::MAX, before + 1, before, before - 1]);
+                    (6, text_at, u64::MAX - before, memory)
+                }
+            };
+            header(&mut bytes, at, kind, from, vaddr, memory.min(len), memory);
+            continue;
+        }
         let is_dynamic = dynamic_at.is_some() && r.one_in(4);
         let (kind, from, size) = if is_dynamic {
             let s = &sections[dynamic_at.unwrap()];
@@ -741,16 +799,9 @@ pub fn file(r: &mut Random, style: Style) -> Made {
         } else {
             size
         };
-        put(&mut bytes, at, kind, 4);
-        put(&mut bytes, at + 4, 5, 4);
-        put(&mut bytes, at + 8, from, 8);
-        put(&mut bytes, at + 16, vaddr, 8);
-        put(&mut bytes, at + 24, vaddr, 8);
-        put(&mut bytes, at + 32, size, 8);
-        put(&mut bytes, at + 40, memory, 8);
-        put(&mut bytes, at + 48, 8, 8);
+        header(&mut bytes, at, kind, from, vaddr, size, memory);
     }
-    if !r.odd(10) {
+    if !quilt && !r.odd(10) {
         // ascending, as the checks ask for
         let mut order: Vec<usize> = (0..ph_count as usize).collect();
         order.sort_by_key(|k| vaddrs[*k]);

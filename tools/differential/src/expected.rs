@@ -4,6 +4,7 @@
 use crate::{
     cases::Case,
     compare::Placed,
+    elf::STACK_START,
     model::{self, Stop},
     outcome::{self, Text},
     port::{Columns, WORDS},
@@ -115,9 +116,18 @@ pub fn expected(case: &Case) -> Result<Expected, String> {
             if !rows.eq(m.rows.iter().map(|(k, r)| (*k, r.index, r.name(file)))) {
                 return wrong("other rows");
             }
-            if let Text::Part { vaddr, ref bytes } = a.text {
-                if vaddr != m.text_addr || bytes.len() as u64 != m.text_length {
-                    return wrong("another text");
+            match a.text {
+                Text::Part { vaddr, ref bytes } => {
+                    if vaddr != m.text_addr || bytes.len() as u64 != m.text_length {
+                        return wrong("another text");
+                    }
+                }
+                // document 01: version 1, lowest address 0x100000000
+                Text::Aborted => {
+                    let lowest = a.ro.copied && a.ro.addr_offset == 0 && case.settings.optimize;
+                    if m.version2 || m.text_addr != STACK_START || !lowest {
+                        return wrong("the text part aborts elsewhere");
+                    }
                 }
             }
             Some(a)

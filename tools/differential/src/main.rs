@@ -44,7 +44,11 @@ fn compare(ask: Ask, cases: u64, seed: u64, first: u64) {
             let result = both
                 .reader(&case)
                 .and_then(|()| both.hashes(&mut r))
-                .and_then(|()| both.lookup(&mut r, case.room));
+                .and_then(|()| both.lookup(&mut r, case.room))
+                .and_then(|()| match port::HAS_TEXT_PLACE {
+                    true => both.text_place(&mut r, case.room),
+                    false => Ok(()),
+                });
             if let Err(text) = result {
                 differences += 1;
                 println!("DIFFERENCE in case {number} of seed {seed}: {text}");

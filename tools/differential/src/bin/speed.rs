@@ -132,7 +132,7 @@ fn row(size: usize, functions: usize, version2: bool, labels: bool, rounds: usiz
         ("".into(), "".into(), "".into())
     };
     println!(
-        "| {name} | {functions} | {} | {} | {} | {} | {rust:.1} | {} | {} | {copies:.1} | {} |",
+        "| {name} | {functions} | {} | {} | {} | {} | {rust:.1} | {} | {} | {copies:.2} | {} |",
         1 + version2 as u32,
         if labels { "on" } else { "off" },
         e.words[6],
