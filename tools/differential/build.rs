@@ -32,9 +32,16 @@ fn main() {
     println!("cargo:rustc-cfg=port");
     let bytes = fs::read(&archive).expect("a library that can be read");
     for (symbol, cfg) in [("sbpf_load", "load"), ("sbpf_text_place", "text_place")] {
-        // a name in a symbol table has a zero byte on both sides
-        let name = format!("\0{symbol}\0");
-        if bytes.windows(name.len()).any(|w| w == name.as_bytes()) {
+        // the whole name, as symbol tables hold it: with a zero byte behind, and nothing of a
+        // longer name before
+        let name = format!("{symbol}\0");
+        let within = |b: &u8| b.is_ascii_alphanumeric() || *b == b'_';
+        let whole = |at: usize| at == 0 || !within(&bytes[at - 1]);
+        let found = bytes
+            .windows(name.len())
+            .enumerate()
+            .any(|(at, w)| w == name.as_bytes() && whole(at));
+        if found {
             println!("cargo:rustc-cfg={cfg}");
         }
     }
