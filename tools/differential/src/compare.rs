@@ -2,6 +2,7 @@
 
 use crate::{
     cases::Case,
+    elf::{PROGRAM_START, STACK_START},
     outcome::{self, parser_refusal, Refused},
     port::{self, Answer, Columns, Question, WORDS},
     random::Random,
@@ -52,7 +53,7 @@ impl Placed {
 }
 
 /// What the lent words must hold: the words, as many as there is room for, and zeros behind them.
-fn written(words: &[u64], room: usize) -> Vec<u64> {
+pub fn written(words: &[u64], room: usize) -> Vec<u64> {
     let mut all = vec![0; room];
     for (to, from) in all.iter_mut().zip(words) {
         *to = *from;
@@ -355,6 +356,32 @@ impl Comparer {
             }
         }
         Ok(())
+    }
+
+    /// The text part of answers that no load made.
+    pub fn text_place(&mut self, r: &mut Random, room: usize) -> Result<(), String> {
+        let mut number = || match r.below(4) {
+            0 => r.pick(&[PROGRAM_START, STACK_START, 0, u64::MAX, 1 << 63]),
+            1 => PROGRAM_START.wrapping_add(r.below(64)),
+            2 => 0u64.wrapping_sub(r.below(64)),
+            _ => r.below(64),
+        };
+        let [lent, offset, start, n, addr, size] = std::array::from_fn(|_| number());
+        let at = addr.saturating_sub(PROGRAM_START).saturating_sub(offset);
+        let mut words = [0; WORDS];
+        if start as u128 + n as u128 > lent as u128 || at as u128 + size as u128 > n as u128 {
+            words[0] = 44;
+        } else {
+            words[4] = start + at;
+            words[5] = size;
+        }
+        self.count("text place", words[0] as u32);
+        same(
+            &format!("text place of {lent} {offset} {start} {n} {addr} {size}"),
+            &port::text_place(lent, offset, start, n, addr, size, room),
+            words,
+            room,
+        )
     }
 
     /// A lookup in five columns of any lengths and contents, against a plain scan.

@@ -18,6 +18,7 @@ const SHT_DYNSYM: u32 = 11;
 /// Names of symbols. Built-ins are drawn from them too.
 pub const SYMBOLS: &[&[u8]] = &[
     b"entrypoint",
+    b"entrypoint",
     b"",
     b"sol_log_",
     b"abort",
@@ -25,12 +26,17 @@ pub const SYMBOLS: &[&[u8]] = &[
     b"function_foo",
     b"main",
     b"entrypoint2",
+    b"entrypoin",
+    b"function_1",
     b"not \xff utf8 \xc3",
     b"this_name_has_exactly_sixty_three_bytes_which_is_the_longest_ok",
     b"this_name_has_exactly_sixty_four_bytes_and_that_is_one_too_many.",
     b"this_name_is_far_too_long_for_the_reader_that_stops_after_sixty_four_bytes",
     b"bad \xe2\x82 at sixty-four bytes and more so that it is refused as text \xf0\x9f",
 ];
+
+/// So many of them, the last, are too long.
+const TOO_LONG: usize = 3;
 
 /// Names of further sections: longest, too long, not UTF-8, near those that the load knows.
 const SECTION_NAMES: &[&[u8]] = &[
@@ -54,6 +60,9 @@ const SECTION_NAMES: &[&[u8]] = &[
     b".eh_frame",
     b"",
 ];
+
+/// What a load puts together for the machine.
+const READ_ONLY: &[&[u8]] = &[b".text", b".rodata", b".data.rel.ro", b".eh_frame"];
 
 struct Section {
     name: &'static [u8],
@@ -96,6 +105,14 @@ fn put(bytes: &mut [u8], at: u64, value: u64, width: usize) {
     bytes[at as usize..at as usize + width].copy_from_slice(&value.to_le_bytes()[..width]);
 }
 
+/// The name of a symbol, seldom one that is too long to be read.
+fn symbol_name(r: &mut Random) -> &'static [u8] {
+    if r.odd(4) {
+        return r.pick(SYMBOLS);
+    }
+    r.pick(&SYMBOLS[..SYMBOLS.len() - TOO_LONG])
+}
+
 /// A table of names, each with its zero byte, and where each starts.
 fn strings(r: &mut Random, names: &[&[u8]]) -> (Vec<u8>, Vec<u32>) {
     let mut bytes = if r.odd(12) { Vec::new() } else { vec![0] };
@@ -113,36 +130,68 @@ fn strings(r: &mut Random, names: &[&[u8]]) -> (Vec<u8>, Vec<u32>) {
     (bytes, at)
 }
 
-/// Instructions: exits, loads of 64 bits over two slots, calls near and far.
-fn text(r: &mut Random, slots: usize) -> Vec<u8> {
+/// How big the files are.
+#[derive(Clone, Copy, Debug, PartialEq, Eq)]
+pub enum Style {
+    Usual,
+    /// A few hundred bytes, for a sample that is kept.
+    Small,
+    /// More functions than the constant table of keys has.
+    Large,
+}
+
+/// A file, and what is known of it.
+pub struct Made {
+    pub bytes: Vec<u8>,
+    pub version2: bool,
+    /// Sections do not stand at their file offsets, so that version 1 is accepted only where broken
+    /// files are not rejected.
+    pub moved: bool,
+}
+
+/// Instructions: exits, loads of 64 bits over two slots, calls near and far. Also where the loads
+/// stand.
+fn text(r: &mut Random, slots: usize, style: Style) -> (Vec<u8>, Vec<u64>) {
     let mut bytes = Vec::new();
+    let mut loads = Vec::new();
     while bytes.len() < slots * 8 {
         let here = (bytes.len() / 8) as i64;
         let n = slots as i64;
         match r.below(8) {
             0 | 1 => {
-                let target = if r.odd(8) {
+                let target = if r.odd(if style == Style::Large { 2000 } else { 10 }) {
                     r.pick(&[-1, n, n + 1, -2])
                 } else {
                     r.below(slots as u64) as i64
                 };
-                let imm = if r.one_in(5) {
-                    -1
-                } else {
-                    (target - here - 1) as i32
+                let imm = match () {
+                    _ if r.one_in(5) => -1,
+                    _ if r.odd(200) => r.pick(&[i32::MIN, i32::MAX]),
+                    _ => (target - here - 1) as i32,
                 };
                 bytes.extend_from_slice(&[0x85, r.pick(&[0x10, 0x10, 0x00, 0x20]), 0, 0]);
                 bytes.extend_from_slice(&imm.to_le_bytes());
             }
             2 => {
-                let low: u32 = r.pick(&[0, 8, 0x100, 0xffff_fff8, 0x1_0000]);
-                let high: u32 = r.pick(&[0, 0, 1, 2, 0xffff_ffff]);
+                let low: u32 = match r.odd(8) {
+                    true => 0,
+                    false => r.pick(&[8, 0x100, 0xffff_fff8, 0x1_0000, 1]),
+                };
+                let high: u32 = r.pick(&[0, 0, 0, 1, 2, 0xffff_ffff]);
                 bytes.extend_from_slice(&[0x18, 0x01, 0, 0]);
                 bytes.extend_from_slice(&low.to_le_bytes());
                 bytes.extend_from_slice(&[0; 4]);
                 bytes.extend_from_slice(&high.to_le_bytes());
+                loads.push((here * 8) as u64);
             }
-            3 => bytes.extend_from_slice(&r.next().to_le_bytes()),
+            3 => {
+                // anything; a far call by chance is left to the odd calls
+                let mut slot = r.next().to_le_bytes();
+                if slot[0] == 0x85 {
+                    slot[0] = 0x95;
+                }
+                bytes.extend_from_slice(&slot);
+            }
             4 => bytes.extend_from_slice(&[0; 8]),
             _ => bytes.extend_from_slice(&[0x95, 0, 0, 0, 0, 0, 0, 0]),
         }
@@ -153,13 +202,12 @@ fn text(r: &mut Random, slots: usize) -> Vec<u8> {
         let more = r.range(1, 7) as usize;
         bytes.resize(bytes.len() + more, 0x85);
     }
-    bytes
+    (bytes, loads)
 }
 
 /// What is drawn for the whole file.
 struct Plan {
     version2: bool,
-    base: u64,
     symbols: usize,
     relocations: usize,
 }
@@ -211,53 +259,91 @@ fn uneven(r: &mut Random) -> usize {
     }
 }
 
+/// A program header.
+fn header(bytes: &mut [u8], at: u64, kind: u64, from: u64, vaddr: u64, size: u64, memory: u64) {
+    put(bytes, at, kind, 4);
+    put(bytes, at + 4, 5, 4);
+    put(bytes, at + 8, from, 8);
+    put(bytes, at + 16, vaddr, 8);
+    put(bytes, at + 24, vaddr, 8);
+    put(bytes, at + 32, size, 8);
+    put(bytes, at + 40, memory, 8);
+    put(bytes, at + 48, 8, 8);
+}
+
+/// Where the file stands in memory: what is added to file offsets.
+#[derive(Clone, Copy)]
+enum Base {
+    At(u64),
+    /// So that the text starts here.
+    TextStarts(u64),
+    /// So that the text ends here.
+    TextEnds(u64),
+}
+
 /// One file.
-pub fn file(r: &mut Random) -> Vec<u8> {
-    r.sober = r.pick(&[1, 1, 4, 16, 0]);
+pub fn file(r: &mut Random, style: Style) -> Made {
+    r.sober = r.pick(&[1, 2, 4, 16, 0]);
     let version2 = r.one_in(2);
-    let slots = match () {
+    let slots = match style {
         _ if r.odd(12) => r.range(0, 1),
+        Style::Small => r.range(1, 8),
+        Style::Large => r.range(900, 1500),
         _ if r.one_in(12) => r.range(16, 40),
         _ => r.range(2, 12),
     } as usize;
-    let base = match (version2, r.odd(3)) {
-        (true, false) => PROGRAM_START,
-        (false, false) => 0,
-        (true, true) => match r.below(4) {
-            0 => 0,
-            1 => STACK_START - 0x400 - 8 * r.below(64),
-            2 => r.pick(&[8, PROGRAM_START - 0x200, PROGRAM_START / 2]),
-            _ => r.pick(&[0u64.wrapping_sub(0x1000), 0u64.wrapping_sub(0x200), 1 << 40]),
+    let moved = r.odd(4);
+    let nudge = r.pick(&[0, 0, 1, 8, 0u64.wrapping_sub(1), 0u64.wrapping_sub(8)]);
+    let base = match (version2, moved) {
+        (true, false) => Base::At(PROGRAM_START),
+        (false, false) => Base::At(0),
+        // the text's last address is the last of all
+        _ if moved && r.one_in(12) => Base::TextEnds(r.pick(&[0, u64::MAX, 1])),
+        (true, true) => match r.below(6) {
+            0 => Base::At(0),
+            1 => Base::At(STACK_START - 0x400 - 8 * r.below(64)),
+            2 => Base::At(r.pick(&[8, PROGRAM_START - 0x200, PROGRAM_START / 2])),
+            3 => Base::TextEnds(STACK_START.wrapping_add(nudge)),
+            4 => Base::TextStarts(PROGRAM_START.wrapping_add(nudge)),
+            _ => Base::At(r.pick(&[0u64.wrapping_sub(0x1000), 0u64.wrapping_sub(0x200), 1 << 40])),
         },
-        (false, true) => match r.below(3) {
-            0 => r.pick(&[0x1000, 8, 1]),
-            1 => PROGRAM_START - 8 * r.below(64),
-            _ => r.pick(&[PROGRAM_START, STACK_START, 0u64.wrapping_sub(0x400)]),
+        (false, true) => match r.below(6) {
+            0 | 1 => Base::At(r.pick(&[0x1000, 8, 1])),
+            2 => Base::At(PROGRAM_START - 8 * r.below(64)),
+            3 | 4 => Base::TextStarts(PROGRAM_START.wrapping_add(nudge)),
+            _ => Base::At(r.pick(&[PROGRAM_START, STACK_START, 0u64.wrapping_sub(0x400)])),
         },
     };
     let plan = Plan {
         version2,
-        base,
-        symbols: r.range(0, 6) as usize,
-        relocations: if r.one_in(4) {
-            0
-        } else {
-            r.range(1, 7) as usize
-        },
+        symbols: match style {
+            _ if r.odd(8) => 0,
+            Style::Large => r.range(1, 400),
+            Style::Small => r.range(1, 3),
+            Style::Usual => r.range(1, 6),
+        } as usize,
+        relocations: match style {
+            _ if r.one_in(4) => 0,
+            Style::Large => r.range(1, 400),
+            Style::Small => r.range(1, 2),
+            Style::Usual => r.range(1, 7),
+        } as usize,
     };
 
     // the sections, in the order of the file
     let mut sections = vec![section(b"", SHT_NULL, 0, Vec::new())];
     let alloc = 2;
-    let mut parts = vec![section(b".text", SHT_PROGBITS, alloc | 4, text(r, slots))];
+    let (code, loads) = text(r, slots, style);
+    let mut parts = vec![section(b".text", SHT_PROGBITS, alloc | 4, code)];
     if r.odd(16) {
         parts[0].kind = SHT_NOBITS;
         parts[0].nobits = parts[0].data.len() as u64;
         parts[0].data.clear();
     }
     for name in [&b".rodata"[..], b".data.rel.ro", b".eh_frame"] {
-        if r.one_in(3) {
-            let n = r.range(0, 6) * 8 + if r.one_in(6) { r.below(8) } else { 0 };
+        if r.one_in(if style == Style::Small { 10 } else { 3 }) {
+            let most = if style == Style::Small { 2 } else { 6 };
+            let n = r.range(0, most) * 8 + if r.one_in(6) { r.below(8) } else { 0 };
             let mut data: Vec<u8> = (0..n)
                 .map(|_| r.pick(&[0, 0, 0, 1, 8, 0x10, 0xff]))
                 .collect();
@@ -265,7 +351,19 @@ pub fn file(r: &mut Random) -> Vec<u8> {
                 data.resize(n as usize + 8, 0);
             }
             parts.push(section(name, SHT_PROGBITS, alloc, data));
+            if r.odd(16) {
+                let last = parts.last_mut().unwrap();
+                last.kind = SHT_NOBITS;
+                last.nobits = last.data.len() as u64;
+                last.data.clear();
+            }
         }
+    }
+    if r.one_in(8) {
+        // between the read-only ones it makes version 1 copy them
+        let name = r.pick(&[&b".comment"[..], b".note", b".data.rel", b".data.rel.rox"]);
+        let flags = if r.one_in(2) { alloc } else { 0 };
+        parts.push(section(name, SHT_PROGBITS, flags, vec![9; 8]));
     }
     if r.odd(10) {
         let writable = r.pick(&[2, 3]);
@@ -282,17 +380,26 @@ pub fn file(r: &mut Random) -> Vec<u8> {
         let (a, b) = (r.index(parts.len()), r.index(parts.len()));
         parts.swap(a, b);
     }
-    let dynamic = !r.one_in(6);
+    let dynamic = !r.one_in(if style == Style::Small { 2 } else { 6 });
     let mut dynamic_names = Vec::new();
+    let most_names = if style == Style::Small { 1 } else { 4 };
     if dynamic {
-        let names: Vec<&[u8]> = (0..r.range(1, 5)).map(|_| r.pick(SYMBOLS)).collect();
+        let names: Vec<&[u8]> = (0..r.range(1, most_names + 1))
+            .map(|_| symbol_name(r))
+            .collect();
         let (table, at) = strings(r, &names);
         dynamic_names = at;
         parts.push(section(
             b".dynamic",
             SHT_DYNAMIC,
             alloc | 1,
-            vec![0; 16 * r.range(6, 9) as usize],
+            vec![
+                0;
+                16 * match style {
+                    Style::Small => r.range(4, 5),
+                    _ => r.range(6, 9),
+                } as usize
+            ],
         ));
         parts.push(section(
             b".dynsym",
@@ -314,13 +421,16 @@ pub fn file(r: &mut Random) -> Vec<u8> {
         }
     }
     let mut label_names = Vec::new();
-    let labels = if r.one_in(2) {
-        r.range(0, 5) as usize
-    } else {
-        0
-    };
-    if r.one_in(2) {
-        let names: Vec<&[u8]> = (0..r.range(1, 4)).map(|_| r.pick(SYMBOLS)).collect();
+    let labels = match style {
+        _ if r.one_in(2) => 0,
+        Style::Large => r.range(0, 1200),
+        Style::Small => r.range(0, 2),
+        Style::Usual => r.range(0, 5),
+    } as usize;
+    if r.one_in(if style == Style::Small { 4 } else { 2 }) {
+        let names: Vec<&[u8]> = (0..r.range(1, most_names))
+            .map(|_| symbol_name(r))
+            .collect();
         let (table, at) = strings(r, &names);
         label_names = at;
         let kind = if r.odd(4) {
@@ -372,9 +482,22 @@ pub fn file(r: &mut Random) -> Vec<u8> {
     sections[shstrndx].data = table;
 
     // where they stand
+    // program headers over one another that map the text differently: which of them version 2's
+    // relocations use depends on the one used before
+    let quilt = plan.version2 && plan.relocations > 0 && r.one_in(5);
     let ph_count = match r.below(10) {
-        0 | 1 => 0,
-        2 => r.range(8, 11),
+        _ if quilt => 4,
+        // version 2 needs them for every relocation
+        0 if !plan.version2 || r.odd(2) => 0,
+        1 if !plan.version2 => 0,
+        2 if style != Style::Small => {
+            if r.odd(2) {
+                r.range(10, 11)
+            } else {
+                r.range(8, 9)
+            }
+        }
+        _ if style == Style::Small => r.range(0, 1) + plan.version2 as u64,
         _ => r.range(1, 4),
     };
     let ph_first = !r.one_in(5);
@@ -399,10 +522,6 @@ pub fn file(r: &mut Random) -> Vec<u8> {
         if s.kind != SHT_NOBITS {
             at += s.data.len() as u64;
         }
-        s.addr = plan.base.wrapping_add(s.at);
-        if r.odd(15) {
-            s.addr = r.pick(&[s.at, s.addr.wrapping_add(8), s.addr.wrapping_sub(1), 0]);
-        }
     }
     if !ph_first {
         at = up(at, if r.odd(20) { 1 } else { 8 });
@@ -415,6 +534,45 @@ pub fn file(r: &mut Random) -> Vec<u8> {
         at += 64 * sections.len() as u64;
     }
     let len = at + if r.one_in(10) { r.below(40) } else { 0 };
+
+    // and in memory
+    let text_part = sections.iter().find(|s| s.name == b".text").unwrap();
+    let base = match base {
+        Base::At(base) => base,
+        Base::TextStarts(addr) => addr.wrapping_sub(text_part.at),
+        Base::TextEnds(addr) => addr.wrapping_sub(text_part.at + text_part.size()),
+    };
+    // read-only sections anywhere, over one another too: a later copy overwrites
+    let scattered = moved && r.one_in(3);
+    let stacked = moved && r.one_in(4);
+    let text_addr = base.wrapping_add(text_part.at);
+    for s in sections.iter_mut() {
+        if s.kind == SHT_NULL && s.at == 0 {
+            continue;
+        }
+        s.addr = base.wrapping_add(s.at);
+        if r.odd(20) {
+            s.addr = r.pick(&[s.at, s.addr.wrapping_add(8), s.addr.wrapping_sub(1), 0]);
+        }
+        if scattered && READ_ONLY.contains(&s.name) {
+            s.addr = base.wrapping_add(r.below(len));
+        }
+        if stacked && READ_ONLY.contains(&s.name) {
+            s.addr = text_addr;
+        }
+    }
+    if moved && r.one_in(6) {
+        // one so far behind the others that a copy of all just has the file's length, or just not
+        let parts: Vec<usize> = (0..sections.len())
+            .filter(|k| READ_ONLY.contains(&sections[*k].name))
+            .collect();
+        let last = r.pick(&parts);
+        let others = parts.iter().filter(|k| **k != last);
+        let lowest = others.map(|k| sections[*k].addr).min().unwrap_or(0);
+        let lowest = if r.one_in(3) { 0 } else { lowest };
+        let end = lowest.wrapping_add(len).wrapping_add(r.pick(&[0, 0, 1]));
+        sections[last].addr = end.wrapping_sub(sections[last].size());
+    }
 
     // what the tables hold
     let find = |sections: &[Section], name: &[u8]| sections.iter().position(|s| s.name == name);
@@ -449,24 +607,29 @@ pub fn file(r: &mut Random) -> Vec<u8> {
             .unwrap_or(text_index);
         let mut last = text_at;
         for _ in 0..plan.relocations {
+            let kind = if r.odd(24) {
+                r.pick(&[0, 2, 9, 11, 0xffff_ffff])
+            } else {
+                r.pick(&[1, 8, 10])
+            };
             let place = match r.below(12) {
-                _ if r.odd(8) => r.below(len + 16),
-                _ if r.odd(8) => text_at + text_size - text_size.min(r.range(1, 16)),
+                _ if r.odd(10) => r.below(len + 16),
+                _ if r.odd(10) => text_at + text_size - text_size.min(r.range(1, 16)),
                 0 => last,
                 1 => last + r.pick(&[4, 8, 1, 12]),
                 2 | 3 | 4 => sections[data].at + 8 * r.below((sections[data].size() / 8).max(1)),
+                // a load whose halves are not both 0, so that type 8 has something to place
+                _ if kind == 8 && !loads.is_empty() => text_at + r.pick(&loads),
+                _ if kind == 8 && data != text_index => sections[data].at,
                 _ => text_at + 8 * r.below((text_size / 8).max(1)),
             };
             last = place;
             let r_offset = match () {
+                // where the last header of a quilt lies
+                _ if quilt && r.odd(12) => u64::MAX - r.pick(&[0, 0, 1, 1, 8, 16]),
                 _ if r.odd(30) => r.pick(&[u64::MAX, u64::MAX - 1, 0, len]),
-                _ if plan.version2 => place.wrapping_add(plan.base),
+                _ if plan.version2 => place.wrapping_add(base),
                 _ => place,
-            };
-            let kind = if r.odd(20) {
-                r.pick(&[0, 2, 9, 11, 0xffff_ffff])
-            } else {
-                r.pick(&[1, 8, 10])
             };
             let symbol = if r.odd(12) {
                 r.pick(&[plan.symbols as u64, u32::MAX as u64])
@@ -530,7 +693,8 @@ pub fn file(r: &mut Random) -> Vec<u8> {
     put(&mut bytes, 18, r.pick(&[247, 263]), 2);
     put(&mut bytes, 20, 1, 4);
     let entry = match r.odd(5) {
-        true => match r.below(3) {
+        true => match r.below(4) {
+            3 => text_addr.wrapping_add(text_size).wrapping_sub(1),
             0 => text_addr.wrapping_add(text_size),
             1 => text_addr.wrapping_add(r.below(text_size + 1)),
             _ => text_addr.wrapping_sub(1),
@@ -565,6 +729,31 @@ pub fn file(r: &mut Random) -> Vec<u8> {
     let mut vaddrs = Vec::new();
     for k in 0..ph_count {
         let at = phoff + 56 * k;
+        if quilt {
+            // the first two cover parts of the text that overlap, from elsewhere in the file; then
+            // all of the file; then the end of all addresses. Only one is loaded, so that no order
+            // is asked for.
+            let third = text_size / 24 * 8;
+            let shift = |r: &mut Random, from: u64| match () {
+                _ if r.odd(8) => u64::MAX - r.below(16),
+                _ => from.wrapping_add(r.pick(&[0, 8, 16, 0u64.wrapping_sub(8)])),
+            };
+            let (kind, from, vaddr, memory) = match k {
+                0 => (6, shift(r, text_at), base.wrapping_add(text_at), 2 * third),
+                1 => {
+                    let at = text_at + third;
+                    (6, shift(r, at), base.wrapping_add(at), text_size - third)
+                }
+                2 => (1, 0, base, len),
+                _ => {
+                    let before = 8 * r.range(1, 3);
+                    let memory = r.pick(&[u64::MAX, before + 1, before, before - 1]);
+                    (6, text_at, u64::MAX - before, memory)
+                }
+            };
+            header(&mut bytes, at, kind, from, vaddr, memory.min(len), memory);
+            continue;
+        }
         let is_dynamic = dynamic_at.is_some() && r.one_in(4);
         let (kind, from, size) = if is_dynamic {
             let s = &sections[dynamic_at.unwrap()];
@@ -587,9 +776,22 @@ pub fn file(r: &mut Random) -> Vec<u8> {
                 }
             }
         };
-        let mut vaddr = plan.base.wrapping_add(from);
+        let mut vaddr = base.wrapping_add(from);
         if r.odd(15) {
             vaddr = r.pick(&[from, 0, u64::MAX, STACK_START, vaddr.wrapping_add(8)]);
+        }
+        let mut from = from;
+        if k > 0 && r.odd(4) {
+            // over another header, but from elsewhere in the file: which of them is used shows
+            from = match r.below(3) {
+                0 => from.wrapping_add(r.pick(&[8, 16, 24])),
+                1 => from.saturating_sub(r.pick(&[8, 16, 24])),
+                _ if kind == 1 => text_at,
+                _ => u64::MAX - r.below(64),
+            };
+            if kind == 1 {
+                from = from.min(len.saturating_sub(size));
+            }
         }
         vaddrs.push(vaddr);
         let memory = if r.odd(15) {
@@ -597,16 +799,9 @@ pub fn file(r: &mut Random) -> Vec<u8> {
         } else {
             size
         };
-        put(&mut bytes, at, kind, 4);
-        put(&mut bytes, at + 4, 5, 4);
-        put(&mut bytes, at + 8, from, 8);
-        put(&mut bytes, at + 16, vaddr, 8);
-        put(&mut bytes, at + 24, vaddr, 8);
-        put(&mut bytes, at + 32, size, 8);
-        put(&mut bytes, at + 40, memory, 8);
-        put(&mut bytes, at + 48, 8, 8);
+        header(&mut bytes, at, kind, from, vaddr, size, memory);
     }
-    if !r.odd(10) {
+    if !quilt && !r.odd(10) {
         // ascending, as the checks ask for
         let mut order: Vec<usize> = (0..ph_count as usize).collect();
         order.sort_by_key(|k| vaddrs[*k]);
@@ -632,5 +827,9 @@ pub fn file(r: &mut Random) -> Vec<u8> {
             bytes[s.at as usize..s.at as usize + s.data.len()].copy_from_slice(&s.data);
         }
     }
-    bytes
+    Made {
+        bytes,
+        version2,
+        moved,
+    }
 }

@@ -1,10 +1,15 @@
 //! The proved functions and the true Rust, side by side. `outcome` has the true Rust's answers
 //! in document 01's numbers: solana_rbpf 0.8.5, compiled unchanged from DOCS_SRC. `port` calls
-//! the proved functions. `cases` makes the inputs, `compare` asks both.
+//! the proved functions. `cases` makes the inputs, `compare` asks both, and `loads` does for whole
+//! loads, whose answers `expected` has in full.
 
+pub mod bench;
 pub mod cases;
 pub mod compare;
 pub mod elf;
+pub mod expected;
+pub mod loads;
+pub mod model;
 pub mod mutate;
 pub mod outcome;
 pub mod port;

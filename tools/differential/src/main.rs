@@ -1,50 +1,98 @@
-//! differential CASES [SEED [FIRST]]: compares the proved functions with the true Rust.
-//! differential load CASES [SEED]: what the true Rust's load answers to the same cases.
+//! differential CASES [SEED [FIRST]]: compares the proved functions with the true Rust: the readers
+//!     and, where the library has it, the load.
+//! differential readers CASES [SEED [FIRST]], differential loads ..: one of them alone.
+//! differential rust CASES [SEED [FIRST]]: what is expected of a load, without the port: the true
+//!     Rust's answers, and the second telling of document 01 held against them.
 //! differential write CASE FILE [SEED]: the file of a case.
-//! differential FILE..: both answers to files.
+//! differential FILE..: both answers to files, with all settings on and no built-ins.
 
 use differential::{
     cases::Case,
     compare::{shrink, Comparer},
-    number_name, outcome,
+    expected, loads, number_name, outcome, port,
     random::Random,
-    Outcome,
 };
-use std::{collections::BTreeMap, env, fs, process::exit, time::Instant};
+use std::{env, fs, process::exit, time::Instant};
 
 const MOST_DIFFERENCES: usize = 5;
 
-fn compare(cases: u64, seed: u64, first: u64) {
+/// What is asked.
+#[derive(Clone, Copy)]
+struct Ask {
+    readers: bool,
+    /// The answers that a load must give.
+    expect: bool,
+    /// And those of the port.
+    loads: bool,
+}
+
+fn compare(ask: Ask, cases: u64, seed: u64, first: u64) {
+    if (ask.readers && !port::HAS_PORT) || (ask.loads && !port::HAS_LOAD) {
+        eprintln!("the library that this was built with cannot be asked for that (see build.rs)");
+        exit(2);
+    }
     let began = Instant::now();
     let mut both = Comparer::new();
+    let mut counts = loads::Counts::default();
     let mut differences = 0;
+    let mut made = 0;
     for number in first..first + cases {
         let case = Case::new(seed, number);
-        let mut r = Random::new(!seed, number);
-        let result = both
-            .reader(&case)
-            .and_then(|()| both.hashes(&mut r))
-            .and_then(|()| both.lookup(&mut r, case.room));
-        if let Err(text) = result {
-            differences += 1;
-            println!("DIFFERENCE in case {number} of seed {seed}: {text}");
-            tell(&case, &format!("difference-{seed}-{number}"));
-            if differences == MOST_DIFFERENCES {
-                println!("stopped after {MOST_DIFFERENCES} differences");
-                break;
+        made += 1;
+        if ask.readers {
+            let mut r = Random::new(!seed, number);
+            let result = both
+                .reader(&case)
+                .and_then(|()| both.hashes(&mut r))
+                .and_then(|()| both.lookup(&mut r, case.room))
+                .and_then(|()| match port::HAS_TEXT_PLACE {
+                    true => both.text_place(&mut r, case.room),
+                    false => Ok(()),
+                });
+            if let Err(text) = result {
+                differences += 1;
+                println!("DIFFERENCE in case {number} of seed {seed}: {text}");
+                let again = |c: &Case| Comparer::new().reader(c);
+                tell(
+                    &case,
+                    shrink(&case),
+                    &again,
+                    &format!("difference-{seed}-{number}"),
+                );
             }
         }
-        if (number - first + 1) % 1_000_000 == 0 {
-            eprintln!(
-                "{} cases, {:.0} s",
-                number - first + 1,
-                began.elapsed().as_secs_f64()
-            );
+        let load = |c: &Case, counts: &mut loads::Counts| {
+            if ask.loads {
+                loads::compare(c, counts)
+            } else {
+                loads::expect(c, counts).map(|_| ())
+            }
+        };
+        if ask.expect {
+            if let Err(text) = load(&case, &mut counts) {
+                differences += 1;
+                println!("DIFFERENCE in the load of case {number} of seed {seed}: {text}");
+                let again = |c: &Case| load(c, &mut loads::Counts::default());
+                let small = loads::shrink(&case, &|c| again(c).is_err());
+                tell(
+                    &case,
+                    small,
+                    &again,
+                    &format!("difference-load-{seed}-{number}"),
+                );
+            }
+        }
+        if differences >= MOST_DIFFERENCES {
+            println!("stopped after {differences} differences");
+            break;
+        }
+        if made % 1_000_000 == 0 {
+            eprintln!("{made} cases, {:.0} s", began.elapsed().as_secs_f64());
         }
     }
     println!(
         "seed {seed}, cases {first} to {}, {:.0} s",
-        first + cases - 1,
+        first + made - 1,
         began.elapsed().as_secs_f64()
     );
     let mut last = "";
@@ -60,6 +108,17 @@ fn compare(cases: u64, seed: u64, first: u64) {
         };
         println!("  {number:>3} {count:>12}  {name}");
     }
+    if ask.expect {
+        println!(
+            "{}",
+            if ask.loads {
+                "loads, compared"
+            } else {
+                "loads, the Rust alone"
+            }
+        );
+        counts.print();
+    }
     println!("{differences} differences");
     if differences > 0 {
         exit(1);
@@ -67,62 +126,65 @@ fn compare(cases: u64, seed: u64, first: u64) {
 }
 
 /// Writes the file of a case that differs, and the smallest that was found from it.
-fn tell(case: &Case, name: &str) {
+fn tell(case: &Case, small: Case, again: &dyn Fn(&Case) -> Result<(), String>, name: &str) {
     fs::write(format!("{name}.elf"), &case.file).expect("the folder can be written");
-    let small = shrink(case);
-    if let Err(text) = Comparer::new().reader(&small) {
+    about(case);
+    if let Err(text) = again(&small) {
         println!("  smallest found, {} bytes: {text}", small.file.len());
+        about(&small);
         fs::write(format!("{name}-small.elf"), &small.file).expect("the folder can be written");
     }
+    println!("  written to {name}*.elf");
+}
+
+fn about(case: &Case) {
     println!(
-        "  settings {} built-ins {:x?} rows {} room {} shift {} asked {:?}",
+        "  settings {} built-ins {:x?} columns {:?} image {} read-only {} answer {} shift {} asked {:?}",
         case.settings.bits(),
         case.builtins,
-        case.rows,
+        case.columns,
+        case.image,
+        case.ro,
         case.room,
         case.shift,
         case.asked
     );
-    println!("  written to {name}*.elf");
-}
-
-/// What the true Rust's load answers: shows that the cases reach its refusals.
-fn load(cases: u64, seed: u64) {
-    let mut counts: BTreeMap<String, u64> = BTreeMap::new();
-    for number in 0..cases {
-        let case = Case::new(seed, number);
-        let answer = match outcome(&case.file, case.settings, &case.builtins, case.rows) {
-            Outcome::Accepted(a) => format!("accepted, version {}", a.version),
-            Outcome::Refused(r) => format!("{:>2} {}", r.number, number_name(r.number)),
-            Outcome::TableTooSmall { .. } => "accepted, with more rows than lent".to_string(),
-            Outcome::Panicked(text) => format!("panicked: {text}"),
-        };
-        *counts.entry(answer).or_insert(0) += 1;
-    }
-    for (answer, count) in counts {
-        println!("{count:>10}  {answer}");
-    }
 }
 
 fn one(name: &str) {
-    let mut case = Case::new(0, 0);
-    case.file = fs::read(name).expect("a file that can be read");
-    case.room = 16;
-    let mut both = Comparer::new();
-    match both.reader(&case) {
-        Ok(()) => println!(
-            "{name}: same, parse {:?}",
-            both.histogram
-                .keys()
-                .find(|(what, _)| *what == "parse")
-                .unwrap()
-                .1
+    let case = Case::of_file(fs::read(name).expect("a file that can be read"));
+    if port::HAS_PORT {
+        let mut both = Comparer::new();
+        match both.reader(&case) {
+            Ok(()) => println!(
+                "{name}: same, parse {:?}",
+                both.histogram
+                    .keys()
+                    .find(|(what, _)| *what == "parse")
+                    .unwrap()
+                    .1
+            ),
+            Err(text) => println!("{name}: DIFFERENCE {text}"),
+        }
+    }
+    if port::HAS_LOAD {
+        match loads::compare(&case, &mut loads::Counts::default()) {
+            Ok(()) => println!("{name}: same load"),
+            Err(text) => println!("{name}: DIFFERENCE in the load: {text}"),
+        }
+    }
+    match expected::expected(&case) {
+        Ok(e) => println!(
+            "{name}: a load answers {:?}, keys {:x?} of {:?}",
+            e.words,
+            &e.table[0][..e.words[6] as usize],
+            &e.table[1][..e.words[6] as usize]
         ),
-        Err(text) => println!("{name}: DIFFERENCE {text}"),
+        Err(text) => println!("{name}: {text}"),
     }
     println!(
-        "{name}: load {:?}",
-        outcome(&case.file, differential::Settings::ALL_ON, &[], usize::MAX)
+        "{name}: the Rust's load {:?}",
+        outcome(&case.file, case.settings, &case.builtins, usize::MAX)
     );
 }
 
@@ -132,16 +194,36 @@ fn main() {
         args.get(k)
             .map_or(default, |a| a.replace('_', "").parse().expect("a number"))
     };
+    let run = |readers, expect, loads| {
+        let ask = Ask {
+            readers,
+            expect,
+            loads,
+        };
+        compare(ask, number(1, 10_000), number(2, 1), number(3, 0))
+    };
     match args.first().map(String::as_str) {
-        Some("load") => load(number(1, 10_000), number(2, 1)),
+        Some("readers") => run(true, false, false),
+        Some("loads") => run(false, true, true),
+        Some("rust") => run(false, true, false),
         Some("write") => fs::write(&args[2], Case::new(number(3, 1), number(1, 0)).file)
             .expect("a file that can be written"),
         Some(a) if a.starts_with(|c: char| c.is_ascii_digit()) => {
-            compare(number(0, 0), number(1, 1), number(2, 0))
+            if !port::HAS_LOAD {
+                println!("the library has no load: the readers alone are compared");
+            }
+            let ask = Ask {
+                readers: true,
+                expect: port::HAS_LOAD,
+                loads: port::HAS_LOAD,
+            };
+            compare(ask, number(0, 0), number(1, 1), number(2, 0))
         }
         Some(_) => args.iter().for_each(|name| one(name)),
         None => {
-            eprintln!("differential CASES [SEED [FIRST]] | load CASES [SEED] | write CASE FILE [SEED] | FILE..");
+            eprintln!(
+                "differential [readers | loads | rust] CASES [SEED [FIRST]] | write CASE FILE [SEED] | FILE.."
+            );
             exit(2);
         }
     }

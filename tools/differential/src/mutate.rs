@@ -48,7 +48,10 @@ const EHDR: &[(u64, usize)] = &[
 const PHDR: &[(u64, usize)] = &[(0, 4), (8, 8), (16, 8), (32, 8), (40, 8)];
 const SHDR: &[(u64, usize)] = &[(0, 4), (4, 4), (8, 8), (16, 8), (24, 8), (32, 8)];
 const SYM: &[(u64, usize)] = &[(0, 4), (4, 1), (8, 8)];
-const WORDS: &[(u64, usize)] = &[(0, 8), (8, 8)];
+const DYN: &[(u64, usize)] = &[(0, 8), (8, 8)];
+const REL: &[(u64, usize)] = &[(0, 8), (8, 4), (12, 4)];
+/// Opcode, registers and immediate of a slot.
+const SLOT: &[(u64, usize)] = &[(0, 1), (1, 1), (4, 4)];
 
 /// Where the tables of a file stand, as far as its header tells: start, size of an entry, number
 /// of entries, fields.
@@ -69,7 +72,9 @@ fn tables(file: &[u8]) -> Vec<(u64, u64, u64, &'static [(u64, usize)])> {
         );
         match kind {
             2 | 11 => all.push((at, 24, size / 24, SYM)),
-            6 | 9 => all.push((at, 16, size / 16, WORDS)),
+            6 => all.push((at, 16, size / 16, DYN)),
+            9 => all.push((at, 16, size / 16, REL)),
+            1 if get(file, header.wrapping_add(8), 8) & 4 != 0 => all.push((at, 8, size / 8, SLOT)),
             _ => {}
         }
     }
@@ -80,7 +85,18 @@ fn tables(file: &[u8]) -> Vec<(u64, u64, u64, &'static [(u64, usize)])> {
 /// A value near the old one, near a limit, or one that another field has.
 fn value(r: &mut Random, file: &[u8], old: u64) -> u64 {
     let len = file.len() as u64;
-    match r.below(12) {
+    match r.below(13) {
+        12 => r.pick(&[
+            0x85,
+            0x18,
+            0x10,
+            0x12,
+            10,
+            u32::MAX as u64,
+            0x8000_0000,
+            9,
+            0x20,
+        ]),
         0 => old.wrapping_add(r.pick(&[1, 8, 16, 56, 64, 24, 4])),
         1 => old.wrapping_sub(r.pick(&[1, 8, 16, 56, 64, 24, 4])),
         2 => r.pick(&[0, 1, 2, 3, 6, 8, 11]),
@@ -170,8 +186,8 @@ fn change(r: &mut Random, file: &mut Vec<u8>) {
     }
 }
 
-/// No damage, a little, or more.
-pub fn damage(r: &mut Random, file: &mut Vec<u8>) {
+/// No damage, a little, or more; answers whether there is any.
+pub fn damage(r: &mut Random, file: &mut Vec<u8>) -> bool {
     let n = match r.below(10) {
         0..=3 => 0,
         4..=7 => 1,
@@ -184,5 +200,7 @@ pub fn damage(r: &mut Random, file: &mut Vec<u8>) {
     if r.one_in(200) {
         let n = r.index(200);
         *file = (0..n).map(|_| r.next() as u8).collect();
+        return true;
     }
+    n > 0
 }

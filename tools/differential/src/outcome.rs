@@ -143,7 +143,7 @@ pub fn parser_refusal(err: ElfParserError) -> Refused {
     }
 }
 
-fn load_refusal(err: ElfError) -> Refused {
+pub fn load_refusal(err: ElfError) -> Refused {
     let (number, value, name) = match err {
         ElfError::InvalidProgramHeader => (2, 0, None),
         ElfError::EntrypointOutOfBounds => (20, 0, None),

@@ -1,59 +1,96 @@
 //! The proved functions, as the static library exports them.
 
-extern "C" {
+/// Declares functions of the library as C does: each slice is a pointer and its length. Where the
+/// library lacks them (build.rs tells), a call says so instead.
+macro_rules! proved {
+    ($cfg:ident: $(fn $name:ident($($arg:ident: $ty:ty),* $(,)?) -> u32;)*) => {
+        #[cfg($cfg)]
+        extern "C" {
+            $(fn $name($($arg: $ty),*) -> u32;)*
+        }
+        $(
+            #[cfg(not($cfg))]
+            #[allow(clippy::too_many_arguments)]
+            unsafe fn $name($(_: $ty),*) -> u32 {
+                panic!("the library was built without {}", stringify!($name))
+            }
+        )*
+    };
+}
+
+proved! { port:
     fn sbpf_hash(name: *const u8, name_len: usize) -> u32;
     fn sbpf_parse(file: *const u8, file_len: usize, answer: *mut u64, answer_len: usize) -> u32;
     fn sbpf_section_place(
-        file: *const u8,
-        file_len: usize,
+        file: *const u8, file_len: usize,
         index: u32,
-        answer: *mut u64,
-        answer_len: usize,
+        answer: *mut u64, answer_len: usize,
     ) -> u32;
     fn sbpf_section_name(
-        file: *const u8,
-        file_len: usize,
+        file: *const u8, file_len: usize,
         sh_name: u32,
-        answer: *mut u64,
-        answer_len: usize,
+        answer: *mut u64, answer_len: usize,
     ) -> u32;
     fn sbpf_symbol_name(
-        file: *const u8,
-        file_len: usize,
+        file: *const u8, file_len: usize,
         st_name: u32,
-        answer: *mut u64,
-        answer_len: usize,
+        answer: *mut u64, answer_len: usize,
     ) -> u32;
     fn sbpf_dynamic_symbol_name(
-        file: *const u8,
-        file_len: usize,
+        file: *const u8, file_len: usize,
         st_name: u32,
-        answer: *mut u64,
-        answer_len: usize,
+        answer: *mut u64, answer_len: usize,
     ) -> u32;
     fn sbpf_symbol_table(
-        file: *const u8,
-        file_len: usize,
-        answer: *mut u64,
-        answer_len: usize,
+        file: *const u8, file_len: usize,
+        answer: *mut u64, answer_len: usize,
     ) -> u32;
     fn sbpf_lookup(
-        keys: *const u32,
-        keys_len: usize,
-        indices: *const u32,
-        indices_len: usize,
-        kinds: *const u32,
-        kinds_len: usize,
-        starts: *const u32,
-        starts_len: usize,
-        lengths: *const u32,
-        lengths_len: usize,
+        keys: *const u32, keys_len: usize,
+        indices: *const u32, indices_len: usize,
+        kinds: *const u32, kinds_len: usize,
+        starts: *const u32, starts_len: usize,
+        lengths: *const u32, lengths_len: usize,
         used: u64,
         key: u32,
-        answer: *mut u64,
-        answer_len: usize,
+        answer: *mut u64, answer_len: usize,
     ) -> u32;
 }
+
+proved! { load:
+    fn sbpf_load(
+        file: *const u8, file_len: usize,
+        builtins: *const u32, builtins_len: usize,
+        settings: u32,
+        image: *mut u8, image_len: usize,
+        ro: *mut u8, ro_len: usize,
+        keys: *mut u32, keys_len: usize,
+        indices: *mut u32, indices_len: usize,
+        kinds: *mut u32, kinds_len: usize,
+        starts: *mut u32, starts_len: usize,
+        lengths: *mut u32, lengths_len: usize,
+        answer: *mut u64, answer_len: usize,
+    ) -> u32;
+}
+
+proved! { text_place:
+    fn sbpf_text_place(
+        lent: u64,
+        offset: u64,
+        start: u64,
+        n: u64,
+        addr: u64,
+        size: u64,
+        answer: *mut u64, answer_len: usize,
+    ) -> u32;
+}
+
+/// Whether the library has a load.
+pub const HAS_LOAD: bool = cfg!(load);
+/// Whether it has the text part on its own.
+pub const HAS_TEXT_PLACE: bool = cfg!(text_place);
+/// Whether there is a library.
+pub const HAS_PORT: bool = cfg!(port);
 
 /// The words of an answer.
 pub const WORDS: usize = 16;
@@ -125,5 +162,59 @@ pub fn lookup(t: &Columns, used: u64, key: u32, room: usize) -> Answer {
             words,
             n,
         )
+    })
+}
+
+/// `table` are the five columns, in the order of `Columns`.
+pub fn load(
+    file: &[u8],
+    builtins: &[u32],
+    settings: u32,
+    image: &mut [u8],
+    ro: &mut [u8],
+    table: [&mut [u32]; 5],
+    answer: &mut [u64],
+) -> u32 {
+    let [keys, indices, kinds, starts, lengths] = table;
+    unsafe {
+        sbpf_load(
+            file.as_ptr(),
+            file.len(),
+            builtins.as_ptr(),
+            builtins.len(),
+            settings,
+            image.as_mut_ptr(),
+            image.len(),
+            ro.as_mut_ptr(),
+            ro.len(),
+            keys.as_mut_ptr(),
+            keys.len(),
+            indices.as_mut_ptr(),
+            indices.len(),
+            kinds.as_mut_ptr(),
+            kinds.len(),
+            starts.as_mut_ptr(),
+            starts.len(),
+            lengths.as_mut_ptr(),
+            lengths.len(),
+            answer.as_mut_ptr(),
+            answer.len(),
+        )
+    }
+}
+
+/// The place of the text in the lent bytes: the image if the read-only section is borrowed, else
+/// the buffer with the copy.
+pub fn text_place(
+    lent: u64,
+    offset: u64,
+    start: u64,
+    length: u64,
+    addr: u64,
+    size: u64,
+    room: usize,
+) -> Answer {
+    with_room(room, |words, n| unsafe {
+        sbpf_text_place(lent, offset, start, length, addr, size, words, n)
     })
 }

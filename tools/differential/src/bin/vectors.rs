@@ -1,0 +1,245 @@
+//! vectors FOLDER [CASES [SEED]]: writes a fixed sample of loads for a program that replays them
+//! without any Rust. `load_vectors.bin` has the cases, `load_vectors.txt` a line for each, what the
+//! true Rust answers (and document 01 where the Rust says nothing).
+//!
+//! A case, all numbers 32 bits little-endian:
+//!
+//!     length of the file
+//!     bytes of it that follow; the rest of the file is zeros
+//!     settings, as `sbpf_load` takes them
+//!     number of built-ins
+//!     rows: the length of each of the five columns
+//!     length of the image buffer
+//!     length of the read-only buffer
+//!     the built-ins
+//!     the bytes of the file
+//!
+//! The columns and buffers are to be filled with anything but zeros before the load. A line:
+//!
+//!     refused NUMBER VALUE START LENGTH
+//!     accepted VERSION ENTRY KEYS MOVES COPIED OFFSET START LENGTH ADDR AT SIZE TEXT IMAGE RO ROWS
+//!
+//! COPIED to LENGTH tell of the read-only bytes, ADDR, AT and SIZE of the text (its address and its
+//! place in the file), TEXT is 0 or 44, what the text part answers. IMAGE, RO and ROWS are hashes
+//! (the loader's own: MurmurHash3 x86 32-bit, seed 0; 8 hexadecimal digits) of the whole lent
+//! image, the whole lent read-only buffer, and the five whole columns one after the other, keys,
+//! indices, kinds, starts, lengths, four bytes little-endian for each number. After a refusal
+//! everything lent is zero.
+//!
+//! Files are drawn small, and of those that agree in what they show (number, version, settings,
+//! what was relocated and registered) the smallest is kept. Three of eight cases are accepted ones,
+//! spread over all that they show; the others are the smallest of each refusal and version. The two
+//! cases of 40 are last: their files have 16,777,217 bytes, of which none follow.
+
+use differential::{
+    cases::Case,
+    expected::{expected, Expected, LONGEST},
+    outcome::{hash, Text},
+};
+use std::{collections::BTreeMap, env, fs, path::Path};
+
+/// Enough drawn that every group has its share.
+const DRAWN: u64 = 400_000;
+/// The bytes of all cases together stay below this.
+const MOST_BYTES: usize = 1_450_000;
+
+fn line(e: &Expected) -> String {
+    let w = &e.words;
+    if w[0] != 0 {
+        return format!("refused {} {} {} {}", w[0], w[1], w[2], w[3]);
+    }
+    let rows: Vec<u8> = e
+        .table
+        .iter()
+        .flatten()
+        .flat_map(|x| x.to_le_bytes())
+        .collect();
+    format!(
+        "accepted {} {} {} {} {} {} {} {} {} {} {} {} {:08x} {:08x} {:08x}",
+        w[4],
+        w[5],
+        w[6],
+        w[7],
+        w[8],
+        w[9],
+        w[10],
+        w[11],
+        w[12],
+        w[13],
+        w[14],
+        if e.text == Some(Text::Aborted) { 44 } else { 0 },
+        hash(&e.image),
+        hash(&e.ro),
+        hash(&rows)
+    )
+}
+
+fn bytes(case: &Case, given: usize) -> Vec<u8> {
+    let mut out = Vec::new();
+    for n in [
+        case.file.len(),
+        given,
+        case.settings.bits() as usize,
+        case.builtins.len(),
+        case.rows(),
+        case.image,
+        case.ro,
+    ] {
+        out.extend_from_slice(&(n as u32).to_le_bytes());
+    }
+    for key in &case.builtins {
+        out.extend_from_slice(&key.to_le_bytes());
+    }
+    out.extend_from_slice(&case.file[..given]);
+    out
+}
+
+/// What a case shows: cases that agree in it stand for one another.
+fn shows(case: &Case, e: &Expected) -> Vec<u64> {
+    let w = &e.words;
+    let used = w[6] as usize;
+    let mut kinds = 0;
+    for k in 0..used {
+        kinds |= 1 << e.table[2][k];
+    }
+    // the kinds of relocation, as the sections of that type tell
+    let mut relocations = 0;
+    let field = |at: usize, width: usize| -> u64 {
+        (0..width).fold(0, |n, k| {
+            n | (case.file.get(at.wrapping_add(k)).copied().unwrap_or(0) as u64) << (8 * k)
+        })
+    };
+    for k in 0..field(60, 2).min(16) as usize {
+        let header = (field(40, 8) as usize).wrapping_add(64 * k);
+        if field(header.wrapping_add(4), 4) == 9 {
+            let (at, n) = (
+                field(header.wrapping_add(24), 8) as usize,
+                field(header.wrapping_add(32), 8).min(64) as usize / 16,
+            );
+            for k in 0..n {
+                relocations |= match field(at.wrapping_add(16 * k + 8), 4) {
+                    1 => 1,
+                    8 => 2,
+                    10 => 4,
+                    _ => 8,
+                };
+            }
+        }
+    }
+    vec![
+        // a refusal by the number, for what it says, and by the settings; an acceptance by all
+        case.settings.bits() * (w[0] == 0) as u64,
+        w[1].min(4),
+        w[3].min(3),
+        w[6].min(4),
+        w[7].min(3),
+        kinds,
+        w[8],
+        relocations,
+        (case.rows() as u64 == w[6]) as u64,
+        (e.text == Some(Text::Aborted)) as u64,
+        (case.settings.bits() & 1) | (case.settings.bits() & 8),
+        (e.image.len() > case.file.len()) as u64,
+        (case.builtins.len() as u64).min(2),
+    ]
+}
+
+/// A case whose columns are equally long, since the format has one number for them.
+fn small(seed: u64, number: u64) -> Case {
+    let mut case = Case::small(seed, number);
+    case.columns = [case.rows(); 5];
+    case
+}
+
+fn main() {
+    let args: Vec<String> = env::args().skip(1).collect();
+    let Some(folder) = args.first() else {
+        eprintln!("vectors FOLDER [CASES [SEED]]");
+        std::process::exit(2);
+    };
+    let number = |k: usize, default: u64| {
+        args.get(k)
+            .map_or(default, |a| a.replace('_', "").parse().expect("a number"))
+    };
+    let (wanted, seed) = (number(1, 2_400) as usize, number(2, 1));
+
+    // the smallest that shows each thing, by number and version; 44 for an accepted file whose
+    // text part is refused
+    type Kept = (usize, u64);
+    let mut groups: BTreeMap<(u64, bool), BTreeMap<Vec<u64>, Kept>> = BTreeMap::new();
+    for k in 0..DRAWN {
+        let case = small(seed, k);
+        let e = expected(&case).expect("the model agrees with the Rust");
+        let size = bytes(&case, case.file.len()).len();
+        let number = match e.text {
+            Some(Text::Aborted) => 44,
+            _ => e.words[0],
+        };
+        let group = groups.entry((number, case.version2)).or_default();
+        let kept = group.entry(shows(&case, &e)).or_insert((size, k));
+        *kept = (*kept).min((size, k));
+    }
+    let mut chosen = Vec::new();
+    for version2 in [false, true] {
+        let all: Vec<Kept> = groups
+            .remove(&(0, version2))
+            .expect("accepted files")
+            .into_values()
+            .collect();
+        let share = wanted * 3 / 16;
+        chosen.extend((0..share).map(|k| all[k * all.len() / share].1));
+    }
+    // the refusals: from each group the smallest in turn, until there are enough
+    let mut queues: Vec<Vec<Kept>> = groups
+        .into_values()
+        .map(|group| {
+            let mut queue: Vec<Kept> = group.into_values().collect();
+            queue.sort_unstable_by(|a, b| b.cmp(a));
+            queue
+        })
+        .collect();
+    while chosen.len() + 2 < wanted && queues.iter().any(|q| !q.is_empty()) {
+        for queue in queues.iter_mut() {
+            chosen.extend(queue.pop().map(|(_, k)| k));
+        }
+    }
+    chosen.truncate(wanted - 2);
+    chosen.sort_unstable();
+    chosen.dedup();
+
+    let (mut binary, mut text) = (Vec::new(), String::new());
+    let mut numbers: BTreeMap<(u64, bool), u64> = BTreeMap::new();
+    let mut add = |case: &Case, given: usize| {
+        let e = expected(case).expect("the model agrees with the Rust");
+        binary.extend(bytes(case, given));
+        text += &line(&e);
+        text.push('\n');
+        *numbers.entry((e.words[0], case.version2)).or_insert(0) += 1;
+    };
+    for k in &chosen {
+        let case = small(seed, *k);
+        add(&case, case.file.len());
+    }
+    for buffers in [LONGEST + 1, 0] {
+        let mut case = Case::of_file(vec![0; LONGEST + 1]);
+        case.columns = [1; 5];
+        (case.image, case.ro) = (buffers, buffers);
+        add(&case, 0);
+    }
+    assert!(
+        binary.len() < MOST_BYTES,
+        "{} bytes are too many: ask for fewer cases",
+        binary.len()
+    );
+    fs::write(Path::new(folder).join("load_vectors.bin"), &binary).expect("a folder");
+    fs::write(Path::new(folder).join("load_vectors.txt"), &text).expect("a folder");
+    println!(
+        "{} cases, {} bytes, {} bytes of answers",
+        text.lines().count(),
+        binary.len(),
+        text.len()
+    );
+    for ((n, version2), count) in numbers {
+        println!("{n:>3} version {} {count:>6}", 1 + version2 as u32);
+    }
+}

@@ -1,0 +1,200 @@
+//! What a load must answer and leave, in full: from the true Rust, and from document 01 where the
+//! Rust says nothing (40 to 43, moves, name kinds, places of names, the lent columns).
+
+use crate::{
+    cases::Case,
+    compare::Placed,
+    elf::STACK_START,
+    model::{self, Stop},
+    outcome::{self, Text},
+    port::{Columns, WORDS},
+    Outcome,
+};
+
+/// The longest file that is not refused with 40.
+pub const LONGEST: usize = 1 << 24;
+
+#[derive(Clone, Debug)]
+pub struct Expected {
+    pub words: [u64; WORDS],
+    /// The lent buffers afterwards, whole.
+    pub image: Vec<u8>,
+    pub ro: Vec<u8>,
+    pub table: Columns,
+    /// What `get_text_bytes` does after an accepted load.
+    pub text: Option<Text>,
+    /// The most rows that the load would hold at once if the table had no end.
+    pub most: usize,
+}
+
+fn refused(case: &Case, stop: Stop, most: usize) -> Expected {
+    let mut words = [0; WORDS];
+    words[0] = stop.number as u64;
+    words[1] = stop.value;
+    words[2] = stop.start;
+    words[3] = stop.length;
+    Expected {
+        words,
+        image: vec![0; case.image],
+        ro: vec![0; case.ro],
+        table: case.columns.map(|n| vec![0; n]),
+        text: None,
+        most,
+    }
+}
+
+fn only(number: u32) -> Stop {
+    Stop {
+        number,
+        value: 0,
+        start: 0,
+        length: 0,
+    }
+}
+
+/// A refusal of the Rust against the model's: the place must spell the Rust's text.
+fn agree(file: &[u8], rust: &outcome::Refused, stop: &Stop) -> bool {
+    let name = match rust.name {
+        None => stop.start == 0 && stop.length == 0,
+        Some(ref name) => {
+            let bytes = &file[stop.start as usize..(stop.start + stop.length) as usize];
+            String::from_utf8_lossy(bytes).as_bytes() == name
+        }
+    };
+    name && rust.number == stop.number && rust.value == stop.value
+}
+
+/// Err where the model and the Rust disagree: then the model is wrong.
+pub fn expected(case: &Case) -> Result<Expected, String> {
+    // what document 01 refuses before the Rust is asked
+    if case.file.len() > LONGEST {
+        return Ok(refused(case, only(40), 0));
+    }
+    if case.image < case.file.len() || case.ro < case.file.len() {
+        return Ok(refused(case, only(41), 0));
+    }
+    if case.builtins.windows(2).any(|w| w[0] >= w[1]) {
+        return Ok(refused(case, only(42), 0));
+    }
+
+    // the model, with a table that has no end, against the Rust
+    let mut placed = Placed::new();
+    placed.put(&case.file, 0);
+    let file = placed.bytes();
+    let rust = outcome::outcome(file, case.settings, &case.builtins, usize::MAX);
+    let (most, whole) = model::replay(file, case.settings, &case.builtins, usize::MAX);
+    let wrong = |what: &str| {
+        Err(format!(
+            "the model is wrong: {what}\n  model: {whole:x?}\n  Rust: {rust:x?}"
+        ))
+    };
+    // what counts after the entry's registration
+    let mut at_last = None;
+    let accepted = match (&rust, &whole) {
+        (Outcome::Refused(r), Err(stop)) => {
+            if !agree(file, r, stop) {
+                return wrong("another refusal");
+            }
+            None
+        }
+        (Outcome::Refused(r), Ok(_)) => {
+            // the read-only sections, which the model leaves to the Rust
+            if (r.number, r.value, &r.name) != (33, 0, &None) {
+                return wrong("a refusal that is not the read-only sections'");
+            }
+            at_last = Some(only(33));
+            None
+        }
+        (Outcome::Accepted(a), Ok(m)) => {
+            if a.version != 1 + m.version2 as u32 || a.entry != m.entry {
+                return wrong("another version or entry");
+            }
+            if a.image != m.image {
+                return wrong("another image");
+            }
+            let rows = a.rows.iter().map(|r| (r.key, r.index, r.name.clone()));
+            if !rows.eq(m.rows.iter().map(|(k, r)| (*k, r.index, r.name(file)))) {
+                return wrong("other rows");
+            }
+            match a.text {
+                Text::Part { vaddr, ref bytes } => {
+                    if vaddr != m.text_addr || bytes.len() as u64 != m.text_length {
+                        return wrong("another text");
+                    }
+                }
+                // document 01: version 1, lowest address 0x100000000
+                Text::Aborted => {
+                    let lowest = a.ro.copied && a.ro.addr_offset == 0 && case.settings.optimize;
+                    if m.version2 || m.text_addr != STACK_START || !lowest {
+                        return wrong("the text part aborts elsewhere");
+                    }
+                }
+            }
+            Some(a)
+        }
+        _ => return wrong("one refuses, the other does not"),
+    };
+
+    // the same with the rows that are lent
+    let rows = case.rows();
+    let replayed = match model::replay(file, case.settings, &case.builtins, rows).1 {
+        Err(stop) => {
+            if stop.number != 43 && whole.as_ref().err() != Some(&stop) {
+                return wrong("a table's end makes another refusal than 43");
+            }
+            return Ok(refused(case, stop, most));
+        }
+        Ok(replayed) => replayed,
+    };
+    let a = match (at_last, accepted) {
+        (Some(stop), _) => return Ok(refused(case, stop, most)),
+        (None, Some(a)) => a,
+        (None, None) => return wrong("no refusal where the Rust has one"),
+    };
+    let n = rows as u64;
+    if replayed.moves > n * (n - 1) / 2 + 2 * (n - 1) {
+        return wrong("more moves than document 01 allows");
+    }
+    let words = [
+        0,
+        0,
+        0,
+        0,
+        a.version as u64,
+        a.entry,
+        a.rows.len() as u64,
+        replayed.moves,
+        a.ro.copied as u64,
+        a.ro.addr_offset,
+        a.ro.start,
+        a.ro.length,
+        replayed.text_addr,
+        replayed.text_start,
+        replayed.text_length,
+        0,
+    ];
+    let mut image = a.image.clone();
+    image.resize(case.image, 0);
+    let mut ro = if a.ro.copied {
+        a.ro.bytes.clone()
+    } else {
+        Vec::new()
+    };
+    ro.resize(case.ro, 0);
+    let mut table: Columns = case.columns.map(|n| vec![0; n]);
+    for (k, (key, row)) in replayed.rows.iter().enumerate() {
+        table[0][k] = *key;
+        table[1][k] = row.index as u32;
+        table[2][k] = row.kind;
+        table[3][k] = row.start as u32;
+        table[4][k] = row.length as u32;
+    }
+    Ok(Expected {
+        words,
+        image,
+        ro,
+        table,
+        text: Some(a.text.clone()),
+        most,
+    })
+}
