@@ -14,3 +14,4 @@ pub mod Loading
 pub mod Asked
 pub mod Traces
 pub mod Registering
+pub mod Keyed

@@ -3,13 +3,13 @@
 use Prim.Native.Nat.{ℕ, _-_, _/_, _%_, _<_, _^_}
 use mathlib.Core.Path.{_≡_, refl, sym, ap, _∙_, subst}
 use mathlib.Core.Logic.{_⊎_, inl, inr, _↔_}
-use mathlib.Core.Bool.{Bool, true, false, _&&_, not}
-use mathlib.Core.List.{List, []}
+use mathlib.Core.Bool.{Bool, true, false, not}
+use mathlib.Core.List.{List}
 use lib.ListN.{length, take, drop}
 use lib.Dec.{eqb}
 use lib.Bits.{bitAnd}
 use native.Mathlib.Omega.{arith}
-use borrow.Author.Tests.{eqb-true, eqb-false}
+use borrow.Author.Tests.{eqb-true}
 use Rattle.ebpf.specs.Choice.{_if_else_, eq-not}
 use Rattle.elf_parser.specs.declared.types.Elf64Sym.{Elf64Sym}
 use Rattle.elf_parser.specs.declared.parts.Place.{Place}
@@ -19,11 +19,10 @@ use Rattle.elf_parser.specs.declared.records.Sym.the-variants.{Symbol, Refused 
 use Rattle.elf_parser.specs.Records.{dynamicSymbolOf, symOf}
 use Rattle.elf_parser.specs.Names.{symbolName, dynamicSymbolName}
 use Rattle.program.specs.declared.Row.{Row}
-use Rattle.program.specs.declared.FunctionName.{FunctionName}
 use Rattle.program.specs.declared.FunctionName.the-variants.{OfIndex, Entrypoint}
 use Rattle.program.specs.declared.Legacy.{Legacy}
 use Rattle.program.specs.declared.Legacy.the-variants.{Free, Taken}
-use Rattle.program.proofs.Cases.{by-test, zero-one}
+use Rattle.program.proofs.Cases.{zero-one}
 use Rattle.loader.specs.declared.error.ElfError.the-variants.{InvalidEntrypoint}
 use Rattle.loader.specs.declared.calls.Call.{Call}
 use Rattle.loader.specs.declared.calls.Call.the-variants.{None, To, Outside}
@@ -34,8 +33,7 @@ use Rattle.loader.specs.declared.deeds.Entry.the-variants.{Nothing, Refu
 use Rattle.loader.specs.declared.relocations.Mapped.{Mapped}
 use Rattle.loader.specs.declared.relocations.Mapped.the-variants.{At as Placed, Refused as Unmapped}
 use Rattle.loader.specs.declared.validate.Job.{Job}
-use Rattle.loader.specs.Trace.{Trace, andThen}
-use Rattle.loader.specs.Deeds.{entryOf, written, behind, entryTrace, deedTrace}
+use Rattle.loader.specs.Deeds.{entryOf, written, entryTrace, deedTrace}
 use Rattle.loader.specs.Functions.{rowFor, symbolFunction, indexOf}
 use Rattle.loader.specs.Addresses.{sumUpTo}
 use Rattle.loader.specs.Calls.{callAt, textOf, slotCount, immediate, callRow, callBy, callDeed, slotTrace, callsTrace}
@@ -44,7 +42,7 @@ use Rattle.loader.specs.Labels.{labelRow, namedLabel, labelOf, labelBy, 
 use Rattle.loader.specs.Entry.{entryDeed}
 use Rattle.loader.specs.Parts.{writingTrace}
 use Rattle.loader.proofs.Asked.{Ends, Asks, Keeps, AsksFor}
-use Rattle.loader.specs.Demand.{CallsTo, OfCall, OfRelocation, OfLabel, OfEntry, Registers, relocationCount, infoOf, entryIndex, earlyTrace}
+use Rattle.loader.specs.Demand.{CallsTo, OfCall, OfRelocation, OfLabel, OfEntry, relocationCount, infoOf, entryIndex, earlyTrace}
 use Rattle.loader.proofs.Traces.{ends-then, asks-then, keeps-then, keeps-each, ends-each, asks-each}
 
 -- ---- a deed
