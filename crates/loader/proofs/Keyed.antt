@@ -59,7 +59,7 @@ entry-key version2 index e = rw e refl
 -- ---- where the entry begins
 
 -- version 1 forgets the name's key
-abbrev forgotten : Bool → List Row → List Row
+abbrev pub forgotten : Bool → List Row → List Row
 forgotten true rows = rows
 forgotten false rows = remove nameKey rows
 
