@@ -11,3 +11,7 @@ pub mod Turns
 pub mod Readied
 pub mod Over
 pub mod Loading
+pub mod Asked
+pub mod Traces
+pub mod Registering
+pub mod Keyed
