@@ -11,3 +11,7 @@ pub mod Turns
 pub mod Readied
 pub mod Over
 pub mod Loading
+pub mod Ends
+pub mod Kept
+pub mod Named
+pub mod Imaged
