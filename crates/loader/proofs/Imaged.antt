@@ -1,23 +1,14 @@
 -- The image of a load that ends: its length, the bytes that stay, and the local calls' keys. Assumes nothing.
-use Prim.Native.Nat.{ℕ, _+_, _-_, _*_, _/_, _%_, _^_, _≤_, _<_}
+use Prim.Native.Nat.{ℕ, _+_, _-_, _/_, _^_, _≤_, _<_}
 use native.Mathlib.Omega.{arith}
 use native.Mathlib.Decide.{ℕ-discrete}
 use mathlib.Core.Path.{_≡_, refl, sym, ap, _∙_}
-use mathlib.Core.Bool.{Bool, true, false, _&&_, not}
-use mathlib.Core.Logic.{_⊎_, inl, inr}
-use mathlib.Core.List.{List, []}
+use mathlib.Core.Bool.{Bool, true, false}
+use mathlib.Core.Logic.{inl}
+use mathlib.Core.List.{List}
 use lib.ListN.{length, getD, take, drop}
-use lib.Dec.{ltb, eqb}
-use lib.Bits.{bitAnd}
-use lib.Seq.{length-take-le}
-use Rattle.ebpf.specs.Choice.{_if_else_, row-rest}
+use Rattle.ebpf.specs.Choice.{_if_else_}
 use Rattle.ebpf.specs.LittleEndian.{le}
-use Rattle.ebpf.specs.IndexKeys.{indexKey, keyIn}
-use Rattle.ebpf.specs.Instructions.{insnAt}
-use Rattle.ebpf.specs.declared.Insn.{Insn}
-use Rattle.ebpf.specs.declared.Slot.{Slot}
-use Rattle.ebpf.specs.declared.Slot.the-variants.{Holds, Past}
-use Rattle.ebpf.proofs.Injective.{key-lt}
 use Rattle.elf_parser.specs.declared.types.Elf64Sym.{Elf64Sym}
 use Rattle.elf_parser.specs.declared.parts.Place.{Place}
 use Rattle.elf_parser.specs.declared.parts.Place.the-variants.{At as Stands, Refused as NoPlace}
@@ -26,33 +17,28 @@ use Rattle.elf_parser.specs.declared.records.Sym.{Sym}
 use Rattle.elf_parser.specs.declared.records.Sym.the-variants.{Symbol, Refused as NoSym}
 use Rattle.elf_parser.specs.Names.{symbolName}
 use Rattle.elf_parser.specs.Records.{symOf}
-use Rattle.program.specs.declared.Row.{Row}
 use Rattle.program.specs.declared.FunctionName.the-variants.{OfIndex, Entrypoint}
 use Rattle.program.specs.declared.Legacy.{Legacy}
 use Rattle.program.specs.declared.Legacy.the-variants.{Free, Taken}
-use Rattle.program.specs.HashedLegacy.{legacyKey, legacyRow, isTaken, keptName, rowOf}
-use Rattle.program.proofs.Cases.{by-test, by-lt, zero-one}
 use Rattle.loader.specs.declared.calls.Call.{Call}
 use Rattle.loader.specs.declared.calls.Call.the-variants.{None, To, Outside}
 use Rattle.loader.specs.declared.deeds.Deed.{Deed}
-use Rattle.loader.specs.declared.deeds.Deed.the-variants.{Register}
 use Rattle.loader.specs.declared.read_only.Placing.{Placing}
 use Rattle.loader.specs.declared.read_only.Placing.the-variants.{Borrowed, Owned, Refused}
 use Rattle.loader.specs.declared.validate.Job.{Job}
-use Rattle.loader.specs.Functions.{rowFor, symbolFunction, indexOf, inText}
-use Rattle.loader.specs.Bytes.{put}
-use Rattle.loader.specs.Trace.{Trace, andThen, each}
+use Rattle.loader.specs.Functions.{rowFor, symbolFunction, indexOf}
 use Rattle.loader.specs.Deeds.{written, deedTrace}
-use Rattle.loader.specs.Calls.{inside, target, callOf, callIn, callAt, textOf, slotCount, immediate, callRow, callBy, callDeed, slotTrace, callsTrace}
-use Rattle.loader.specs.Relocations.{relocationDeed, relocationTrace, relocationsTrace}
+use Rattle.loader.specs.Calls.{callAt, textOf, slotCount, immediate, callRow, callBy, callDeed, slotTrace, callsTrace}
+use Rattle.loader.specs.Relocations.{placeAt, relocationDeed, relocationTrace, relocationsTrace}
 use Rattle.loader.specs.Labels.{labelRow, namedLabel, labelOf, labelBy, labelDeed, labelSymbols, labelTrace, labelsTrace}
 use Rattle.loader.specs.Entry.{entryDeed, forgetTrace, entryTrace}
 use Rattle.loader.specs.Parts.{writingTrace, namingTrace, placedTrace, jobTrace}
 use Rattle.loader.specs.Contracts.{InFile}
-use Rattle.loader.specs.Demand.{CallsTo, isIn, relocationCount, names, Unnamed, keyOf, Bytes}
+use Rattle.loader.specs.Demand.{CallsTo, isIn, relocationCount, infoOf, Unnamed, keyOf, Bytes}
 use Rattle.loader.proofs.Ends.{Ends, ends-then, ends-each}
-use Rattle.loader.proofs.Kept.{apart, not-in, in-places, le-put, le-same, writes, written-other, deed-ends, step-ends, step-length, deeds-length, deeds-other, deeds-nothing}
+use Rattle.loader.proofs.Kept.{not-in, in-places, le-put, le-same, writes, written-other, deed-ends, step-ends, step-length, deeds-length, deeds-other, deeds-nothing}
 use Rattle.loader.proofs.Named.{unnamed-clear}
+use Rattle.loader.proofs.Targets.{to-small, key-word, row-key}
 
 -- ---- labels, the entry and the placing write nothing
 
@@ -123,3 +109,119 @@ job-ends s builtins j im l e =
     ∙ entry-ends s builtins j (naming .0) (second .0) (naming .2)
     ∙ labels-ends s builtins j (first .0) (naming .0) (naming .1) in
     rw same (first .1)
+
+-- ---- calls and relocations
+
+row-clear : (at b : ℕ) (r : Legacy) → isIn at 4 b ≡ false → writes (callRow at r) b ≡ false
+row-clear at b (Free row) h = h
+row-clear at b (Taken key) h = refl
+
+module _ (file builtins : List ℕ) (j : Job) where
+  abbrev call : ℕ → List ℕ → Deed
+  call i im = callDeed file builtins j i
+
+  slot-is : (i : ℕ) (im : List ℕ) → slotTrace file builtins j i im ≡ deedTrace (call i im) im
+  unfolding slotTrace
+  slot-is i im = refl
+
+  abbrev relocation : ℕ → List ℕ → Deed
+  relocation i im = relocationDeed file builtins j i im
+
+  relocation-is : (i : ℕ) (im : List ℕ) → relocationTrace file builtins j i im ≡ deedTrace (relocation i im) im
+  unfolding relocationTrace
+  relocation-is i im = refl
+
+  -- a slot that is no call writes nothing, and a call at its immediate
+  call-clear : (i b : ℕ) (im : List ℕ) → i < slotCount j → ((to : ℕ) → CallsTo file j i to → isIn (immediate j i) 4 b ≡ false) → writes (call i im) b ≡ false
+  unfolding callDeed
+  call-clear i b im l h = go (callAt (textOf file j) (j .version2) i) refl
+    where
+      go : (c : Call) → callAt (textOf file j) (j .version2) i ≡ c → writes (callBy builtins j i c) b ≡ false
+      go None e = refl
+      go Outside e = refl
+      go (To to) e = row-clear (immediate j i) b (rowFor builtins j OfIndex to) (h to (l, e))
+
+  pub calls-length : (im l : List ℕ) → Ends (callsTrace file builtins j im) l → length l ≡ length im
+  calls-length im l e = deeds-length (slotTrace file builtins j) call (slotCount j) slot-is im l e
+
+  pub calls-other : (im l : List ℕ) (b : ℕ) → ((i to : ℕ) → CallsTo file j i to → isIn (immediate j i) 4 b ≡ false)
+      → Ends (callsTrace file builtins j im) l
+      → getD l b 0 ≡ getD im b 0
+  calls-other im l b h e = deeds-other (slotTrace file builtins j) call (slotCount j) slot-is im l b (λ i k m n. call-clear i b k m (h i)) e
+
+  pub relocations-length : (im l : List ℕ) → Ends (relocationsTrace file builtins j im) l → length l ≡ length im
+  relocations-length im l e = deeds-length (relocationTrace file builtins j) relocation (relocationCount j) relocation-is im l e
+
+  pub relocations-other : (im l : List ℕ) (b : ℕ) → length im ≤ 2 ^ 24 → Unnamed file j b → Ends (relocationsTrace file builtins j im) l → getD l b 0 ≡ getD im b 0
+  relocations-other im l b short h e =
+      deeds-other (relocationTrace file builtins j) relocation (relocationCount j) relocation-is im l b
+      (λ i k m n. unnamed-clear b file k builtins j (placeAt file j i) (infoOf file j i) (rw n short) (h i m)) e
+
+  -- ---- the key of a call
+
+  module _ (i to : ℕ) (calls : CallsTo file j i to) (short : length file ≤ 2 ^ 24) where
+    -- its own slot writes it
+    own-slot : (im l : List ℕ) → immediate j i + 4 ≤ length im → Ends (slotTrace file builtins j i im) l → le 4 l (immediate j i) ≡ keyOf (j .version2) to
+    unfolding slotTrace callDeed deedTrace
+    own-slot im l room e = go (rowFor builtins j OfIndex to) refl (rw (calls .1) at e)
+      where
+        go : (r : Legacy) → rowFor builtins j OfIndex to ≡ r → Ends (deedTrace (callRow (immediate j i) r) im) l → le 4 l (immediate j i) ≡ keyOf (j .version2) to
+        go (Taken key) q e = absurd e
+        go (Free row) q e =
+            let k = row-key builtins j to row q in
+            let small : row .key < 256 ^ 4 = rw k (key-word (j .version2) to (omega (arith, to-small file j i to short calls))) in
+            rw (← e) (le-put 4 im (immediate j i) (row .key) room small) ∙ k
+
+    -- and no other slot writes there
+    other-slot : (m : ℕ) (im l : List ℕ) → m < slotCount j → i < m → Ends (slotTrace file builtins j m im) l → le 4 l (immediate j i) ≡ le 4 im (immediate j i)
+    other-slot m im l h g e =
+        le-same 4 l im (immediate j i)
+        (λ b p q. ap (λ (s : List ℕ). getD s b 0) (step-ends (slotTrace file builtins j) call (slotCount j) slot-is m im l e)
+        ∙ written-other (call m im) im b (call-clear m b im h (λ to c. not-in (immediate j m) 4 b (inl (omega arith)))))
+
+    module _ (im : List ℕ) (room : immediate j i + 4 ≤ length im) where
+      -- behind m slots
+      abbrev Behind : ℕ → List ℕ → Type 0
+      Behind m l = (length l ≡ length im) × (i < m → le 4 l (immediate j i) ≡ keyOf (j .version2) to)
+
+      after : (m : ℕ) (l l′ : List ℕ) → m < slotCount j → Behind m l → Ends (slotTrace file builtins j m l) l′
+          → i < m + 1
+          → Dec (m ≡ i)
+          → le 4 l′ (immediate j i) ≡ keyOf (j .version2) to
+      after m l l′ h p x g (yes q) = own-slot l l′ (rw (p .0) room) (rw q at x)
+      after m l l′ h p x g (no q) = let before : i < m = omega arith in other-slot m l l′ h before x ∙ p .1 before
+
+      next : (m : ℕ) (l l′ : List ℕ) → m < slotCount j → Behind m l → Ends (slotTrace file builtins j m l) l′ → Behind (m + 1) l′
+      next m l l′ h p x = (step-length (slotTrace file builtins j) call (slotCount j) slot-is m l l′ x ∙ p .0, λ g. after m l l′ h p x g (ℕ-discrete m i))
+
+      pub calls-keyed : (l : List ℕ) → Ends (callsTrace file builtins j im) l → le 4 l (immediate j i) ≡ keyOf (j .version2) to
+      calls-keyed l e = ends-each (slotTrace file builtins j) Behind (slotCount j) next im l (refl, λ h. absurd (omega arith)) e .1 (calls .0)
+
+-- ---- THE IMAGE OF A LOAD
+
+module _ (file builtins : List ℕ) (j : Job) (inside : InFile file j) (im′ : List ℕ) (ends : Ends (jobTrace file builtins j file) im′) where
+  -- the calls' image, and the relocations' that follow it
+  parts : (im : List ℕ) × Ends (callsTrace file builtins j file) im × Ends (relocationsTrace file builtins j im) im′
+  parts = ends-then (callsTrace file builtins j file) (relocationsTrace file builtins j) im′ (job-ends file builtins j file im′ ends)
+
+  calls-long : length (parts .0) ≡ length file
+  calls-long = calls-length file builtins j file (parts .0) (parts .1)
+
+  short : length (parts .0) ≤ 2 ^ 24
+  short = rw calls-long (inside .short)
+
+  pub image-length : length im′ ≡ length file
+  image-length = relocations-length file builtins j (parts .0) im′ (parts .2) ∙ calls-long
+
+  pub bytes-kept : Bytes file j im′
+  bytes-kept b l none unnamed =
+      relocations-other file builtins j (parts .0) im′ b short unnamed (parts .2)
+      ∙ calls-other file builtins j file (parts .0) b none (parts .1)
+
+  pub call-keyed : (i to : ℕ) → CallsTo file j i to
+      → ((b : ℕ) → isIn (immediate j i) 4 b ≡ true → Unnamed file j b)
+      → le 4 im′ (immediate j i) ≡ keyOf (j .version2) to
+  call-keyed i to calls unnamed =
+      le-same 4 im′ (parts .0) (immediate j i)
+      (λ b p q. relocations-other file builtins j (parts .0) im′ b short (unnamed b (in-places (immediate j i) 4 b p q)) (parts .2))
+      ∙ calls-keyed file builtins j i to calls (inside .short) file (omega (arith, inside .text, calls .0)) (parts .0) (parts .1)

@@ -14,4 +14,5 @@ pub mod Loading
 pub mod Ends
 pub mod Kept
 pub mod Named
+pub mod Targets
 pub mod Imaged
