@@ -5,8 +5,8 @@ use native.Mathlib.Decide.{ℕ-discrete}
 use mathlib.Core.Path.{_≡_, refl, sym, ap, _∙_}
 use mathlib.Core.Bool.{Bool, true, false}
 use mathlib.Core.Logic.{inl}
-use mathlib.Core.List.{List}
-use lib.ListN.{length, getD, take, drop}
+use mathlib.Core.List.{List, _++_}
+use lib.ListN.{length, getD, take, drop, List·getD-append}
 use Rattle.ebpf.specs.Choice.{_if_else_}
 use Rattle.ebpf.specs.LittleEndian.{le}
 use Rattle.elf_parser.specs.declared.types.Elf64Sym.{Elf64Sym}
@@ -69,9 +69,9 @@ module _ (s builtins : List ℕ) (j : Job) (im : List ℕ) where
   unfolding labelDeed
   label-nothing symbols i = by-nothing (symOf s symbols i)
 
-  entry-nothing : written (entryDeed builtins j) im ≡ im
-  unfolding entryDeed
-  entry-nothing = choice-nothing _ _ _ im refl (row-nothing (rowFor builtins j Entrypoint ((j .«e_entry» - j .«sh_addr») / 8)) im)
+entry-nothing : (builtins : List ℕ) (j : Job) (im : List ℕ) → written (entryDeed builtins j) im ≡ im
+unfolding entryDeed
+entry-nothing builtins j im = choice-nothing _ _ _ im refl (row-nothing (rowFor builtins j Entrypoint ((j .«e_entry» - j .«sh_addr») / 8)) im)
 
 forget-ends : (version2 : Bool) (im l : List ℕ) → Ends (forgetTrace version2 im) l → l ≡ im
 forget-ends true im l e = sym e
@@ -92,10 +92,10 @@ module _ (s builtins : List ℕ) (j : Job) (im l : List ℕ) where
       deeds-nothing (labelTrace s builtins j) (λ (i : ℕ) (k : List ℕ). labelDeed s builtins j (labelSymbols s j) i) (labelSymbols s j .count) label-is
       im l (λ i k. label-nothing s builtins j k (labelSymbols s j) i) e
 
-  pub entry-ends : Ends (entryTrace builtins j im) l → l ≡ im
-  entry-ends e =
-      let both = ends-then (forgetTrace (j .version2) im) (λ (k : List ℕ). deedTrace (entryDeed builtins j) k) l e in
-      deed-ends (entryDeed builtins j) (both .0) l (both .2) ∙ entry-nothing s builtins j (both .0) ∙ forget-ends (j .version2) im (both .0) (both .1)
+pub entry-ends : (builtins : List ℕ) (j : Job) (im l : List ℕ) → Ends (entryTrace builtins j im) l → l ≡ im
+entry-ends builtins j im l e =
+    let both = ends-then (forgetTrace (j .version2) im) (λ (k : List ℕ). deedTrace (entryDeed builtins j) k) l e in
+    deed-ends (entryDeed builtins j) (both .0) l (both .2) ∙ entry-nothing builtins j (both .0) ∙ forget-ends (j .version2) im (both .0) (both .1)
 
 -- the image of a load is that of its calls and relocations
 pub job-ends : (s builtins : List ℕ) (j : Job) (im l : List ℕ) → Ends (jobTrace s builtins j im) l → Ends (writingTrace s builtins j im) l
@@ -106,7 +106,7 @@ job-ends s builtins j im l e =
     let naming = ends-then (labelsTrace s builtins j (first .0)) (entryTrace builtins j) (second .0) (second .1) in
     let same : l ≡ first .0 =
     placed-ends (j .placing) (second .0) l (second .2)
-    ∙ entry-ends s builtins j (naming .0) (second .0) (naming .2)
+    ∙ entry-ends builtins j (naming .0) (second .0) (naming .2)
     ∙ labels-ends s builtins j (first .0) (naming .0) (naming .1) in
     rw same (first .1)
 
@@ -225,3 +225,16 @@ module _ (file builtins : List ℕ) (j : Job) (inside : InFile file j) (im′ : 
       le-same 4 im′ (parts .0) (immediate j i)
       (λ b p q. relocations-other file builtins j (parts .0) im′ b short (unnamed b (in-places (immediate j i) 4 b p q)) (parts .2))
       ∙ calls-keyed file builtins j i to calls (inside .short) file (omega (arith, inside .text, calls .0)) (parts .0) (parts .1)
+
+  -- the same in the lent image, whatever stands behind the file
+  module _ (rest : List ℕ) where
+    pub lent-bytes : Bytes file j (im′ ++ rest)
+    lent-bytes b l none unnamed = List·getD-append im′ rest 0 b (omega (arith, image-length)) ∙ bytes-kept b l none unnamed
+
+    pub lent-keyed : (i to : ℕ) → CallsTo file j i to
+        → ((b : ℕ) → isIn (immediate j i) 4 b ≡ true → Unnamed file j b)
+        → le 4 (im′ ++ rest) (immediate j i) ≡ keyOf (j .version2) to
+    lent-keyed i to calls unnamed =
+        le-same 4 (im′ ++ rest) im′ (immediate j i)
+        (λ b p q. List·getD-append im′ rest 0 b (omega (arith, image-length, inside .text, calls .0)))
+        ∙ call-keyed i to calls unnamed
