@@ -1,5 +1,5 @@
--- Questions to a trace, and to what a part asks of the table: the image it ends with, the rows it registers, whether it forgets. They see
--- no table. Assumes nothing.
+-- Questions to a trace, and to what a part asks of the table: the rows it registers, whether it forgets. They see no table.
+-- Assumes nothing.
 use Prim.Native.Nat.{ℕ}
 use mathlib.Core.Path.{_≡_}
 use mathlib.Core.Logic.{_⊎_, _↔_}
@@ -9,13 +9,6 @@ use Rattle.program.specs.declared.Row.{Row}
 use Rattle.loader.specs.declared.deeds.Entry.{Entry}
 use Rattle.loader.specs.declared.deeds.Entry.the-variants.{Nothing, Refuse as NoEntry, Register as Enter}
 use Rattle.loader.specs.Trace.{Trace, done, stop, register, forget}
-
--- nothing stops it, and it ends with this image
-abbrev pub Ends : Trace → List ℕ → Type 0
-Ends (done im) l = im ≡ l
-Ends (stop r) l = ⊥
-Ends (register row t) l = Ends t l
-Ends (forget key t) l = Ends t l
 
 -- this row is among those that it registers
 abbrev pub Asks : Row → Trace → Type 0

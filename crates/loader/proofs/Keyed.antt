@@ -29,7 +29,8 @@ use Rattle.loader.specs.Entry.{entryDeed, forgetTrace}
 use Rattle.loader.specs.Entry as entry
 use Rattle.loader.specs.Parts.{writingTrace, namingTrace, placedTrace, jobTrace}
 use Rattle.loader.specs.Demand.{CallsTo, OfEntry, Registers, Finds, IsNameKey, Keys, Entry, Others, nameKey, keyOf, entryIndex, earlyTrace}
-use Rattle.loader.proofs.Asked.{Ends, Asks}
+use Rattle.loader.proofs.Ends.{Ends}
+use Rattle.loader.proofs.Asked.{Asks}
 use Rattle.loader.proofs.Traces.{settle-ends, settle-room, settle-ascends, settle-keeps, settle-finds, settle-only, settle-split, settle-then}
 use Rattle.loader.proofs.Registering.{EarlyRow, deed-asks, deed-keeps, entry-registers, entry-row, early-asks, early-keeps, calls-have}
 

@@ -15,3 +15,9 @@ pub mod Asked
 pub mod Traces
 pub mod Registering
 pub mod Keyed
+pub mod Ends
+pub mod Kept
+pub mod Named
+pub mod Targets
+pub mod Imaged
+pub mod Demanded

@@ -41,9 +41,10 @@ use Rattle.loader.specs.Relocations.{isFunction, halvesDeed, wordDeed, a
 use Rattle.loader.specs.Labels.{labelRow, namedLabel, labelOf, labelBy, labelDeed, labelSymbols, labelTrace, labelsTrace}
 use Rattle.loader.specs.Entry.{entryDeed}
 use Rattle.loader.specs.Parts.{writingTrace}
-use Rattle.loader.proofs.Asked.{Ends, Asks, Keeps, AsksFor}
+use Rattle.loader.proofs.Ends.{Ends, ends-then}
+use Rattle.loader.proofs.Asked.{Asks, Keeps, AsksFor}
 use Rattle.loader.specs.Demand.{CallsTo, OfCall, OfRelocation, OfLabel, OfEntry, relocationCount, infoOf, entryIndex, earlyTrace}
-use Rattle.loader.proofs.Traces.{ends-then, asks-then, keeps-then, keeps-each, ends-each, asks-each}
+use Rattle.loader.proofs.Traces.{asks-then, keeps-then, keeps-each, ends-turn, asks-each}
 
 -- ---- a deed
 
@@ -327,5 +328,5 @@ module _ (file builtins : List ℕ) (j : Job) where
   calls-have im′ e i to c =
       let b = ends-then (writingTrace file builtins j file) (labelsTrace file builtins j) im′ e in
       let a = ends-then (callsTrace file builtins j file) (relocationsTrace file builtins j) (b .0) (b .1) in
-      let t = ends-each (slotTrace file builtins j) (slotCount j) 0 file (a .0) (a .1) i (omega arith) (omega (arith, c .0)) in
+      let t = ends-turn (slotTrace file builtins j) (slotCount j) 0 file (a .0) (a .1) i (omega arith) (omega (arith, c .0)) in
       call-row file builtins j i (c .0) (t .before) (t .after) (t .ends) to (c .1)

@@ -18,7 +18,8 @@ use Rattle.program.specs.Rows as table
 use Rattle.program.proofs.Cases.{by-eq, zero-one}
 use Rattle.program.proofs.Laws.{by-registered, find-insert-other, find-registered-same, find-registered-other, registered-room, registered-ascending, remove-ascending}
 use Rattle.loader.specs.Trace.{Trace, done, stop, register, forget, andThen, each, Settled, accepted, refused, settle, onRegistered, onSettled, settle-andThen}
-use Rattle.loader.proofs.Asked.{Ends, Asks, Keeps}
+use Rattle.loader.proofs.Ends.{Ends, ends-then}
+use Rattle.loader.proofs.Asked.{Asks, Keeps}
 
 -- ---- one registration
 
@@ -138,13 +139,6 @@ settle-then cap T K rows m im held n e = settle-andThen cap T K rows m ∙ rw e 
 
 -- ---- the questions, of two parts
 
-pub ends-then : (T : Trace) (K : List ℕ → Trace) (l : List ℕ) → Ends (andThen T K) l → (im : List ℕ) × Ends T im × Ends (K im) l
-unfolding andThen
-ends-then (done im) K l e = (im, refl, e)
-ends-then (stop r) K l e = absurd e
-ends-then (register row T) K l e = ends-then T K l e
-ends-then (forget key T) K l e = ends-then T K l e
-
 asks-first : (row : Row) (T : Trace) (K : List ℕ → Trace) → Asks row T → Asks row (andThen T K)
 unfolding andThen
 asks-first row (done im) K a = absurd a
@@ -208,12 +202,12 @@ module _ (step : ℕ → List ℕ → Trace) where
     pub after : List ℕ
     pub ends : Ends (step k before) after
 
-  pub ends-each : (n i : ℕ) (im im′ : List ℕ) → Ends (each step n i im) im′ → (k : ℕ) → i ≤ k → k < i + n → Turn k
+  pub ends-turn : (n i : ℕ) (im im′ : List ℕ) → Ends (each step n i im) im′ → (k : ℕ) → i ≤ k → k < i + n → Turn k
   unfolding each
-  ends-each zero i im im′ e k l h = absurd (omega arith)
-  ends-each (suc n) i im im′ e k l h =
+  ends-turn zero i im im′ e k l h = absurd (omega arith)
+  ends-turn (suc n) i im im′ e k l h =
       let b = ends-then (step i im) (λ (l : List ℕ). each step n (i + 1) l) im′ e in
-      go (b .0) (b .1) (λ m. ends-each n (i + 1) (b .0) im′ (b .2) k m (omega arith)) (first-or-later i k l)
+      go (b .0) (b .1) (λ m. ends-turn n (i + 1) (b .0) im′ (b .2) k m (omega arith)) (first-or-later i k l)
     where
       go : (im₁ : List ℕ) → Ends (step i im) im₁ → (i + 1 ≤ k → Turn k) → (k ≡ i) ⊎ (i + 1 ≤ k) → Turn k
       go im₁ f later (inl s) = rw s (record { before = im; after = im₁; ends = f })

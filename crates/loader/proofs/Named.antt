@@ -1,0 +1,150 @@
+-- A relocation writes only bytes that it names: where its deed fits the image, no sum of a place stops at 2 ^ 64 - 1.
+-- Assumes nothing.
+use Prim.Native.Nat.{ℕ, _+_, _/_, _%_, _^_, _≤_}
+use native.Mathlib.Omega.{arith}
+use mathlib.Core.Path.{_≡_, refl}
+use mathlib.Core.Bool.{Bool, true, false, _||_, not}
+use mathlib.Core.List.{List}
+use lib.ListN.{length, take, drop}
+use lib.Dec.{ltb, eqb}
+use borrow.Author.Tests.{ltb-false}
+use Rattle.ebpf.specs.Choice.{_if_else_}
+use Rattle.elf_parser.specs.declared.types.Elf64Sym.{Elf64Sym}
+use Rattle.elf_parser.specs.declared.layout.Layout.{Layout}
+use Rattle.elf_parser.specs.declared.parts.Place.{Place}
+use Rattle.elf_parser.specs.declared.parts.Place.the-variants.{At as Stands, Refused as NoPlace}
+use Rattle.elf_parser.specs.declared.records.Sym.{Sym}
+use Rattle.elf_parser.specs.declared.records.Sym.the-variants.{Symbol, Refused as NoSym}
+use Rattle.elf_parser.specs.Names.{dynamicSymbolName}
+use Rattle.elf_parser.specs.Records.{dynamicSymbolOf}
+use Rattle.program.specs.declared.FunctionName.{FunctionName}
+use Rattle.program.specs.declared.Legacy.{Legacy}
+use Rattle.program.specs.declared.Legacy.the-variants.{Free, Taken}
+use Rattle.loader.specs.declared.deeds.Deed.{Deed}
+use Rattle.loader.specs.declared.relocations.Mapped.{Mapped}
+use Rattle.loader.specs.declared.relocations.Mapped.the-variants.{At, Refused as Unmapped}
+use Rattle.loader.specs.declared.validate.Job.{Job}
+use Rattle.loader.specs.Addresses.{sumUpTo}
+use Rattle.loader.specs.Functions.{rowFor, indexOf}
+use Rattle.loader.specs.Relocations.{immediateAt, halvesDeed, wordDeed, addressDeed, symbolDeed, plan6464, relativeText, planRelative, registerDeed, functionCall, builtinCall, callByName, namedCall, symbolCall, plan6432, planAt, planOf, textHolds}
+use Rattle.loader.specs.Demand.{isIn, inHalves, namedBy, namedAt}
+use Rattle.loader.proofs.Kept.{writes}
+
+-- of the byte b: a deed doesn't write it where it isn't named
+module _ (b : ℕ) where
+  abbrev Clear : Bool → Deed → Type 0
+  Clear named d = named ≡ false → writes d b ≡ false
+
+  -- a choice, and one that the names make too
+  one : (p t : Bool) (x y : Deed) → Clear p x → (t ≡ false → Clear p y) → Clear p (x if t else y)
+  unfolding _if_else_
+  one p true x y f g = f
+  one p false x y f g = g refl
+
+  both : (p q t : Bool) (x y : Deed) → Clear p x → Clear q y → Clear (p if t else q) (x if t else y)
+  unfolding _if_else_
+  both p q true x y f g = f
+  both p q false x y f g = g
+
+  -- n is the image's length, r the relocation's place
+  module _ (n : ℕ) (short : n ≤ 2 ^ 24) (r : ℕ) where
+    at-fits : (at : ℕ) → ltb n (at + 4) ≡ false → at + 4 ≤ n
+    at-fits at e = ltb-false n (at + 4) e
+
+    immediate-plain : immediateAt r + 4 ≤ n → immediateAt r ≡ r + 4
+    unfolding immediateAt
+    immediate-plain h = omega arith
+
+    halves : (low high : ℕ) → low ≡ r + 4 → high ≡ r + 12 → inHalves r b ≡ false → (isIn low 4 b || isIn high 4 b) ≡ false
+    halves low high e f h = rw (e, f) h
+
+    -- the upper half, as type 1 and as type 8 add its place up
+    up-twelve : sumUpTo (immediateAt r) 8 + 4 ≤ n → sumUpTo (immediateAt r) 8 ≡ r + 12
+    unfolding immediateAt
+    up-twelve h = omega arith
+
+    twelve-up : immediateAt (sumUpTo r 8) + 4 ≤ n → immediateAt (sumUpTo r 8) ≡ r + 12
+    unfolding immediateAt
+    twelve-up h = omega arith
+
+    halves-clear : (v : ℕ) → Clear (inHalves r b) (halvesDeed n (immediateAt r) (sumUpTo (immediateAt r) 8) v)
+    unfolding halvesDeed
+    halves-clear v =
+        one _ _ _ _ (λ h. refl) (λ e. one _ _ _ _ (λ h. refl) (λ f. halves _ _ (immediate-plain (at-fits _ e)) (up-twelve (at-fits _ f))))
+
+    text-clear : (address : ℕ) → Clear (inHalves r b) (relativeText n (immediateAt r) (immediateAt (sumUpTo r 8)) address)
+    unfolding relativeText
+    text-clear address =
+        one _ _ _ _ (λ h. refl)
+        (λ e. one _ _ _ _ (λ h. refl)
+        (λ f. one _ _ _ _ (λ h. refl) (λ g. halves _ _ (immediate-plain (at-fits _ e)) (twelve-up (at-fits _ f)))))
+
+    word-clear : (v : ℕ) → Clear (isIn r 8 b) (wordDeed n r v)
+    unfolding wordDeed
+    word-clear v = one _ _ _ _ (λ h. refl) (λ e h. h)
+
+    -- four bytes at the immediate
+    four : immediateAt r + 4 ≤ n → isIn (r + 4) 4 b ≡ false → isIn (immediateAt r) 4 b ≡ false
+    four l h = rw (immediate-plain l) h
+
+    register-clear : (row : Legacy) → Clear (isIn (r + 4) 4 b) (registerDeed n (immediateAt r) row)
+    register-clear (Taken key) = λ h. refl
+    register-clear (Free row) = one _ _ _ _ (λ h. refl) (λ e. four (at-fits _ e))
+
+    function-clear : (builtins : List ℕ) (j : Job) (name : FunctionName) (value : ℕ) → Clear (isIn (r + 4) 4 b) (functionCall builtins j n (immediateAt r) name value)
+    unfolding functionCall
+    function-clear builtins j name value = one _ _ _ _ (λ h. refl) (λ e. register-clear (rowFor builtins j name (indexOf j value)))
+
+    builtin-clear : (builtins : List ℕ) (reject : Bool) (start k hash : ℕ) → Clear (isIn (r + 4) 4 b) (builtinCall builtins reject n (immediateAt r) r start k hash)
+    unfolding builtinCall
+    builtin-clear builtins reject start k hash = one _ _ _ _ (λ h. refl) (λ e. one _ _ _ _ (λ h. refl) (λ f. four (at-fits _ f)))
+
+    name-clear : (part builtins : List ℕ) (j : Job) (y : Elf64Sym) (start k : ℕ) → Clear (isIn (r + 4) 4 b) (callByName part builtins j n r y start k)
+    unfolding callByName
+    name-clear part builtins j y start k = one _ _ _ _ (function-clear builtins j _ _) (λ e. builtin-clear builtins _ start k _)
+
+    place-clear : (s builtins : List ℕ) (j : Job) (y : Elf64Sym) (p : Place) → Clear (isIn (r + 4) 4 b) (namedCall s builtins j n r y p)
+    place-clear s builtins j y (Stands start k) = name-clear (take k (drop start s)) builtins j y start k
+    place-clear s builtins j y (NoPlace e) = λ h. refl
+
+    call-clear : (s builtins : List ℕ) (j : Job) (number : ℕ) (y : Sym) → Clear (isIn (r + 4) 4 b) (symbolCall s builtins j n r number y)
+    call-clear s builtins j number (Symbol y) = place-clear s builtins j y (dynamicSymbolName s (j .layout) (y .«st_name»))
+    call-clear s builtins j number (NoSym e) = λ h. refl
+
+    clear6432 : (s builtins : List ℕ) (j : Job) (number : ℕ) → Clear (isIn (r + 4) 4 b) (plan6432 s builtins j n r number)
+    unfolding plan6432
+    clear6432 s builtins j number = call-clear s builtins j number (dynamicSymbolOf s (j .layout) number)
+
+    -- type 1: the same test splits the address and the names
+    address-clear : (split : Bool) (v : ℕ) → Clear (inHalves r b if split else isIn r 8 b) (addressDeed n split (immediateAt r if split else r) v)
+    unfolding addressDeed _if_else_
+    address-clear true v = halves-clear v
+    address-clear false v = word-clear v
+
+    symbol-clear : (split : Bool) (addend number : ℕ) (y : Sym)
+        → Clear (inHalves r b if split else isIn r 8 b) (symbolDeed n split (immediateAt r if split else r) addend number y)
+    symbol-clear split addend number (Symbol y) = address-clear split _
+    symbol-clear split addend number (NoSym e) = λ h. refl
+
+  module _ (s im : List ℕ) (short : length im ≤ 2 ^ 24) (r : ℕ) where
+    clear6464 : (l : Layout) (split : Bool) (number : ℕ) → Clear (inHalves r b if split else isIn r 8 b) (plan6464 s im l split r number)
+    unfolding plan6464
+    clear6464 l split number = one _ _ _ _ (λ h. refl) (λ e. symbol-clear (length im) short r split _ number (dynamicSymbolOf s l number))
+
+    relative-clear : (version2 in-text : Bool) → Clear (inHalves r b if in-text else isIn r 8 b) (planRelative im version2 in-text r)
+    unfolding planRelative
+    relative-clear version2 in-text = both _ _ in-text _ _ (text-clear (length im) short r _) (word-clear (length im) short r _)
+
+    at-clear : (builtins : List ℕ) (j : Job) (info : ℕ) → Clear (namedBy (j .version2) (textHolds j r) (info % 2 ^ 32) r b) (planAt s im builtins j r info)
+    unfolding planAt namedBy
+    at-clear builtins j info =
+        both _ _ (eqb (info % 2 ^ 32) 1) _ _ (clear6464 (j .layout) (textHolds j r || not (j .version2)) (info / 2 ^ 32))
+        (both _ _ (eqb (info % 2 ^ 32) 8) _ _ (relative-clear (j .version2) (textHolds j r))
+        (both _ _ (eqb (info % 2 ^ 32) 10) _ _ (clear6432 (length im) short r s builtins j (info / 2 ^ 32)) (λ h. refl)))
+
+-- a byte that a relocation doesn't name is not written by it
+pub unnamed-clear : (b : ℕ) (s im builtins : List ℕ) (j : Job) (p : Mapped) (info : ℕ) → length im ≤ 2 ^ 24
+    → namedAt j p (info % 2 ^ 32) b ≡ false
+    → writes (planOf s im builtins j p info) b ≡ false
+unnamed-clear b s im builtins j (At r) info short h = at-clear b s im short r builtins j info h
+unnamed-clear b s im builtins j Unmapped info short h = refl

@@ -1,0 +1,83 @@
+-- A local call's target is one of the text's slots, and its row has the index's key. Assumes nothing.
+use Prim.Native.Nat.{ℕ, _+_, _-_, _/_, _^_, _≤_, _<_}
+use native.Mathlib.Omega.{arith}
+use mathlib.Core.Path.{_≡_, refl, sym, ap, _∙_}
+use mathlib.Core.Bool.{Bool, true, false, _&&_, not}
+use mathlib.Core.List.{List, []}
+use lib.ListN.{length, drop, length-take, length-drop}
+use lib.Dec.{ltb, eqb}
+use Rattle.ebpf.specs.Choice.{_if_else_, row-rest}
+use Rattle.ebpf.specs.IndexKeys.{keyIn}
+use Rattle.ebpf.specs.Instructions.{insnAt}
+use Rattle.ebpf.specs.declared.Slot.{Slot}
+use Rattle.ebpf.specs.declared.Slot.the-variants.{Holds, Past}
+use Rattle.ebpf.proofs.Injective.{key-lt}
+use Rattle.program.specs.declared.Row.{Row}
+use Rattle.program.specs.declared.FunctionName.the-variants.{OfIndex}
+use Rattle.program.specs.declared.Legacy.the-variants.{Free}
+use Rattle.program.specs.HashedLegacy.{legacyKey, legacyRow, keptName, rowOf}
+use Rattle.program.proofs.Cases.{by-test, by-lt, zero-one}
+use Rattle.loader.specs.declared.calls.Call.the-variants.{None, To, Outside}
+use Rattle.loader.specs.declared.validate.Job.{Job}
+use Rattle.loader.specs.Functions.{rowFor}
+use Rattle.loader.specs.Calls.{inside, target, callOf, callIn, callAt, textOf}
+use Rattle.loader.specs.Demand.{CallsTo, keyOf}
+
+-- ---- a target is a slot
+
+inside-lt : (count u to : ℕ) → inside count u ≡ To to → to < count
+unfolding inside _if_else_
+inside-lt count u to = by-lt u count (λ (b : Bool). (To u if b else Outside) ≡ To to → to < count)
+    (λ l e. let s : u ≡ to = cc in omega arith)
+    (λ l e. absurd (zero-one (cc)))
+
+target-lt : (count i imm to : ℕ) → target count i imm ≡ To to → to < count
+unfolding target _if_else_
+target-lt count i imm to =
+    by-test (ltb imm 0x8000_0000)
+    (λ (b : Bool). (inside count (i + 1 + imm) if b else Outside if ltb (i + 1 + imm) 0x1_0000_0000 else inside count (i + 1 + imm - 0x1_0000_0000)) ≡ To to → to < count)
+    (λ h e. inside-lt count (i + 1 + imm) to e)
+    (λ h. by-test (ltb (i + 1 + imm) 0x1_0000_0000)
+    (λ (b : Bool). (Outside if b else inside count (i + 1 + imm - 0x1_0000_0000)) ≡ To to → to < count)
+    (λ g e. absurd (zero-one (cc)))
+    (λ g e. inside-lt count (i + 1 + imm - 0x1_0000_0000) to e))
+
+in-lt : (count : ℕ) (version2 : Bool) (i to : ℕ) (s : Slot) → callIn count version2 i s ≡ To to → to < count
+unfolding callOf
+in-lt count version2 i to Past e = absurd (zero-one (cc))
+in-lt count version2 i to (Holds insn) e =
+    let never : None ≡ To to → ⊥ = λ h. zero-one (cc) in
+    target-lt count i (insn .imm) to
+    (row-rest (version2 && eqb (insn .src) 0) _ _ (To to) never
+    (row-rest (eqb (insn .imm) 0xffff_ffff) _ _ (To to) never
+    (row-rest (not (eqb (insn .opc) 0x85)) _ _ (To to) never e)))
+
+pub to-slot : (text : List ℕ) (version2 : Bool) (i to : ℕ) → callAt text version2 i ≡ To to → to < length text / 8
+unfolding callAt
+to-slot text version2 i to e = in-lt (length text / 8) version2 i to (insnAt text i) e
+
+-- a file's target takes few bits
+pub to-small : (file : List ℕ) (j : Job) (i to : ℕ) → length file ≤ 2 ^ 24 → CallsTo file j i to → to < 2 ^ 24
+to-small file j i to short c =
+    omega (arith, to-slot (textOf file j) (j .version2) i to (c .1), length-take (j .length) (drop (j .start) file), length-drop (j .start) file)
+
+-- ---- keys of indices
+
+pub key-word : (version2 : Bool) (index : ℕ) → index < 2 ^ 32 → keyOf version2 index < 2 ^ 32
+unfolding keyOf _if_else_
+key-word true index h = h
+key-word false index h = key-lt index
+
+key-is : (version2 : Bool) (index : ℕ) → legacyKey [] version2 OfIndex index ≡ keyOf version2 index
+unfolding legacyKey keyIn keyOf _if_else_
+key-is true index = refl
+key-is false index = refl
+
+-- the row of a local call's target
+pub row-key : (builtins : List ℕ) (j : Job) (index : ℕ) (row : Row) → rowFor builtins j OfIndex index ≡ Free row → row .key ≡ keyOf (j .version2) index
+unfolding rowFor legacyRow
+row-key builtins j index row e =
+    let k = legacyKey [] (j .version2) OfIndex index in
+    let free : Free (rowOf k index (keptName (j .labels) OfIndex)) ≡ Free row = row-rest _ _ _ (Free row) (λ h. zero-one (cc)) e in
+    let is : rowOf k index (keptName (j .labels) OfIndex) ≡ row = cc in
+    ap (λ (r : Row). r .key) (sym is) ∙ key-is (j .version2) index
