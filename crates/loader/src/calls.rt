@@ -104,14 +104,14 @@ fn next_call(file: &[u8], start: usize, from: usize, count: usize) -> usize
     requires { ⌜ (start + 8 * count ≤ length (now file)) × (from ≤ count) ⌝ }
     ensures { λ r. ⌜ r ≡ nextCall (now (file .entry)) start (count - from) from ⌝ }
 {
-    let mut i = from;
-    while i < count {
-        if file[start + 8 * i] == CALL_IMM {
-            return i;
+    let mut at = from;
+    while at < count {
+        if file[start + 8 * at] == CALL_IMM {
+            return at;
         }
-        i += 1;
+        at += 1;
     }
-    i
+    at
 }
 
 // Every slot in turn, up to the first refusal.

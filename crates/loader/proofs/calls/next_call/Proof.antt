@@ -10,28 +10,28 @@ use Rattle.loader.proofs.calls.next_call.Statement.{statement}
 use Rattle.loader.proofs.calls.next_call.Tie as tie
 
 abbrev Inv-loop : tie.InvT-loop
-Inv-loop file start from count i₀ i = (from ≤ i) × (i ≤ count) × (nextCall file start (count - i) i ≡ nextCall file start (count - from) from)
+Inv-loop file start from count at₀ at = (from ≤ at) × (at ≤ count) × (nextCall file start (count - at) at ≡ nextCall file start (count - from) from)
 
 abbrev μ-loop : tie.MeasureT-loop
-μ-loop file start from count i₀ i = count - i
+μ-loop file start from count at₀ at = count - at
 
 returns : tie.Need-returns Inv-loop μ-loop
 returns c =
     let l = c .before .before .before in
     let a = l .before .args in
-    sym (call-here (now (a .file)) (a .start) (l .loop .i) (a .count - l .loop .i) (omega arith) (c .if1 .taken)) ∙ l .loop .inv .2
+    sym (call-here (now (a .file)) (a .start) (l .loop .at) (a .count - l .loop .at) (omega arith) (c .if1 .taken)) ∙ l .loop .inv .2
 
 loop-again : tie.Need-loop-again Inv-loop μ-loop
 loop-again c =
     let l = c .before .before .before in
     let a = l .before .args in
-    (omega arith, omega arith, sym (call-later (now (a .file)) (a .start) (l .loop .i) (a .count - l .loop .i) (a .count - (l .loop .i + 1)) (omega arith) (c .if1 .left)) ∙ l .loop .inv .2)
+    (omega arith, omega arith, sym (call-later (now (a .file)) (a .start) (l .loop .at) (a .count - l .loop .at) (a .count - (l .loop .at + 1)) (omega arith) (c .if1 .left)) ∙ l .loop .inv .2)
 
 returns-2 : tie.Need-returns-2 Inv-loop μ-loop
 returns-2 c =
     let l = c .before in
     let a = l .before .args in
-    sym (call-none (now (a .file)) (a .start) (l .loop .i) (a .count - l .loop .i) (omega arith)) ∙ l .loop .inv .2
+    sym (call-none (now (a .file)) (a .start) (l .loop .at) (a .count - l .loop .at) (omega arith)) ∙ l .loop .inv .2
 
 pub next-call-spec : {M : Type 1} → statement M
 next-call-spec =
