@@ -10,6 +10,7 @@ pub mod Forgetting
 pub mod Turns
 pub mod Readied
 pub mod Over
+pub mod Front
 pub mod Loading
 pub mod Asked
 pub mod Traces

@@ -28,11 +28,13 @@ use Rattle.loader.specs.Calls.{slotCount}
 use Rattle.loader.specs.Labels.{labelSymbols, few-symbols}
 use Rattle.loader.specs.Parts.{writingTrace, namingTrace, placedTrace, jobTrace}
 use Rattle.loader.specs.Functions.{Keyed}
-use Rattle.loader.specs.Validate.{prepared}
+use Rattle.elf_parser.specs.Types.{fileHeader}
+use Rattle.loader.specs.Validate.{isVersion2, prepared}
 use Rattle.loader.specs.Load.{allCount, placedBy, afterPlacing, Cleared, placedBytes, HeldBytes, answerBy, answerFor, Loading, refuses, heldBy, onTrace, onPrepared, loadOf, WholeOrZeros, Loaded, Tried}
 use Rattle.loader.specs.Contracts.{outcome, InFile, Begins, Settles}
 use Rattle.loader.proofs.Going.{settles-stop, settles-then}
-use Rattle.loader.proofs.Readied.{readied}
+use Rattle.loader.proofs.Readied.{readied, placed-as}
+use Rattle.loader.proofs.Front.{copied-front}
 
 -- ---- the placing's refusal
 
@@ -151,6 +153,9 @@ module _ (file builtins : List ℕ) (c : Config) (im ro : List ℕ) (t : Slices)
       pub job-in-file : InFile file j
       job-in-file = readied file builtins c (length im) (length ro) j (sym is ∙ ready) .0
 
+      ro-fits : length file ≤ length ro
+      ro-fits = readied file builtins c (length im) (length ro) j (sym is ∙ ready) .2
+
       pub file-fits : length file ≤ length im
       file-fits = readied file builtins c (length im) (length ro) j (sym is ∙ ready) .1
 
@@ -165,9 +170,10 @@ module _ (file builtins : List ℕ) (c : Config) (im ro : List ℕ) (t : Slices)
             → t₂ ≡ lay t₂ (rowsOf t₂ used)
             → whole ≡ heldBy file j (length ro) pl q (rowsOf t₂ used) moves
             → ro₂ ≡ placedBytes file (j .layout) pl q ro₁
+            → pl ≡ j .placing
             → Tried whole im ro t (q ++ rest) ro₂ t₂ (answerBy j pl used moves)
-        held used moves (NotPlaced r) l w b = w
-        held used moves (Borrowed offset start n) l w b = record {
+        held used moves (NotPlaced r) l w b at-place = w
+        held used moves (Borrowed offset start n) l w b at-place = record {
           answers = rw (w, length-rows t₂ used) refl;
           demand-1 = record {
             image = rw w (ap (λ (z : List ℕ). q ++ z) (zeros ∙ rw len refl));
@@ -175,18 +181,18 @@ module _ (file builtins : List ℕ) (c : Config) (im ro : List ℕ) (t : Slices)
             table = rw w (l ∙ lay-same t₁ t₂ (rowsOf t₂ used) lens₂ ∙ lay-same t t₁ (rowsOf t₂ used) lens);
           };
         }
-        held used moves (Owned offset lowest n) l w b = record {
+        held used moves (Owned offset lowest n) l w b at-place = record {
           answers = rw (w, length-rows t₂ used) refl;
           demand-1 = record {
             image = rw w (ap (λ (z : List ℕ). q ++ z) (zeros ∙ rw len refl));
-            readonly = rw w (b ∙ rw ro-zeros refl);
+            readonly = rw w (b ∙ rw ro-zeros (copied-front q file (j .layout) (fileHeader file .«e_shnum») (isVersion2 (fileHeader file)) (c .«reject_broken_elfs») (c .«optimize_rodata») offset lowest n (job-in-file .short) (omega (arith, len)) (sym (at-place ∙ placed-as file builtins c (length im) (length ro) j (sym is ∙ ready))) (length ro) ro-fits));
             table = rw w (l ∙ lay-same t₁ t₂ (rowsOf t₂ used) lens₂ ∙ lay-same t t₁ (rowsOf t₂ used) lens);
           };
         }
 
         tried-as : (n : ℕ) (a : Outcome) → Settles (jobTrace file builtins j file) q t₁ t₂ n 0 0 a → HeldBytes a ro₂ (placedBytes file (j .layout) (j .placing) q ro₁) → Tried whole im ro t (q ++ rest) ro₂ t₂ (answerFor a j)
         tried-as n (Refused r) did b = settled n (Refused r) did
-        tried-as n (Holds used moves) did b = held used moves (j .placing) (did .sound .laid) (settled n (Holds used moves) did) b
+        tried-as n (Holds used moves) did b = held used moves (j .placing) (did .sound .laid) (settled n (Holds used moves) did) b refl
 
         pub tried : (n : ℕ) (a : Outcome) (b : Load) → Settles (jobTrace file builtins j file) q t₁ t₂ n 0 0 a × HeldBytes a ro₂ (placedBytes file (j .layout) (j .placing) q ro₁) → b ≡ answerFor a j → Tried whole im ro t (q ++ rest) ro₂ t₂ b
         tried n a b did e = subst (Tried whole im ro t (q ++ rest) ro₂ t₂) (sym e) (tried-as n a (did .0) (did .1))

@@ -220,3 +220,28 @@ readied s builtins c image ro j e =
     let up = not-false (ascends builtins) (not-first _ _ _ _ (not-ready _ _) (w .1)) in
     let inside = parsed-in s c (parsed s) j refl (sizes .0) (row-rest _ _ _ _ (not-ready _ _) (w .1)) in
     (inside, sizes .1, sizes .2, up)
+
+-- ---- how the job's read-only sections are placed
+
+validated-placed : (s : List ℕ) (c : Config) (l : Layout) (j : Job) → validated s c l ≡ Ready j
+    → j .placing ≡ placing s (j .layout) (fileHeader s .«e_shnum») (isVersion2 (fileHeader s)) (c .«reject_broken_elfs») (c .«optimize_rodata»)
+unfolding validated jobOf
+validated-placed s c l j e =
+    let h = fileHeader s in
+    let v = survey s l (h .«e_shnum») in
+    let text = sectionAt s l (v .text) in
+    let place = placing s l (h .«e_shnum») (isVersion2 h) (c .«reject_broken_elfs») (c .«optimize_rodata») in
+    let is : jobOf c (isVersion2 h) l (h .«e_entry») text place ≡ j = ready-by (fileCheck s c l h (isVersion2 h) v) (jobOf c (isVersion2 h) l (h .«e_entry») text place) j e .1 in
+    rw (← is) refl
+
+parsed-placed : (s : List ℕ) (c : Config) (p : Parsed) (j : Job) → parsedThen s c p ≡ Ready j
+    → j .placing ≡ placing s (j .layout) (fileHeader s .«e_shnum») (isVersion2 (fileHeader s)) (c .«reject_broken_elfs») (c .«optimize_rodata»)
+parsed-placed s c (NoFile r) j e = absurd (not-ready _ _ e)
+parsed-placed s c (File l) j e = validated-placed s c l j e
+
+pub placed-as : (s builtins : List ℕ) (c : Config) (image ro : ℕ) (j : Job) → prepared s builtins c image ro ≡ Ready j
+    → j .placing ≡ placing s (j .layout) (fileHeader s .«e_shnum») (isVersion2 (fileHeader s)) (c .«reject_broken_elfs») (c .«optimize_rodata»)
+unfolding prepared
+placed-as s builtins c image ro j e =
+    let w = prepared-by (sizeCheck (length s) image ro) (NotReady BuiltinsNotAscending if not (ascends builtins) else parsedThen s c (parsed s)) j e in
+    parsed-placed s c (parsed s) j (row-rest _ _ _ _ (not-ready _ _) (w .1))

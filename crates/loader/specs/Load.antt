@@ -94,12 +94,13 @@ pub data Loading : Type 0 where
   holds : Accepted → List ℕ → List ℕ → List Row → Loading
   refuses : ElfError → Loading
 
--- by the placing, where the trace came to an end: it has stopped where the placing refuses
+-- by the placing, where the trace came to an end: it has stopped where the placing refuses. The read-only bytes stay in the image, and
+-- the buffer is zero; or they are copied over n zeros at the buffer's front, with zeros behind
 abbrev pub heldBy : List ℕ → Job → ℕ → Placing → List ℕ → List Row → ℕ → Loading
 heldBy file j m (Borrowed offset start n) im rows moves =
     holds (acceptedAs j false offset start n (length rows) moves) im (replicate m 0) rows
 heldBy file j m (Owned offset lowest n) im rows moves =
-    holds (acceptedAs j true offset 0 n (length rows) moves) im (copiedFrom im file (j .layout) lowest (fileHeader file .«e_shnum») 0 (replicate m 0)) rows
+    holds (acceptedAs j true offset 0 n (length rows) moves) im (copiedFrom im file (j .layout) lowest (fileHeader file .«e_shnum») 0 (replicate n 0) ++ replicate (m - n) 0) rows
 heldBy file j m (NotPlaced r) im rows moves = refuses r
 
 abbrev pub onTrace : List ℕ → Job → ℕ → Settled → Loading
