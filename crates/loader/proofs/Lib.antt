@@ -11,3 +11,4 @@ pub mod Turns
 pub mod Readied
 pub mod Over
 pub mod Loading
+pub mod Plain
