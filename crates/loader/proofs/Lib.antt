@@ -12,3 +12,5 @@ pub mod Readied
 pub mod Over
 pub mod Loading
 pub mod Plain
+pub mod Counting
+pub mod Reaching
