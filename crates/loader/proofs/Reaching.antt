@@ -14,7 +14,7 @@ use Rattle.program.specs.declared.Found.{Found}
 use Rattle.program.specs.declared.Found.the-variants.{At, Nothing}
 use Rattle.program.specs.declared.Registered.{Registered}
 use Rattle.program.specs.declared.Registered.the-variants.{Inserted, Repeat, Collision, Full}
-use Rattle.program.specs.Rows.{rank, Ascending, find, insert, remove, above, registered}
+use Rattle.program.specs.Rows.{rank, Ascending, find, insert, remove, above, registered, unregister}
 use Rattle.program.specs.Rows as table
 use Rattle.program.specs.Runs.{movesGone}
 use Rattle.program.proofs.Cases.{zero-one}
@@ -202,3 +202,89 @@ module _ (cap : ℕ) (P : Row → Type 0) where
       (λ none _ c. further r rows (insert r rows) (reached cap T (insert r rows)) (inserted-old r rows none) (meets T (s .1) (insert r rows) _ c))
       c
   meets (forget key T) s rows m c = absurd s
+
+-- ---- a full table
+
+-- it starts with a registration of this key, or stops
+abbrev pub Again : ℕ → Trace → Type 0
+Again key (done im) = ⊥
+Again key (stop r) = Unit {0}
+Again key (register row t) = row .key ≡ key
+Again key (forget k t) = ⊥
+
+-- it stops plainly if at all, and a key that it forgets it registers at once again
+abbrev pub Counted : Trace → Type 0
+Counted (done im) = Unit {0}
+Counted (stop r) = Plain r
+Counted (register row t) = Counted t
+Counted (forget key t) = Again key t × Counted t
+
+again-then : (key : ℕ) (T : Trace) (K : List ℕ → Trace) → Again key T → Again key (andThen T K)
+unfolding andThen
+again-then key (done im) K a = absurd a
+again-then key (stop r) K a = tt
+again-then key (register row T) K a = a
+again-then key (forget k T) K a = absurd a
+
+pub counted-then : (T : Trace) (K : List ℕ → Trace) → Counted T → ((im : List ℕ) → Counted (K im)) → Counted (andThen T K)
+unfolding andThen
+counted-then (done im) K s k = k im
+counted-then (stop r) K s k = s
+counted-then (register row T) K s k = counted-then T K s k
+counted-then (forget key T) K s k = (again-then key T K (s .0), counted-then T K (s .1) k)
+
+pub steady-counted : (P : Row → Type 0) (T : Trace) → Steady P T → Counted T
+steady-counted P (done im) s = tt
+steady-counted P (stop r) s = s
+steady-counted P (register row T) s = steady-counted P T (s .1)
+steady-counted P (forget key T) s = absurd s
+
+-- the keys reached and those held before, without repetition
+abbrev counts : List Row → List Row → ℕ
+counts l rows = distinct (keysOf l ++ keysOf rows)
+
+-- no registration is refused for want of a row, where these are no more than the rows there are
+neither : (s : Settled) (cap n : ℕ) → (Fills s → ⊥) → n ≤ cap → Fills s ↔ (cap < n)
+neither s cap n never l = (λ f. absurd (never f), λ h. absurd (omega arith))
+
+-- a key held before counts once
+counts-held : (r x : Row) (l rows : List Row) → find (rank r) rows ≡ At x → counts (r ∷ l) rows ≡ counts l rows
+unfolding rank
+counts-held r x l rows e = same-again (r .key) (keysOf l ++ keysOf rows) (one-behind (r .key) (keysOf l) (keysOf rows) (one-held (r .key) x rows e)) .count
+
+counts-new : (r : Row) (rows : List Row) → Ascending rows → find (rank r) rows ≡ Nothing → counts (r ∷ []) rows ≡ suc (length rows)
+unfolding distinct _if_else_ rank
+counts-new r rows a none = rw (one-missing (r .key) rows none) (ap suc (distinct-rows rows a))
+
+counts-insert : (r : Row) (l rows : List Row) → counts (r ∷ l) rows ≡ counts l (insert r rows)
+counts-insert r l rows =
+    sym (same-front (r .key) (keysOf l) (keysOf rows) .count)
+    ∙ sym (same-behind (keysOf l) (keysOf (insert r rows)) (r .key ∷ keysOf rows) (same-insert r rows) .count)
+
+counts-remove : (key : ℕ) (r : Row) (l rows : List Row) → r .key ≡ key → counts (r ∷ l) (remove key rows) ≡ counts (r ∷ l) rows
+counts-remove key r l rows e =
+    let k : ℕ = r .key in
+    rw (← e)
+    (sym (same-front k (keysOf l) (keysOf (remove k rows)) .count)
+    ∙ same-behind (keysOf l) (k ∷ keysOf (remove k rows)) (k ∷ keysOf rows) (same-remove k rows) .count
+    ∙ same-front k (keysOf l) (keysOf rows) .count)
+
+module _ (cap : ℕ) where
+  -- A TABLE IS FULL exactly where there are more keys than rows
+  pub full-counts : (T : Trace) → Counted T → (rows : List Row) (m : ℕ) → Ascending rows → length rows ≤ cap → Fills (settle cap T rows m) ↔ (cap < counts (reached cap T rows) rows)
+  unfolding settle reached
+  full-counts (done im) s rows m a l = neither (accepted im rows m) cap (counts [] rows) (λ c. let e = c .1 in zero-one (cc)) (omega (arith, distinct-rows rows a))
+  full-counts (stop r) s rows m a l = neither (refused r) cap (counts [] rows) (no-full r s) (omega (arith, distinct-rows rows a))
+  full-counts (register r T) s rows m a l =
+      by-registered (λ (h : List Row) (g : Registered). Fills (onRegistered g cap (r .key) m (λ (n : ℕ). settle cap T h n)) ↔ (cap < counts (r ∷ onReached g (reached cap T h)) rows)) cap r rows
+      (λ x e _. rw (counts-held r x (reached cap T rows) rows e) (full-counts T s rows m a l))
+      (λ x e _. neither (refused (SymbolHashCollision (r .key))) cap (counts (r ∷ []) rows) (λ c. let e = c .1 in zero-one (cc)) (omega (arith, counts-held r x [] rows e, distinct-rows rows a)))
+      (λ none short. (λ _. omega (arith, counts-new r rows a none), λ _. (cap, refl)))
+      (λ none more. rw (counts-insert r (reached cap T (insert r rows)) rows)
+      (full-counts T s (insert r rows) (m + above (rank r) rows) (insert-ascending r rows a none) (omega (arith, length-insert r rows))))
+  full-counts (forget key (done im)) s rows m a l = absurd (s .0)
+  full-counts (forget key (stop r)) s rows m a l = neither (refused r) cap (counts [] rows) (no-full r (s .1)) (omega (arith, distinct-rows rows a))
+  full-counts (forget key (register r T)) s rows m a l =
+      rw (← counts-remove key r (onReached (table.register cap r (remove key rows)) (reached cap T (registered cap r (remove key rows)))) rows (s .0))
+      (full-counts (register r T) (s .1) (remove key rows) (m + movesGone (unregister key rows)) (remove-ascending key rows a) (omega (arith, remove-le key rows)))
+  full-counts (forget key (forget k T)) s rows m a l = absurd (s .0)
