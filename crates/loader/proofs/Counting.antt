@@ -1,6 +1,6 @@
 -- How many distinct numbers a list has: which lists have the same ones, and how many the keys of a table are.
 -- Assumes nothing.
-use Prim.Native.Nat.{ℕ, suc, _≤_, _<_, zero-le, suc-le-suc}
+use Prim.Native.Nat.{ℕ, suc, _≤_, zero-le, suc-le-suc}
 use native.Mathlib.Decide.{ℕ-discrete}
 use native.Mathlib.Omega.{arith}
 use mathlib.Core.Path.{_≡_, refl, sym, ap, _∙_}
@@ -11,11 +11,10 @@ use lib.Dec.{eqb}
 use borrow.Author.Tests.{eq-eqb, ne-eqb}
 use Rattle.ebpf.specs.Choice.{_if_else_}
 use Rattle.program.specs.declared.Row.{Row}
-use Rattle.program.specs.declared.Found.{Found}
 use Rattle.program.specs.declared.Found.the-variants.{At, Nothing}
 use Rattle.program.specs.Search.{Over}
 use Rattle.program.specs.Rows.{rank, Ascending, find, insert, remove}
-use Rattle.program.proofs.Cases.{by-lt, by-eq, zero-one}
+use Rattle.program.proofs.Cases.{by-lt, by-eq}
 use Rattle.program.proofs.Rows.{not-both, missing-cons}
 use Rattle.loader.specs.Demand.{isOneOf, distinct}
 

@@ -14,3 +14,5 @@ pub mod Loading
 pub mod Plain
 pub mod Counting
 pub mod Reaching
+pub mod Early
+pub mod Refusing

@@ -37,7 +37,7 @@ use Rattle.loader.specs.declared.validate.Prepared.the-variants.{Ready, 
 use Rattle.loader.specs.Errors.{fromParser}
 use Rattle.loader.specs.Sections.{sectionAt, survey}
 use Rattle.loader.specs.ReadOnly.{taken, takenAt, gatherStep, gatherTurn, gatherBy, nothing, gathered, borrowed, owned, placed, placingBy, placing}
-use Rattle.loader.specs.Validate.{sizeCheck, ascends, headerCheck, writableBy, writableError, sectionsCheck, textCheck, jobOf, _then_, fileCheck, readyBy, isVersion2, validated, parsedThen, preparedBy, prepared}
+use Rattle.loader.specs.Validate.{sizeCheck, ascends, headerCheck, writableBy, sectionsCheck, textCheck, jobOf, _then_, fileCheck, readyBy, isVersion2, validated, parsedThen, preparedBy, prepared}
 
 -- the refusals that a registration gives
 abbrev pub ofTable : ElfError → Bool

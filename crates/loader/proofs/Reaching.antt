@@ -5,12 +5,11 @@ use native.Mathlib.Decide.{ℕ-discrete}
 use native.Mathlib.Omega.{arith}
 use mathlib.Core.Path.{_≡_, refl, sym, ap, _∙_}
 use mathlib.Core.Logic.{_⊎_, inl, inr, _↔_}
-use mathlib.Core.Bool.{Bool, true, false}
+use mathlib.Core.Bool.{true}
 use mathlib.Core.List.{List, [], _∷_, _++_}
 use lib.ListN.{length}
 use Rattle.ebpf.specs.Choice.{_if_else_}
 use Rattle.program.specs.declared.Row.{Row}
-use Rattle.program.specs.declared.Found.{Found}
 use Rattle.program.specs.declared.Found.the-variants.{At, Nothing}
 use Rattle.program.specs.declared.Registered.{Registered}
 use Rattle.program.specs.declared.Registered.the-variants.{Inserted, Repeat, Collision, Full}
@@ -22,9 +21,9 @@ use Rattle.program.proofs.Laws.{by-registered, insert-ascending, remove-ascendi
 use Rattle.loader.specs.declared.error.ElfError.{ElfError}
 use Rattle.loader.specs.declared.error.ElfError.the-variants.{SymbolHashCollision, TableFull}
 use Rattle.loader.specs.Trace.{Trace, done, stop, register, forget, andThen, each, Settled, accepted, refused, settle, onRegistered}
-use Rattle.loader.specs.Demand.{onReached, reached, Among, distinct, isOneOf}
+use Rattle.loader.specs.Demand.{onReached, reached, Among, distinct}
 use Rattle.loader.proofs.Plain.{Plain, ofTable}
-use Rattle.loader.proofs.Counting.{Same, same-sym, same-then, same-again, same-behind, same-front, one-behind, keysOf, one-held, one-missing, distinct-rows, same-insert, same-remove, remove-le, find-rank}
+use Rattle.loader.proofs.Counting.{same-again, same-behind, same-front, one-behind, keysOf, one-held, one-missing, distinct-rows, same-insert, same-remove, remove-le, find-rank}
 
 -- refused for a collision; for a full table
 abbrev pub Collides : Settled → Type 0
@@ -34,10 +33,10 @@ abbrev pub Fills : Settled → Type 0
 Fills s = (n : ℕ) × (s ≡ refused (TableFull n))
 
 -- what a plain refusal is not
-no-collision : (r : ElfError) → Plain r → Collides (refused r) → ⊥
+pub no-collision : (r : ElfError) → Plain r → Collides (refused r) → ⊥
 no-collision r p (k, e) = let t : ofTable r ≡ true = cc in zero-one (cc)
 
-no-full : (r : ElfError) → Plain r → Fills (refused r) → ⊥
+pub no-full : (r : ElfError) → Plain r → Fills (refused r) → ⊥
 no-full r p (n, e) = let t : ofTable r ≡ true = cc in zero-one (cc)
 
 -- ---- traces that forget nothing
