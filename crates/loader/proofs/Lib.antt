@@ -22,3 +22,8 @@ pub mod Named
 pub mod Targets
 pub mod Imaged
 pub mod Demanded
+pub mod Plain
+pub mod Counting
+pub mod Reaching
+pub mod Early
+pub mod Refusing
