@@ -1,9 +1,8 @@
 -- Demand 3 follows from what a load leaves. Assumes nothing.
-use Prim.Native.Nat.{ℕ, _-_, _≤_}
+use Prim.Native.Nat.{ℕ, _-_, _<_}
 use mathlib.Core.Path.{_≡_, refl, sym, ap, _∙_, subst, fun-ext}
-use mathlib.Core.Logic.{_⊎_, inl, inr}
-use mathlib.Core.Bool.{false}
-use mathlib.Core.List.{List, [], _++_}
+use mathlib.Core.Logic.{_⊎_, _↔_}
+use mathlib.Core.List.{List, [], _++_, map}
 use lib.ListN.{length, replicate}
 use Rattle.ebpf.specs.LittleEndian.{le}
 use Rattle.program.specs.declared.Row.{Row}
@@ -13,6 +12,7 @@ use Rattle.program.specs.Table.{Slices, capacity, lay, lookupIn}
 use Rattle.program.proofs.Tables.{lookup-lay}
 use Rattle.loader.specs.declared.answer.Load.{Load}
 use Rattle.loader.specs.declared.answer.Load.the-variants.{Accepted as Accepts, Refused as Refuses}
+use Rattle.loader.specs.declared.error.ElfError.the-variants.{SymbolHashCollision, TableFull}
 use Rattle.loader.specs.declared.read_only.Placing.{Placing}
 use Rattle.loader.specs.declared.read_only.Placing.the-variants.{Borrowed, Owned, Refused as NotPlaced}
 use Rattle.loader.specs.declared.validate.Config.{Config}
@@ -21,7 +21,7 @@ use Rattle.loader.specs.declared.validate.Prepared.{Prepared}
 use Rattle.loader.specs.declared.validate.Prepared.the-variants.{Ready, Refused as NotReady}
 use Rattle.loader.specs.Calls.{immediate}
 use Rattle.loader.specs.Contracts.{InFile}
-use Rattle.loader.specs.Demand.{CallsTo, isIn, Unnamed, Calls, Keys, Entry, Others, Bytes, IsNameKey, Finds, keyOf, OnAccepted}
+use Rattle.loader.specs.Demand.{CallsTo, isIn, Unnamed, Calls, Keys, Entry, Others, Bytes, IsNameKey, Finds, keyOf, OnAccepted, reachedIn, reachedEarly, Clash, distinct, Demand3}
 use Rattle.loader.specs.Load.{Loading, holds, refuses, heldBy, onTrace, onPrepared, loadOf, answerOf, imageOf, rowsIn, WholeOrZeros, Loaded}
 use Rattle.loader.specs.Parts.{jobTrace}
 use Rattle.loader.specs.Trace.{Settled, accepted, refused, settle}
@@ -29,6 +29,7 @@ use Rattle.loader.specs.Validate.{prepared}
 use Rattle.loader.proofs.Readied.{readied}
 use Rattle.loader.proofs.Traces.{settle-ends}
 use Rattle.loader.proofs.Imaged.{lent-bytes, lent-keyed}
+use Rattle.loader.proofs.Refusing.{injective-keys, collides, fills}
 use Rattle.loader.proofs.Keyed.{keys-found, entry-found, others-found, call-found, rows-room}
 
 -- what an accepted load has: its file passed the checks, its trace settled, and the image and the table are those
@@ -104,17 +105,30 @@ module _ (file builtins : List ℕ) (c : Config) (im ro : List ℕ) (t : Slices)
         subst (λ (k : ℕ). IsNameKey j k ⊎ Finds (lookupIn t′ used) k to) (sym key) found
 
   module _ (a : Load) (did : Loaded (loadOf file builtins c (length im) (length ro) (capacity t)) im ro t im′ ro′ t′ a) where
-    pub has-calls : OnAccepted a (prepared file builtins c (length im) (length ro)) (λ j used. Calls file j im′ (lookupIn t′ used))
+    has-calls : OnAccepted a (prepared file builtins c (length im) (length ro)) (λ j used. Calls file j im′ (lookupIn t′ used))
     has-calls = on-accepted (λ j used. Calls file j im′ (lookupIn t′ used)) held-calls a did
 
-    pub has-keys : OnAccepted a (prepared file builtins c (length im) (length ro)) (λ j used. Keys file builtins j (lookupIn t′ used))
+    has-keys : OnAccepted a (prepared file builtins c (length im) (length ro)) (λ j used. Keys file builtins j (lookupIn t′ used))
     has-keys = on-accepted (λ j used. Keys file builtins j (lookupIn t′ used)) held-keys a did
 
-    pub has-entry : OnAccepted a (prepared file builtins c (length im) (length ro)) (λ j used. Entry j (lookupIn t′ used))
+    has-entry : OnAccepted a (prepared file builtins c (length im) (length ro)) (λ j used. Entry j (lookupIn t′ used))
     has-entry = on-accepted (λ j used. Entry j (lookupIn t′ used)) held-entry a did
 
-    pub has-others : OnAccepted a (prepared file builtins c (length im) (length ro)) (λ j used. Others file builtins j (lookupIn t′ used))
+    has-others : OnAccepted a (prepared file builtins c (length im) (length ro)) (λ j used. Others file builtins j (lookupIn t′ used))
     has-others = on-accepted (λ j used. Others file builtins j (lookupIn t′ used)) held-others a did
 
-    pub has-bytes : OnAccepted a (prepared file builtins c (length im) (length ro)) (λ j used. Bytes file j im′)
+    has-bytes : OnAccepted a (prepared file builtins c (length im) (length ro)) (λ j used. Bytes file j im′)
     has-bytes = on-accepted (λ j used. Bytes file j im′) held-bytes a did
+
+    -- all of it
+    pub demanded : Demand3 file builtins c (length im) (length ro) t im′ t′ a
+    demanded = record {
+      calls = has-calls;
+      keys = has-keys;
+      entry = has-entry;
+      others = has-others;
+      bytes = has-bytes;
+      injective = injective-keys;
+      collision = λ off. subst (λ (b : Load). ((key : ℕ) × (b ≡ Refuses (SymbolHashCollision key))) ↔ Clash (reachedEarly file builtins (capacity t) (prepared file builtins c (length im) (length ro)))) (sym (did .answers)) (collides file builtins c (length im) (length ro) (capacity t) off);
+      full = λ off. subst (λ (b : Load). ((rows : ℕ) × (b ≡ Refuses (TableFull rows))) ↔ (capacity t < distinct (map (λ r. r .key) (reachedIn file builtins (capacity t) (prepared file builtins c (length im) (length ro)))))) (sym (did .answers)) (fills file builtins c (length im) (length ro) (capacity t) off);
+    }

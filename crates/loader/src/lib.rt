@@ -9,6 +9,7 @@ use validate::prepare;
 ghost use lib.ListN.{length};
 ghost use Rattle.program.specs.Table.{slices, capacity};
 ghost use Rattle.loader.specs.Load.{loadOf, Tried, Loaded};
+ghost use Rattle.loader.specs.Demand.{Demand3};
 
 mod addresses;
 mod answer;
@@ -100,7 +101,8 @@ fn attempt(
     }
 }
 
-// A LOAD: the image, the read-only bytes and the table of a file, or a refusal and only zeros.
+// A LOAD: the image, the read-only bytes and the table of a file, or a refusal and only zeros
+// (`Loaded`, with demand 1); and demand 3, which follows from it.
 pub fn load(
     file: &[u8],
     builtins: &[u32],
@@ -113,7 +115,7 @@ pub fn load(
     starts: &mut [u32],
     lengths: &mut [u32],
 ) -> Load
-    ensures { λ r. ⌜ Loaded (loadOf (now (file .entry)) (now (builtins .entry)) config (length (now (image .entry))) (length (now («ro_section» .entry))) (capacity (slices (now (keys .entry)) (now (indices .entry)) (now (kinds .entry)) (now (starts .entry)) (now (lengths .entry))))) (now (image .entry)) (now («ro_section» .entry)) (slices (now (keys .entry)) (now (indices .entry)) (now (kinds .entry)) (now (starts .entry)) (now (lengths .entry))) (now (image .exit)) (now («ro_section» .exit)) (slices (now (keys .exit)) (now (indices .exit)) (now (kinds .exit)) (now (starts .exit)) (now (lengths .exit))) r ⌝ }
+    ensures { λ r. ⌜ Loaded (loadOf (now (file .entry)) (now (builtins .entry)) config (length (now (image .entry))) (length (now («ro_section» .entry))) (capacity (slices (now (keys .entry)) (now (indices .entry)) (now (kinds .entry)) (now (starts .entry)) (now (lengths .entry))))) (now (image .entry)) (now («ro_section» .entry)) (slices (now (keys .entry)) (now (indices .entry)) (now (kinds .entry)) (now (starts .entry)) (now (lengths .entry))) (now (image .exit)) (now («ro_section» .exit)) (slices (now (keys .exit)) (now (indices .exit)) (now (kinds .exit)) (now (starts .exit)) (now (lengths .exit))) r × Demand3 (now (file .entry)) (now (builtins .entry)) config (length (now (image .entry))) (length (now («ro_section» .entry))) (slices (now (keys .entry)) (now (indices .entry)) (now (kinds .entry)) (now (starts .entry)) (now (lengths .entry))) (now (image .exit)) (slices (now (keys .exit)) (now (indices .exit)) (now (kinds .exit)) (now (starts .exit)) (now (lengths .exit))) r ⌝ }
 {
     match attempt(
         image,

@@ -24,7 +24,7 @@ returns : tie.Need-returns
 returns c =
     let p = c .before .before .before .before .before .before .before .before .before .before .before .before .before .before .before .before .before .before .before in
     let s = c .before .before .before .before .before .before .before .before .before .before .before .before .before .before .before .before .before .before .before .before .before .before .before .before .before .before .before .before .before .before .before .before .before .before .before .before .before .before in
-    load-gives (whole s) (c .before .before .before .before .before .before .before .before .before .before .before .before .before .before .before .before .before .before .before .before .before .before .before .before .before .before .before .config-of .result) (configOf (s .args .settings)) (c .before .before .before .before .before .before .before .before .before .before .before .before .before .before .before .before .before .before .before .before .before .before .before .before .before .before .before .config-of .ensures) (s .args .image .now) (s .args .ro .now) (T s) (p .load .last .1 .1 .1 .0) (p .load .last .1 .1 .1 .1 .0) (T₁ p) (p .load .result) (c .before .before .before .load-answer .result) (s .args .answer .now) (c .before .before .give .last .0) (c .before .before .give .result) (p .load .ensures) (c .before .before .before .load-answer .ensures) (c .before .before .give .ensures)
+    load-gives (whole s) (c .before .before .before .before .before .before .before .before .before .before .before .before .before .before .before .before .before .before .before .before .before .before .before .before .before .before .before .config-of .result) (configOf (s .args .settings)) (c .before .before .before .before .before .before .before .before .before .before .before .before .before .before .before .before .before .before .before .before .before .before .before .before .before .before .before .config-of .ensures) (s .args .image .now) (s .args .ro .now) (T s) (p .load .last .1 .1 .1 .0) (p .load .last .1 .1 .1 .1 .0) (T₁ p) (p .load .result) (c .before .before .before .load-answer .result) (s .args .answer .now) (c .before .before .give .last .0) (c .before .before .give .result) (p .load .ensures .0) (c .before .before .before .load-answer .ensures) (c .before .before .give .ensures)
 
 pub sbpf-load-spec : {M : Type 1} → statement M
 sbpf-load-spec =
