@@ -1,6 +1,7 @@
 -- The table of a load that was accepted: its keys are those of the registrations, and what each of them finds. From the definitions
 -- alone. Assumes nothing.
-use Prim.Native.Nat.{ℕ, _≤_, zero-le}
+use Prim.Native.Nat.{ℕ, _+_, _-_, _*_, _/_, _≤_, zero-le}
+use native.Mathlib.Omega.{arith}
 use native.Mathlib.Decide.{ℕ-discrete}
 use mathlib.Core.Path.{_≡_, refl, ap, _∙_, subst}
 use mathlib.Core.Logic.{_⊎_, inl, inr, _↔_}
@@ -15,14 +16,20 @@ use Rattle.program.specs.declared.FunctionName.{FunctionName}
 use Rattle.program.specs.declared.FunctionName.the-variants.{OfIndex, Entrypoint}
 use Rattle.program.specs.declared.Legacy.the-variants.{Free, Taken}
 use Rattle.program.specs.HashedLegacy.{legacyKey, legacyRow, isTaken, keptName, rowOf}
-use Rattle.program.specs.Rows.{rank, Ascending, find, Held, Repeats, remove}
+use Rattle.program.specs.Rows.{rank, Ascending, find, Held, Repeats, remove, unregister}
+use Rattle.program.specs.Rows as table
+use Rattle.program.specs.Runs.{movesGone}
 use Rattle.program.proofs.Cases.{zero-one}
 use Rattle.program.proofs.Laws.{find-remove-other, keys-removed}
+use Rattle.program.proofs.Moves.{triangle-mono, triangle-twice, removal-moves, registration-moves}
 use Rattle.loader.specs.declared.read_only.Placing.{Placing}
 use Rattle.loader.specs.declared.read_only.Placing.the-variants.{Borrowed, Owned, Refused}
 use Rattle.loader.specs.declared.validate.Job.{Job}
 use Rattle.loader.specs.Trace.{Trace, andThen, accepted, settle}
-use Rattle.loader.specs.Deeds.{deedTrace}
+use Rattle.loader.specs.declared.deeds.Entry.{Entry as EntryOf}
+use Rattle.loader.specs.declared.deeds.Entry.the-variants.{Nothing, Refuse as NoEntry, Register as Enter}
+use Rattle.loader.specs.Deeds.{entryOf, deedTrace}
+use Rattle.loader.specs.Deeds as deeds
 use Rattle.loader.specs.Functions.{rowFor}
 use Rattle.loader.specs.Labels.{labelsTrace}
 use Rattle.loader.specs.Entry.{entryDeed, forgetTrace}
@@ -31,7 +38,7 @@ use Rattle.loader.specs.Parts.{writingTrace, namingTrace, placedTrace, j
 use Rattle.loader.specs.Demand.{CallsTo, OfEntry, Registers, Finds, IsNameKey, Keys, Entry, Others, nameKey, keyOf, entryIndex, earlyTrace}
 use Rattle.loader.proofs.Ends.{Ends}
 use Rattle.loader.proofs.Asked.{Asks}
-use Rattle.loader.proofs.Traces.{settle-ends, settle-room, settle-ascends, settle-keeps, settle-finds, settle-only, settle-split, settle-then}
+use Rattle.loader.proofs.Traces.{went, settle-moves, settle-ends, settle-room, settle-ascends, settle-keeps, settle-finds, settle-only, settle-split, settle-then}
 use Rattle.loader.proofs.Registering.{EarlyRow, deed-asks, deed-keeps, entry-registers, entry-row, early-asks, early-keeps, calls-have}
 
 -- ---- a row's key and index
@@ -85,6 +92,7 @@ module _ (file builtins : List ℕ) (j : Job) (cap : ℕ) (im′ : List ℕ) (ro
     pub early-moves : ℕ
     pub early : settle cap (earlyTrace file builtins j) [] 0 ≡ accepted image held early-moves
     pub entry-moves : ℕ
+    pub few : entry-moves ≤ early-moves + (length held - 1)
     pub entry : settle cap (deedTrace (entryDeed builtins j) image) (forgotten (j .version2) held) entry-moves ≡ accepted im′ rows moves
 
   -- the placing leaves the rows
@@ -96,10 +104,10 @@ module _ (file builtins : List ℕ) (j : Job) (cap : ℕ) (im′ : List ℕ) (ro
 
   entered : (version2 : Bool) (im : List ℕ) (rs : List Row) (m : ℕ)
       → settle cap (andThen (forgetTrace version2 im) (λ (im′ : List ℕ). deedTrace (entryDeed builtins j) im′)) rs m ≡ accepted im′ rows moves
-      → (n : ℕ) × (settle cap (deedTrace (entryDeed builtins j) im) (forgotten version2 rs) n ≡ accepted im′ rows moves)
+      → (n : ℕ) × (n ≤ m + (length rs - 1)) × (settle cap (deedTrace (entryDeed builtins j) im) (forgotten version2 rs) n ≡ accepted im′ rows moves)
   unfolding settle andThen
-  entered true im rs m e = (m, e)
-  entered false im rs m e = (_, e)
+  entered true im rs m e = (m, omega arith, e)
+  entered false im rs m e = (m + movesGone (unregister nameKey rs), omega (arith, removal-moves nameKey rs), e)
 
   pub stages : settle cap (jobTrace file builtins j file) [] 0 ≡ accepted im′ rows moves → Stages
   unfolding jobTrace
@@ -115,7 +123,8 @@ module _ (file builtins : List ℕ) (j : Job) (cap : ℕ) (im′ : List ℕ) (ro
         early-moves = n .moves;
         early = settle-then cap (writingTrace file builtins j file) (labelsTrace file builtins j) [] 0 (w .image) (w .held) (w .moves) (w .first) ∙ n .first;
         entry-moves = x .0;
-        entry = x .1;
+        few = x .1;
+        entry = x .2;
       }
 
 -- ---- the table of a load
@@ -219,3 +228,28 @@ module _ (file builtins : List ℕ) (j : Job) (cap : ℕ) (im′ : List ℕ) (ro
       let key : r .0 .key ≡ keyOf (j .version2) to = is .0 ∙ call-key (j .version2) to in
       subst (λ (k : ℕ). IsNameKey j k ⊎ Finds (λ (k : ℕ). find k rows) k to) key
       (subst (λ (n : ℕ). IsNameKey j (r .0 .key) ⊎ Finds (λ (k : ℕ). find k rows) (r .0 .key) n) (is .1) (others-found (r .0) (inl (i, (to, c, r .1)))))
+
+  -- ---- the moves
+
+  -- the entry's own registration moves at most all rows but one
+  entry-moves : (a : EntryOf) (im : List ℕ) (rs : List Row) (m : ℕ) → settle cap (deeds.entryTrace a im) rs m ≡ accepted im′ rows moves → moves ≤ m + (cap - 1)
+  unfolding settle
+  entry-moves Nothing im rs m e = let n : m ≡ moves = cc in omega (arith, n)
+  entry-moves (NoEntry r) im rs m e = absurd (zero-one (cc))
+  entry-moves (Enter row false) im rs m e =
+      let w = went (table.register cap row rs) cap (row .key) m _ im′ rows moves e in
+      let n : w .moves ≡ moves = let d = w .on in cc in
+      omega (arith, w .more, n, registration-moves cap row rs)
+  entry-moves (Enter row true) im rs m e =
+      let w = went (table.register cap row rs) cap (row .key) m _ im′ rows moves e in
+      absurd (let d = w .on in zero-one (cc))
+
+  -- THE CEILING: n × (n − 1) / 2 + 2 × (n − 1) in a table of n rows
+  pub moves-few : moves ≤ cap * (cap - 1) / 2 + 2 * (cap - 1)
+  unfolding deedTrace
+  moves-few =
+      let early = settle-moves cap (s .image) (s .held) (s .early-moves) ahead [] 0 (early-keeps file builtins j) (s .early) in
+      let room = settle-room cap (s .image) (s .held) (s .early-moves) ahead [] 0 zero-le (s .early) in
+      let up = triangle-mono (length (s .held)) cap room in
+      let last = entry-moves (entryOf (entryDeed builtins j)) _ begun (s .entry-moves) (s .entry) in
+      omega (arith, early, room, up, last, s .few, triangle-twice cap)

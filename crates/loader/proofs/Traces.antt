@@ -15,8 +15,10 @@ use Rattle.program.specs.declared.Registered.{Registered}
 use Rattle.program.specs.declared.Registered.the-variants.{Inserted, Repeat, Collision, Full}
 use Rattle.program.specs.Rows.{rank, Ascending, find, Held, Repeats, remove, registered}
 use Rattle.program.specs.Rows as table
+use Rattle.program.specs.Runs.{movesOf, triangle}
 use Rattle.program.proofs.Cases.{by-eq, zero-one}
 use Rattle.program.proofs.Laws.{by-registered, find-insert-other, find-registered-same, find-registered-other, registered-room, registered-ascending, remove-ascending}
+use Rattle.program.proofs.Moves.{moves-step}
 use Rattle.loader.specs.Trace.{Trace, done, stop, register, forget, andThen, each, Settled, accepted, refused, settle, onRegistered, onSettled, settle-andThen}
 use Rattle.loader.proofs.Ends.{Ends, ends-then}
 use Rattle.loader.proofs.Asked.{Asks, Keeps}
@@ -24,15 +26,16 @@ use Rattle.loader.proofs.Asked.{Asks, Keeps}
 -- ---- one registration
 
 -- what was accepted after a registration
-pub record Went (a : Registered) (k : ℕ → Settled) (s : Settled) : Type 0 where
+pub record Went (a : Registered) (m : ℕ) (k : ℕ → Settled) (s : Settled) : Type 0 where
   pub moves : ℕ
+  pub more : moves ≡ m + movesOf a
   pub on : k moves ≡ s
   pub no-clash : a ≡ Collision → ⊥
   pub not-full : a ≡ Full → ⊥
 
-went : (a : Registered) (cap key m : ℕ) (k : ℕ → Settled) (im : List ℕ) (rows : List Row) (n : ℕ) → onRegistered a cap key m k ≡ accepted im rows n → Went a k (accepted im rows n)
-went (Inserted d) cap key m k im rows n e = record { moves = m + d; on = e; no-clash = λ h. zero-one (cc); not-full = λ h. zero-one (cc) }
-went Repeat cap key m k im rows n e = record { moves = m; on = e; no-clash = λ h. zero-one (cc); not-full = λ h. zero-one (cc) }
+pub went : (a : Registered) (cap key m : ℕ) (k : ℕ → Settled) (im : List ℕ) (rows : List Row) (n : ℕ) → onRegistered a cap key m k ≡ accepted im rows n → Went a m k (accepted im rows n)
+went (Inserted d) cap key m k im rows n e = record { moves = m + d; more = refl; on = e; no-clash = λ h. zero-one (cc); not-full = λ h. zero-one (cc) }
+went Repeat cap key m k im rows n e = record { moves = m; more = omega arith; on = e; no-clash = λ h. zero-one (cc); not-full = λ h. zero-one (cc) }
 went Collision cap key m k im rows n e = absurd (zero-one (cc))
 went Full cap key m k im rows n e = absurd (zero-one (cc))
 
@@ -53,7 +56,7 @@ remove-le k (x ∷ rs) = by-eq (rank x) k (λ (b : Bool). length (rs if b else (
 
 module _ (cap : ℕ) (im′ : List ℕ) (rows′ : List Row) (m′ : ℕ) where
   -- the rest, after a registration
-  next : (r : Row) (T : Trace) (rows : List Row) (m : ℕ) → settle cap (register r T) rows m ≡ accepted im′ rows′ m′ → Went (table.register cap r rows) (λ (n : ℕ). settle cap T (registered cap r rows) n) (accepted im′ rows′ m′)
+  next : (r : Row) (T : Trace) (rows : List Row) (m : ℕ) → settle cap (register r T) rows m ≡ accepted im′ rows′ m′ → Went (table.register cap r rows) m (λ (n : ℕ). settle cap T (registered cap r rows) n) (accepted im′ rows′ m′)
   unfolding settle
   next r T rows m e = went (table.register cap r rows) cap (r .key) m _ im′ rows′ m′ e
 
@@ -64,6 +67,17 @@ module _ (cap : ℕ) (im′ : List ℕ) (rows′ : List Row) (m′ : ℕ) where
   settle-ends (stop r) rows m e = absurd (zero-one (cc))
   settle-ends (register r T) rows m e = let w = next r T rows m e in settle-ends T _ _ (w .on)
   settle-ends (forget key T) rows m e = settle-ends T _ _ e
+
+  -- the moves are paid for by the rows
+  pub settle-moves : (T : Trace) (rows : List Row) (m : ℕ) → Keeps T → settle cap T rows m ≡ accepted im′ rows′ m′ → m′ + triangle (length rows) ≤ m + triangle (length rows′)
+  unfolding settle
+  settle-moves (done im) rows m keeps e = let same : rows ≡ rows′ = cc in let n : m ≡ m′ = cc in rw (← same, ← n) (omega arith)
+  settle-moves (stop r) rows m keeps e = absurd (zero-one (cc))
+  settle-moves (register r T) rows m keeps e =
+      let w = next r T rows m e in
+      let on = settle-moves T (registered cap r rows) (w .moves) keeps (w .on) in
+      omega (arith, on, w .more, moves-step cap r rows)
+  settle-moves (forget key T) rows m keeps e = absurd keeps
 
   -- no more rows than there is room for
   pub settle-room : (T : Trace) (rows : List Row) (m : ℕ) → length rows ≤ cap → settle cap T rows m ≡ accepted im′ rows′ m′ → length rows′ ≤ cap

@@ -16,6 +16,7 @@ pub mod Calls
 pub mod Relocations
 pub mod Labels
 pub mod RelocationExamples
+pub mod Worked
 pub mod Parts
 pub mod Load
 pub mod Demand

@@ -1,4 +1,4 @@
--- Document 01's worked examples on relocations, and a few beside them, on labels too: each holds by computation.
+-- Examples on relocations and labels beside document 01's (`Worked`): each holds by computation.
 use Prim.Native.Nat.{ℕ, _+_, _*_, _^_}
 use mathlib.Core.Bool.{Bool, true, false}
 use mathlib.Core.List.{List, [], _∷_, _++_}
@@ -37,7 +37,7 @@ abbrev header : ℕ → ℕ → ℕ → List ℕ
 header vaddr memsz offset = bytesOf 8 0 ++ (bytesOf 8 offset ++ (bytesOf 8 vaddr ++ (bytesOf 8 0 ++ (bytesOf 8 0 ++ (bytesOf 8 memsz ++ bytesOf 8 0)))))
 
 -- two relocations, a symbol, two program headers and a string table's header in this order; the text is the first 16 bytes
-abbrev layout : Layout
+abbrev pub layout : Layout
 layout =
     record {
       «program_headers» = record { offset = 56; count = 2 };
@@ -50,7 +50,7 @@ layout =
       «dynamic_symbols» = record { offset = 32; count = 1 };
     }
 
-abbrev job : Bool → Job
+abbrev pub job : Bool → Job
 job version2 =
     record {
       version2 = version2;
@@ -75,14 +75,14 @@ abbrev file : List ℕ → List ℕ → List ℕ → List ℕ
 file one two y = one ++ (two ++ (y ++ (header 0 0x10 0 ++ (header 8 0x20 0x100 ++ strings))))
 
 -- 24 bytes: 4 and 0 in the immediates of two slots, then 7; and zeros
-abbrev image : List ℕ
+abbrev pub image : List ℕ
 image = bytesOf 8 (4 * 2 ^ 32) ++ (bytesOf 8 0 ++ bytesOf 8 7)
 
-abbrev zeros : List ℕ
+abbrev pub zeros : List ℕ
 zeros = bytesOf 8 0 ++ (bytesOf 8 0 ++ bytesOf 8 0)
 
 -- what a relocation asks for in version 1
-abbrev asked : List ℕ → ℕ → ℕ → Deed
+abbrev pub asked : List ℕ → ℕ → ℕ → Deed
 asked im r-offset r-info = relocationDeed (file (relocation r-offset r-info) (relocation 0 0) (symbol 0 0x20)) [] (job false) 0 im
 
 -- type 1, symbol value 0x20, bytes 4: halves 0x24 and 1. A symbol that is not there; the upper half outside the image
