@@ -1,8 +1,9 @@
--- A relocation writes only bytes that it names: where its deed fits the image, no sum of a place stops at 2 ^ 64 - 1.
+-- A relocation that is applied writes the bytes that it names and no other: where its deed fits the image, no sum of a place stops at
+-- 2 ^ 64 - 1.
 -- Assumes nothing.
 use Prim.Native.Nat.{ℕ, _+_, _/_, _%_, _^_, _≤_}
 use native.Mathlib.Omega.{arith}
-use mathlib.Core.Path.{_≡_, refl}
+use mathlib.Core.Path.{_≡_, refl, sym, _∙_}
 use mathlib.Core.Bool.{Bool, true, false, _||_, not}
 use mathlib.Core.List.{List}
 use lib.ListN.{length, take, drop}
@@ -20,7 +21,9 @@ use Rattle.elf_parser.specs.Records.{dynamicSymbolOf}
 use Rattle.program.specs.declared.FunctionName.{FunctionName}
 use Rattle.program.specs.declared.Legacy.{Legacy}
 use Rattle.program.specs.declared.Legacy.the-variants.{Free, Taken}
+use Rattle.program.proofs.Cases.{zero-one}
 use Rattle.loader.specs.declared.deeds.Deed.{Deed}
+use Rattle.loader.specs.declared.deeds.Deed.the-variants.{Skip, Refuse, Halves, Word, Key, Register, RegisterOnly, RegisterOutside}
 use Rattle.loader.specs.declared.relocations.Mapped.{Mapped}
 use Rattle.loader.specs.declared.relocations.Mapped.the-variants.{At, Refused as Unmapped}
 use Rattle.loader.specs.declared.validate.Job.{Job}
@@ -30,10 +33,24 @@ use Rattle.loader.specs.Relocations.{immediateAt, halvesDeed, wordDeed, 
 use Rattle.loader.specs.Demand.{isIn, inHalves, namedBy, namedAt}
 use Rattle.loader.proofs.Kept.{writes}
 
--- of the byte b: a deed doesn't write it where it isn't named
+-- the load stops at it
+abbrev pub stops : Deed → Bool
+stops Skip = false
+stops (Refuse r) = true
+stops (Halves low high v) = false
+stops (Word at v) = false
+stops (Key at k) = false
+stops (Register row at) = false
+stops (RegisterOnly row) = false
+stops (RegisterOutside row) = true
+
+-- of the byte b: a deed that doesn't stop the load writes it exactly where it is named
 module _ (b : ℕ) where
   abbrev Clear : Bool → Deed → Type 0
-  Clear named d = named ≡ false → writes d b ≡ false
+  Clear named d = stops d ≡ false → named ≡ writes d b
+
+  never : {A : Type 0} → _≡_ {A = Bool} true false → A
+  never e = absurd (zero-one (cc))
 
   -- a choice, and one that the names make too
   one : (p t : Bool) (x y : Deed) → Clear p x → (t ≡ false → Clear p y) → Clear p (x if t else y)
@@ -55,8 +72,8 @@ module _ (b : ℕ) where
     unfolding immediateAt
     immediate-plain h = omega arith
 
-    halves : (low high : ℕ) → low ≡ r + 4 → high ≡ r + 12 → inHalves r b ≡ false → (isIn low 4 b || isIn high 4 b) ≡ false
-    halves low high e f h = rw (e, f) h
+    halves : (low high : ℕ) → low ≡ r + 4 → high ≡ r + 12 → _≡_ {A = Bool} false false → inHalves r b ≡ (isIn low 4 b || isIn high 4 b)
+    halves low high e f h = rw (e, f) refl
 
     -- the upper half, as type 1 and as type 8 add its place up
     up-twelve : sumUpTo (immediateAt r) 8 + 4 ≤ n → sumUpTo (immediateAt r) 8 ≡ r + 12
@@ -70,34 +87,34 @@ module _ (b : ℕ) where
     halves-clear : (v : ℕ) → Clear (inHalves r b) (halvesDeed n (immediateAt r) (sumUpTo (immediateAt r) 8) v)
     unfolding halvesDeed
     halves-clear v =
-        one _ _ _ _ (λ h. refl) (λ e. one _ _ _ _ (λ h. refl) (λ f. halves _ _ (immediate-plain (at-fits _ e)) (up-twelve (at-fits _ f))))
+        one _ _ _ _ never (λ e. one _ _ _ _ never (λ f. halves _ _ (immediate-plain (at-fits _ e)) (up-twelve (at-fits _ f))))
 
     text-clear : (address : ℕ) → Clear (inHalves r b) (relativeText n (immediateAt r) (immediateAt (sumUpTo r 8)) address)
     unfolding relativeText
     text-clear address =
-        one _ _ _ _ (λ h. refl)
-        (λ e. one _ _ _ _ (λ h. refl)
-        (λ f. one _ _ _ _ (λ h. refl) (λ g. halves _ _ (immediate-plain (at-fits _ e)) (twelve-up (at-fits _ f)))))
+        one _ _ _ _ never
+        (λ e. one _ _ _ _ never
+        (λ f. one _ _ _ _ never (λ g. halves _ _ (immediate-plain (at-fits _ e)) (twelve-up (at-fits _ f)))))
 
     word-clear : (v : ℕ) → Clear (isIn r 8 b) (wordDeed n r v)
     unfolding wordDeed
-    word-clear v = one _ _ _ _ (λ h. refl) (λ e h. h)
+    word-clear v = one _ _ _ _ never (λ e h. refl)
 
     -- four bytes at the immediate
-    four : immediateAt r + 4 ≤ n → isIn (r + 4) 4 b ≡ false → isIn (immediateAt r) 4 b ≡ false
-    four l h = rw (immediate-plain l) h
+    four : immediateAt r + 4 ≤ n → _≡_ {A = Bool} false false → isIn (r + 4) 4 b ≡ isIn (immediateAt r) 4 b
+    four l h = rw (immediate-plain l) refl
 
     register-clear : (row : Legacy) → Clear (isIn (r + 4) 4 b) (registerDeed n (immediateAt r) row)
-    register-clear (Taken key) = λ h. refl
-    register-clear (Free row) = one _ _ _ _ (λ h. refl) (λ e. four (at-fits _ e))
+    register-clear (Taken key) = never
+    register-clear (Free row) = one _ _ _ _ never (λ e. four (at-fits _ e))
 
     function-clear : (builtins : List ℕ) (j : Job) (name : FunctionName) (value : ℕ) → Clear (isIn (r + 4) 4 b) (functionCall builtins j n (immediateAt r) name value)
     unfolding functionCall
-    function-clear builtins j name value = one _ _ _ _ (λ h. refl) (λ e. register-clear (rowFor builtins j name (indexOf j value)))
+    function-clear builtins j name value = one _ _ _ _ never (λ e. register-clear (rowFor builtins j name (indexOf j value)))
 
     builtin-clear : (builtins : List ℕ) (reject : Bool) (start k hash : ℕ) → Clear (isIn (r + 4) 4 b) (builtinCall builtins reject n (immediateAt r) r start k hash)
     unfolding builtinCall
-    builtin-clear builtins reject start k hash = one _ _ _ _ (λ h. refl) (λ e. one _ _ _ _ (λ h. refl) (λ f. four (at-fits _ f)))
+    builtin-clear builtins reject start k hash = one _ _ _ _ never (λ e. one _ _ _ _ never (λ f. four (at-fits _ f)))
 
     name-clear : (part builtins : List ℕ) (j : Job) (y : Elf64Sym) (start k : ℕ) → Clear (isIn (r + 4) 4 b) (callByName part builtins j n r y start k)
     unfolding callByName
@@ -105,11 +122,11 @@ module _ (b : ℕ) where
 
     place-clear : (s builtins : List ℕ) (j : Job) (y : Elf64Sym) (p : Place) → Clear (isIn (r + 4) 4 b) (namedCall s builtins j n r y p)
     place-clear s builtins j y (Stands start k) = name-clear (take k (drop start s)) builtins j y start k
-    place-clear s builtins j y (NoPlace e) = λ h. refl
+    place-clear s builtins j y (NoPlace e) = never
 
     call-clear : (s builtins : List ℕ) (j : Job) (number : ℕ) (y : Sym) → Clear (isIn (r + 4) 4 b) (symbolCall s builtins j n r number y)
     call-clear s builtins j number (Symbol y) = place-clear s builtins j y (dynamicSymbolName s (j .layout) (y .«st_name»))
-    call-clear s builtins j number (NoSym e) = λ h. refl
+    call-clear s builtins j number (NoSym e) = never
 
     clear6432 : (s builtins : List ℕ) (j : Job) (number : ℕ) → Clear (isIn (r + 4) 4 b) (plan6432 s builtins j n r number)
     unfolding plan6432
@@ -124,12 +141,12 @@ module _ (b : ℕ) where
     symbol-clear : (split : Bool) (addend number : ℕ) (y : Sym)
         → Clear (inHalves r b if split else isIn r 8 b) (symbolDeed n split (immediateAt r if split else r) addend number y)
     symbol-clear split addend number (Symbol y) = address-clear split _
-    symbol-clear split addend number (NoSym e) = λ h. refl
+    symbol-clear split addend number (NoSym e) = never
 
   module _ (s im : List ℕ) (short : length im ≤ 2 ^ 24) (r : ℕ) where
     clear6464 : (l : Layout) (split : Bool) (number : ℕ) → Clear (inHalves r b if split else isIn r 8 b) (plan6464 s im l split r number)
     unfolding plan6464
-    clear6464 l split number = one _ _ _ _ (λ h. refl) (λ e. symbol-clear (length im) short r split _ number (dynamicSymbolOf s l number))
+    clear6464 l split number = one _ _ _ _ never (λ e. symbol-clear (length im) short r split _ number (dynamicSymbolOf s l number))
 
     relative-clear : (version2 in-text : Bool) → Clear (inHalves r b if in-text else isIn r 8 b) (planRelative im version2 in-text r)
     unfolding planRelative
@@ -140,11 +157,31 @@ module _ (b : ℕ) where
     at-clear builtins j info =
         both _ _ (eqb (info % 2 ^ 32) 1) _ _ (clear6464 (j .layout) (textHolds j r || not (j .version2)) (info / 2 ^ 32))
         (both _ _ (eqb (info % 2 ^ 32) 8) _ _ (relative-clear (j .version2) (textHolds j r))
-        (both _ _ (eqb (info % 2 ^ 32) 10) _ _ (clear6432 (length im) short r s builtins j (info / 2 ^ 32)) (λ h. refl)))
+        (both _ _ (eqb (info % 2 ^ 32) 10) _ _ (clear6432 (length im) short r s builtins j (info / 2 ^ 32)) never))
 
--- a byte that a relocation doesn't name is not written by it
+-- THE NAMED BYTES are those that a relocation writes, where it doesn't stop the load
+pub named-exactly : (b : ℕ) (s im builtins : List ℕ) (j : Job) (p : Mapped) (info : ℕ) → length im ≤ 2 ^ 24
+    → stops (planOf s im builtins j p info) ≡ false
+    → namedAt j p (info % 2 ^ 32) b ≡ writes (planOf s im builtins j p info) b
+named-exactly b s im builtins j (At r) info short h = at-clear b s im short r builtins j info h
+named-exactly b s im builtins j Unmapped info short h = never b h
+
+stopped : (b : ℕ) (d : Deed) → stops d ≡ true → writes d b ≡ false
+stopped b (Refuse r) e = refl
+stopped b (RegisterOutside row) e = refl
+stopped b Skip e = refl
+stopped b (RegisterOnly row) e = refl
+stopped b (Halves low high v) e = never b (sym e)
+stopped b (Word at v) e = never b (sym e)
+stopped b (Key at k) e = never b (sym e)
+stopped b (Register row at) e = never b (sym e)
+
+-- so a byte that a relocation doesn't name is not written by it
 pub unnamed-clear : (b : ℕ) (s im builtins : List ℕ) (j : Job) (p : Mapped) (info : ℕ) → length im ≤ 2 ^ 24
     → namedAt j p (info % 2 ^ 32) b ≡ false
     → writes (planOf s im builtins j p info) b ≡ false
-unnamed-clear b s im builtins j (At r) info short h = at-clear b s im short r builtins j info h
-unnamed-clear b s im builtins j Unmapped info short h = refl
+unnamed-clear b s im builtins j p info short h = go (stops (planOf s im builtins j p info)) refl
+  where
+    go : (t : Bool) → stops (planOf s im builtins j p info) ≡ t → writes (planOf s im builtins j p info) b ≡ false
+    go true e = stopped b (planOf s im builtins j p info) e
+    go false e = sym (named-exactly b s im builtins j p info short e) ∙ h
