@@ -15,7 +15,6 @@ use Rattle.elf_parser.specs.declared.parts.Place.the-variants.{At as Stands, Re
 use Rattle.elf_parser.specs.declared.records.Sliced.{Sliced}
 use Rattle.elf_parser.specs.declared.records.Sliced.the-variants.{At as Slice, Refused as NoSlice}
 use Rattle.elf_parser.specs.Errors.{reportOf}
-use Rattle.program.specs.declared.Row.{Row}
 use Rattle.program.specs.declared.Found.{Found}
 use Rattle.program.specs.declared.Found.the-variants.{At, Nothing}
 use Rattle.program.specs.Table.{Slices}

@@ -1,10 +1,8 @@
 -- Questions to a trace, and to what a part asks of the table: the rows it registers, whether it forgets. They see no table.
 -- Assumes nothing.
-use Prim.Native.Nat.{ℕ}
 use mathlib.Core.Path.{_≡_}
 use mathlib.Core.Logic.{_⊎_, _↔_}
 use mathlib.Core.Bool.{true, false}
-use mathlib.Core.List.{List}
 use Rattle.program.specs.declared.Row.{Row}
 use Rattle.loader.specs.declared.deeds.Entry.{Entry}
 use Rattle.loader.specs.declared.deeds.Entry.the-variants.{Nothing, Refuse as NoEntry, Register as Enter}

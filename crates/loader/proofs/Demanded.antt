@@ -1,6 +1,6 @@
 -- Demand 3 follows from what a load leaves. Assumes nothing.
 use Prim.Native.Nat.{ℕ, _-_, _<_}
-use mathlib.Core.Path.{_≡_, refl, sym, ap, _∙_, subst, fun-ext}
+use mathlib.Core.Path.{_≡_, refl, sym, subst, fun-ext}
 use mathlib.Core.Logic.{_⊎_, _↔_}
 use mathlib.Core.List.{List, [], _++_, map}
 use lib.ListN.{length, replicate}
@@ -11,7 +11,7 @@ use Rattle.program.specs.Rows.{find}
 use Rattle.program.specs.Table.{Slices, capacity, lay, lookupIn}
 use Rattle.program.proofs.Tables.{lookup-lay}
 use Rattle.loader.specs.declared.answer.Load.{Load}
-use Rattle.loader.specs.declared.answer.Load.the-variants.{Accepted as Accepts, Refused as Refuses}
+use Rattle.loader.specs.declared.answer.Load.the-variants.{Refused as Refuses}
 use Rattle.loader.specs.declared.error.ElfError.the-variants.{SymbolHashCollision, TableFull}
 use Rattle.loader.specs.declared.read_only.Placing.{Placing}
 use Rattle.loader.specs.declared.read_only.Placing.the-variants.{Borrowed, Owned, Refused as NotPlaced}
@@ -21,8 +21,8 @@ use Rattle.loader.specs.declared.validate.Prepared.{Prepared}
 use Rattle.loader.specs.declared.validate.Prepared.the-variants.{Ready, Refused as NotReady}
 use Rattle.loader.specs.Calls.{immediate}
 use Rattle.loader.specs.Contracts.{InFile}
-use Rattle.loader.specs.Demand.{CallsTo, isIn, Unnamed, Calls, Keys, Entry, Others, Bytes, IsNameKey, Finds, keyOf, OnAccepted, reachedIn, reachedEarly, Clash, distinct, Demand3}
-use Rattle.loader.specs.Load.{Loading, holds, refuses, heldBy, onTrace, onPrepared, loadOf, answerOf, imageOf, rowsIn, WholeOrZeros, Loaded}
+use Rattle.loader.specs.Demand.{Calls, Keys, Entry, Others, Bytes, IsNameKey, Finds, keyOf, OnAccepted, reachedIn, reachedEarly, Clash, distinct, Demand3}
+use Rattle.loader.specs.Load.{heldBy, onTrace, onPrepared, loadOf, Loaded}
 use Rattle.loader.specs.Parts.{jobTrace}
 use Rattle.loader.specs.Trace.{Settled, accepted, refused, settle}
 use Rattle.loader.specs.Validate.{prepared}

@@ -2,7 +2,7 @@
 -- Assumes nothing.
 use mathlib.Core.Path.{_≡_, refl, sym, ap, _∙_}
 use mathlib.Core.List.{List}
-use Prim.Native.Nat.{ℕ, suc, _+_, _*_, _≤_, _<_, _^_}
+use Prim.Native.Nat.{ℕ, _+_, _≤_, _<_, _^_}
 use native.Mathlib.Omega.{arith}
 use mir.Syntax.{w64}
 use mir.Val.{Fits}
@@ -10,13 +10,13 @@ use lib.ListN.{length}
 use Rattle.program.specs.declared.Row.{Row}
 use Rattle.program.specs.declared.Registered.{Registered}
 use Rattle.program.specs.declared.Registered.the-variants.{Inserted, Repeat, Collision, Full}
-use Rattle.program.specs.Table.{Slices, capacity, rowsOf, Ready, Registers, Registration}
+use Rattle.program.specs.Table.{Slices, capacity, rowsOf, Registration}
 use Rattle.program.specs.Rows.{register, registered}
 use Rattle.program.specs.Runs.{movesOf}
 use Rattle.program.proofs.Cases.{zero-one}
 use Rattle.program.proofs.Laying.{length-rows}
 use Rattle.program.proofs.Laws.{kept-rows, more-rows}
-use Rattle.program.proofs.Tables.{ready-after, rows-after, registers-ready}
+use Rattle.program.proofs.Tables.{ready-after, rows-after}
 use Rattle.loader.specs.declared.error.ElfError.{ElfError}
 use Rattle.loader.specs.declared.error.ElfError.the-variants.{SymbolHashCollision, TableFull}
 use Rattle.loader.specs.declared.deeds.Outcome.{Outcome}

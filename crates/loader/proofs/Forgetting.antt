@@ -1,27 +1,25 @@
 -- A removal's answer, with the rows and the moves up to there: what it makes of the rest of a trace. Assumes nothing.
-use mathlib.Core.Path.{_≡_, refl, sym, ap, ap₂, _∙_, subst}
-use mathlib.Core.Bool.{Bool, true, false}
+use mathlib.Core.Path.{_≡_, refl, sym, ap, ap₂}
+use mathlib.Core.Bool.{true, false}
 use mathlib.Core.List.{List}
 use Prim.Native.Nat.{ℕ, _+_, _-_, _≤_, _<_, _^_}
 use native.Mathlib.Omega.{arith}
 use mir.Syntax.{w64}
 use mir.Val.{Fits}
-use Rattle.ebpf.specs.Murmur3.{murmur3}
 use Rattle.program.specs.declared.Row.{Row}
 use Rattle.program.specs.declared.Removed.{Removed}
 use Rattle.program.specs.declared.Removed.the-variants.{Gone, Absent}
 use Rattle.program.specs.Rows.{remove, unregister}
 use Rattle.program.specs.Runs.{movesGone}
-use Rattle.program.specs.Table.{Slices, capacity, rowsOf, Ready, Removal, Unregisters}
+use Rattle.program.specs.Table.{Slices, rowsOf, Removal, Unregisters}
 use Rattle.program.proofs.Rows.{remove-missing}
 use Rattle.program.proofs.Laws.{absent-iff}
 use Rattle.program.proofs.Keys.{entrypoint-key}
 use Rattle.program.proofs.Tables.{unregisters-ready, after-gone, after-absent}
 use Rattle.loader.specs.declared.deeds.Outcome.{Outcome}
-use Rattle.loader.specs.declared.deeds.Outcome.the-variants.{Holds, Refused}
-use Rattle.loader.specs.Functions.{entrypoint}
-use Rattle.loader.specs.Trace.{Trace, done, forget, accepted, settle}
-use Rattle.loader.specs.Entry.{forgottenBy, forgetTrace}
+use Rattle.loader.specs.declared.deeds.Outcome.the-variants.{Holds}
+use Rattle.loader.specs.Trace.{done, forget, accepted, settle}
+use Rattle.loader.specs.Entry.{forgottenBy}
 use Rattle.loader.specs.Contracts.{Begins, Forgets, Settles}
 
 pub forgotten-as : (a b : Removed) (used moves : ℕ) → a ≡ b → forgottenBy b used moves ≡ forgottenBy a used moves

@@ -1,8 +1,8 @@
 -- The copied read-only bytes fill the front of their buffer and touch nothing behind it. Assumes nothing.
 use Prim.Native.Nat.{ℕ, zero, suc, _+_, _-_, _≤_, _<_, _^_}
 use native.Mathlib.Omega.{arith}
-use mathlib.Core.Path.{_≡_, refl, sym, ap, _∙_, subst}
-use mathlib.Core.Bool.{Bool, true, false, not}
+use mathlib.Core.Path.{_≡_, refl, sym, ap, _∙_}
+use mathlib.Core.Bool.{Bool, true, false}
 use mathlib.Core.List.{List, _++_, append-assoc}
 use lib.ListN.{length, take, drop, replicate, length-append, length-replicate, replicate-append-replicate}
 use lib.Seq.{paste, take-append-le, drop-append-le}
@@ -13,7 +13,7 @@ use Rattle.elf_parser.specs.declared.parts.Place.the-variants.{At, Refused as N
 use Rattle.elf_parser.specs.Records.{sectionPlaceOf}
 use Rattle.loader.specs.declared.read_only.Placing.the-variants.{Owned}
 use Rattle.loader.specs.Sections.{sectionAt, nameOf}
-use Rattle.loader.specs.ReadOnly.{readOnly, placing, copiedAt, copyStep, copiedFrom}
+use Rattle.loader.specs.ReadOnly.{readOnly, placing, copyStep, copiedFrom}
 use Rattle.loader.specs.Placed.{step-length, owned-fits, owned-room, copy-is-paste}
 
 paste-front : (ro rest s : List ℕ) (at k : ℕ) → at + k ≤ length ro → paste (ro ++ rest) at s k ≡ paste ro at s k ++ rest

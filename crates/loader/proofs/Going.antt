@@ -2,17 +2,16 @@
 -- Assumes nothing.
 use mathlib.Core.Path.{_≡_, refl, sym, ap, _∙_}
 use mathlib.Core.List.{List}
-use Prim.Native.Nat.{ℕ, zero, suc, _+_, _-_, _*_, _≤_, _<_, _^_}
+use Prim.Native.Nat.{ℕ, suc, _+_, _-_, _*_, _≤_, _<_, _^_}
 use native.Mathlib.Omega.{arith}
 use lib.ListN.{length}
-use Rattle.program.specs.declared.Row.{Row}
 use Rattle.program.specs.Table.{Slices, capacity, rowsOf, Ready}
 use Rattle.program.proofs.Tables.{SameLens, same-trans, capacity-same}
 use Rattle.loader.specs.declared.error.ElfError.{ElfError}
 use Rattle.loader.specs.declared.deeds.Outcome.{Outcome}
 use Rattle.loader.specs.declared.deeds.Outcome.the-variants.{Holds, Refused}
-use Rattle.loader.specs.Trace.{Trace, andThen, each, Settled, refused, settle, onSettled, settle-andThen}
-use Rattle.loader.specs.Contracts.{Near, Room, Begins, Settles}
+use Rattle.loader.specs.Trace.{Trace, andThen, each, refused, settle, settle-andThen}
+use Rattle.loader.specs.Contracts.{Near, Begins, Settles}
 
 pub same-refl : (t : Slices) → SameLens t t
 same-refl t = record { keys-as = refl; indices-as = refl; kinds-as = refl; starts-as = refl; lengths-as = refl }

@@ -3,19 +3,16 @@
 use Prim.Native.Nat.{ℕ, _+_, _-_, _*_, _/_, _≤_, zero-le}
 use native.Mathlib.Omega.{arith}
 use native.Mathlib.Decide.{ℕ-discrete}
-use mathlib.Core.Path.{_≡_, refl, ap, _∙_, subst}
+use mathlib.Core.Path.{_≡_, refl, _∙_, subst}
 use mathlib.Core.Logic.{_⊎_, inl, inr, _↔_}
 use mathlib.Core.Bool.{Bool, true, false}
 use mathlib.Core.List.{List, []}
 use lib.ListN.{length}
 use Rattle.ebpf.specs.Choice.{_if_else_}
-use Rattle.ebpf.specs.IndexKeys.{keyIn}
 use Rattle.program.specs.declared.Row.{Row}
 use Rattle.program.specs.declared.Found.the-variants.{At}
-use Rattle.program.specs.declared.FunctionName.{FunctionName}
 use Rattle.program.specs.declared.FunctionName.the-variants.{OfIndex, Entrypoint}
-use Rattle.program.specs.declared.Legacy.the-variants.{Free, Taken}
-use Rattle.program.specs.HashedLegacy.{legacyKey, legacyRow, isTaken, keptName, rowOf}
+use Rattle.program.specs.HashedLegacy.{legacyKey}
 use Rattle.program.specs.Rows.{rank, Ascending, find, Held, Repeats, remove, unregister}
 use Rattle.program.specs.Rows as table
 use Rattle.program.specs.Runs.{movesGone}
@@ -30,7 +27,6 @@ use Rattle.loader.specs.declared.deeds.Entry.{Entry as EntryOf}
 use Rattle.loader.specs.declared.deeds.Entry.the-variants.{Nothing, Refuse as NoEntry, Register as Enter}
 use Rattle.loader.specs.Deeds.{entryOf, deedTrace}
 use Rattle.loader.specs.Deeds as deeds
-use Rattle.loader.specs.Functions.{rowFor}
 use Rattle.loader.specs.Labels.{labelsTrace}
 use Rattle.loader.specs.Entry.{entryDeed, forgetTrace}
 use Rattle.loader.specs.Entry as entry
@@ -38,26 +34,11 @@ use Rattle.loader.specs.Parts.{writingTrace, namingTrace, placedTrace, j
 use Rattle.loader.specs.Demand.{CallsTo, OfEntry, Registers, Finds, IsNameKey, Keys, Entry, Others, nameKey, keyOf, entryIndex, earlyTrace}
 use Rattle.loader.proofs.Ends.{Ends}
 use Rattle.loader.proofs.Asked.{Asks}
+use Rattle.loader.proofs.Rowing.{row-is, call-key}
 use Rattle.loader.proofs.Traces.{went, settle-moves, settle-ends, settle-room, settle-ascends, settle-keeps, settle-finds, settle-only, settle-split, settle-then}
 use Rattle.loader.proofs.Registering.{EarlyRow, deed-asks, deed-keeps, entry-registers, entry-row, early-asks, early-keeps, calls-have}
 
 -- ---- a row's key and index
-
-pub row-is : (builtins : List ℕ) (j : Job) (name : FunctionName) (index : ℕ) (row : Row) → rowFor builtins j name index ≡ Free row → (row .key ≡ legacyKey [] (j .version2) name index) × (row .index ≡ index)
-unfolding rowFor legacyRow _if_else_
-row-is builtins j name index row e = go (isTaken builtins (j .version2) (j .«check_collision») (legacyKey [] (j .version2) name index)) e
-  where
-    go : (b : Bool) → (Taken (legacyKey [] (j .version2) name index) if b else Free (rowOf (legacyKey [] (j .version2) name index) index (keptName (j .labels) name))) ≡ Free row
-        → (row .key ≡ legacyKey [] (j .version2) name index) × (row .index ≡ index)
-    go true e = absurd (zero-one (cc))
-    go false e =
-        let s : row ≡ rowOf (legacyKey [] (j .version2) name index) index (keptName (j .labels) name) = cc in
-        (ap (λ (r : Row). r .key) s, ap (λ (r : Row). r .index) s)
-
--- a call's key is its target's
-pub call-key : (version2 : Bool) (index : ℕ) → legacyKey [] version2 OfIndex index ≡ keyOf version2 index
-unfolding legacyKey keyOf keyIn _if_else_
-call-key version2 index = refl
 
 -- the entry's key in version 1 is the name's
 pub entry-key : (version2 : Bool) (index : ℕ) → version2 ≡ false → legacyKey [] version2 Entrypoint index ≡ nameKey

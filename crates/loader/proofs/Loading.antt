@@ -2,12 +2,11 @@
 -- zeros behind it, and the answer. Assumes nothing.
 use mathlib.Core.Path.{_≡_, refl, sym, ap, _∙_, subst}
 use mathlib.Core.List.{List, [], _++_, append-nil}
-use Prim.Native.Nat.{ℕ, zero, suc, _+_, _-_, _*_, _/_, _≤_, _^_}
+use Prim.Native.Nat.{ℕ, _+_, _-_, _≤_, _^_}
 use native.Mathlib.Omega.{arith}
-use lib.ListN.{length, take, drop, replicate, length-replicate, length-take}
+use lib.ListN.{length, take, drop, replicate, length-replicate}
 use lib.Seq.{drop-at, drop-length, length-take-le}
 use borrow.Rule.Slice.PartMut.{midOf, postOf, putMid, same-len-mid, mid-len, post-is}
-use Rattle.ebpf.specs.IndexKeys.{firstKeys}
 use Rattle.program.specs.Table.{Slices, capacity, lay, rowsOf, Least}
 use Rattle.program.proofs.Laying.{lent-capacity, length-rows}
 use Rattle.program.proofs.Tables.{SameLens, capacity-same, lay-same, ready-none}
@@ -23,14 +22,12 @@ use Rattle.loader.specs.declared.validate.Job.{Job}
 use Rattle.loader.specs.declared.error.ElfError.{ElfError}
 use Rattle.loader.specs.declared.deeds.Outcome.{Outcome}
 use Rattle.loader.specs.declared.deeds.Outcome.the-variants.{Holds, Refused}
-use Rattle.loader.specs.Trace.{Trace, andThen, Settled, accepted, refused, settle, settle-andThen}
-use Rattle.loader.specs.Calls.{slotCount}
-use Rattle.loader.specs.Labels.{labelSymbols, few-symbols}
+use Rattle.loader.specs.Trace.{Trace, andThen, settle, settle-andThen}
+use Rattle.loader.specs.Labels.{few-symbols}
 use Rattle.loader.specs.Parts.{writingTrace, namingTrace, placedTrace, jobTrace}
-use Rattle.loader.specs.Functions.{Keyed}
 use Rattle.elf_parser.specs.Types.{fileHeader}
 use Rattle.loader.specs.Validate.{isVersion2, prepared}
-use Rattle.loader.specs.Load.{allCount, placedBy, afterPlacing, Cleared, placedBytes, HeldBytes, answerBy, answerFor, Loading, refuses, heldBy, onTrace, onPrepared, loadOf, WholeOrZeros, Loaded, Tried}
+use Rattle.loader.specs.Load.{allCount, placedBy, afterPlacing, Cleared, placedBytes, HeldBytes, answerBy, answerFor, Loading, refuses, heldBy, onTrace, onPrepared, loadOf, Loaded, Tried}
 use Rattle.loader.specs.Contracts.{outcome, InFile, Begins, Settles}
 use Rattle.loader.proofs.Going.{settles-stop, settles-then}
 use Rattle.loader.proofs.Readied.{readied, placed-as}

@@ -1,5 +1,5 @@
 -- What carrying a deed out leaves, by what the deed asks of the table. Assumes nothing.
-use mathlib.Core.Path.{_≡_, refl, sym, ap, ap₂, _∙_, subst}
+use mathlib.Core.Path.{_≡_, refl, sym, ap₂, _∙_, subst}
 use mathlib.Core.Bool.{Bool, true, false}
 use mathlib.Core.List.{List}
 use Prim.Native.Nat.{ℕ}
@@ -18,7 +18,7 @@ use Rattle.loader.specs.declared.deeds.Entry.{Entry}
 use Rattle.loader.specs.declared.deeds.Entry.the-variants.{Nothing, Refuse, Register}
 use Rattle.loader.specs.declared.deeds.Outcome.{Outcome}
 use Rattle.loader.specs.declared.deeds.Outcome.the-variants.{Holds, Refused}
-use Rattle.loader.specs.Trace.{Trace, done, stop, register, Settled, accepted, refused, onRegistered, settle}
+use Rattle.loader.specs.Trace.{Trace, done, stop, register, accepted, refused, onRegistered, settle}
 use Rattle.loader.specs.Deeds.{written, entryOf, behind, entryTrace, deedTrace}
 use Rattle.loader.specs.Contracts.{finishedBy, Settles, Enters}
 

@@ -3,8 +3,8 @@ use mathlib.Core.Path.{_≡_, refl, sym, ap, subst, _∙_}
 use mathlib.Core.List.{List}
 use Prim.Native.Nat.{ℕ, zero, suc, _+_, _-_, _*_, _/_, _≤_, _<_}
 use native.Mathlib.Omega.{arith}
-use mathlib.Core.Bool.{Bool, true, false, not}
-use lib.ListN.{length, take, drop, getD, length-drop}
+use mathlib.Core.Bool.{Bool, true, false}
+use lib.ListN.{length, drop, getD, length-drop}
 use lib.Seq.{length-take-le, getD-take, getD-drop}
 use lib.Dec.{leb, eqb}
 use borrow.Author.Tests.{leb-false, lt-leb, eqb-false, ne-eqb}
@@ -26,8 +26,8 @@ use Rattle.loader.specs.declared.deeds.Deed.the-variants.{Skip}
 use Rattle.loader.specs.declared.validate.Job.{Job}
 use Rattle.loader.specs.Functions.{rowFor}
 use Rattle.loader.specs.Deeds.{DeedFits, deedTrace}
-use Rattle.loader.specs.Trace.{Trace, done, andThen, each}
-use Rattle.loader.specs.Calls.{nextCall, callOf, callIn, callAt, textOf, slotCount, immediate, callRow, callBy, callDeed, slotTrace}
+use Rattle.loader.specs.Trace.{andThen, each}
+use Rattle.loader.specs.Calls.{nextCall, callOf, callAt, textOf, slotCount, immediate, callRow, callBy, callDeed, slotTrace}
 use Rattle.loader.specs.Contracts.{InFile, Begins, Settles}
 use Rattle.loader.proofs.Going.{Going, going-ahead}
 

@@ -1,11 +1,11 @@
 -- A symbol's name lies in the file and is short, and an address of the text has a small index. Assumes nothing.
-use Prim.Native.Nat.{ℕ, _+_, _-_, _≤_, _<_, min}
+use Prim.Native.Nat.{ℕ, _+_, _-_, _≤_, _<_}
 use native.Mathlib.Omega.{arith}
 use mathlib.Core.Path.{_≡_, refl, sym, _∙_}
 use mathlib.Core.Bool.{Bool, true, false, _&&_, not}
 use mathlib.Core.List.{List}
 use lib.ListN.{length}
-use lib.Dec.{leb, ltb, eqb}
+use lib.Dec.{leb, ltb}
 use borrow.Author.Tests.{lt-ltb, le-ltb, leb-true, ltb-true, ltb-false}
 use Rattle.ebpf.specs.Choice.{_if_else_, row-rest}
 use Rattle.elf_parser.specs.declared.error.ElfParserError.{ElfParserError}
@@ -13,7 +13,6 @@ use Rattle.elf_parser.specs.declared.error.ElfParserError.the-variants.{StringT
 use Rattle.elf_parser.specs.declared.error.Check.{Check}
 use Rattle.elf_parser.specs.declared.error.Check.the-variants.{Pass, Refused as Fails}
 use Rattle.elf_parser.specs.declared.types.Elf64Shdr.{Elf64Shdr}
-use Rattle.elf_parser.specs.declared.parts.Place.{Place}
 use Rattle.elf_parser.specs.declared.parts.Place.the-variants.{At, Refused}
 use Rattle.elf_parser.specs.Types.{sectionHeader}
 use Rattle.elf_parser.specs.Strings.{searchEnd, stringCheck, beforeZero, terminated, gives, stringIn, string-within}

@@ -1,13 +1,12 @@
 -- A local call's target is one of the text's slots, and its row has the index's key. Assumes nothing.
 use Prim.Native.Nat.{ℕ, _+_, _-_, _/_, _^_, _≤_, _<_}
 use native.Mathlib.Omega.{arith}
-use mathlib.Core.Path.{_≡_, refl, sym, ap, _∙_}
+use mathlib.Core.Path.{_≡_, _∙_}
 use mathlib.Core.Bool.{Bool, true, false, _&&_, not}
-use mathlib.Core.List.{List, []}
+use mathlib.Core.List.{List}
 use lib.ListN.{length, drop, length-take, length-drop}
 use lib.Dec.{ltb, eqb}
 use Rattle.ebpf.specs.Choice.{_if_else_, row-rest}
-use Rattle.ebpf.specs.IndexKeys.{keyIn}
 use Rattle.ebpf.specs.Instructions.{insnAt}
 use Rattle.ebpf.specs.declared.Slot.{Slot}
 use Rattle.ebpf.specs.declared.Slot.the-variants.{Holds, Past}
@@ -15,13 +14,13 @@ use Rattle.ebpf.proofs.Injective.{key-lt}
 use Rattle.program.specs.declared.Row.{Row}
 use Rattle.program.specs.declared.FunctionName.the-variants.{OfIndex}
 use Rattle.program.specs.declared.Legacy.the-variants.{Free}
-use Rattle.program.specs.HashedLegacy.{legacyKey, legacyRow, keptName, rowOf}
 use Rattle.program.proofs.Cases.{by-test, by-lt, zero-one}
 use Rattle.loader.specs.declared.calls.Call.the-variants.{None, To, Outside}
 use Rattle.loader.specs.declared.validate.Job.{Job}
 use Rattle.loader.specs.Functions.{rowFor}
 use Rattle.loader.specs.Calls.{inside, target, callOf, callIn, callAt, textOf}
 use Rattle.loader.specs.Demand.{CallsTo, keyOf}
+use Rattle.loader.proofs.Rowing.{row-is, call-key}
 
 -- ---- a target is a slot
 
@@ -68,16 +67,6 @@ unfolding keyOf _if_else_
 key-word true index h = h
 key-word false index h = key-lt index
 
-key-is : (version2 : Bool) (index : ℕ) → legacyKey [] version2 OfIndex index ≡ keyOf version2 index
-unfolding legacyKey keyIn keyOf _if_else_
-key-is true index = refl
-key-is false index = refl
-
 -- the row of a local call's target
 pub row-key : (builtins : List ℕ) (j : Job) (index : ℕ) (row : Row) → rowFor builtins j OfIndex index ≡ Free row → row .key ≡ keyOf (j .version2) index
-unfolding rowFor legacyRow
-row-key builtins j index row e =
-    let k = legacyKey [] (j .version2) OfIndex index in
-    let free : Free (rowOf k index (keptName (j .labels) OfIndex)) ≡ Free row = row-rest _ _ _ (Free row) (λ h. zero-one (cc)) e in
-    let is : rowOf k index (keptName (j .labels) OfIndex) ≡ row = cc in
-    ap (λ (r : Row). r .key) (sym is) ∙ key-is (j .version2) index
+row-key builtins j index row e = row-is builtins j OfIndex index row e .0 ∙ call-key (j .version2) index

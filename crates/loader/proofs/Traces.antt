@@ -1,25 +1,24 @@
 -- What a trace that was accepted tells: of any trace, by induction over it, once.
 -- Assumes nothing.
-use Prim.Native.Nat.{ℕ, zero, suc, _+_, _≤_, _<_, zero-le, suc-le-suc}
+use Prim.Native.Nat.{ℕ, zero, suc, _+_, _≤_, _<_}
 use native.Mathlib.Omega.{arith}
 use native.Mathlib.Decide.{ℕ-discrete}
 use mathlib.Core.Path.{_≡_, refl, sym, _∙_, subst}
 use mathlib.Core.Logic.{_⊎_, inl, inr, _↔_}
-use mathlib.Core.Bool.{Bool}
-use mathlib.Core.List.{List, [], _∷_}
+use mathlib.Core.List.{List}
 use lib.ListN.{length}
-use Rattle.ebpf.specs.Choice.{_if_else_}
 use Rattle.program.specs.declared.Row.{Row}
 use Rattle.program.specs.declared.Found.the-variants.{At, Nothing}
 use Rattle.program.specs.declared.Registered.{Registered}
 use Rattle.program.specs.declared.Registered.the-variants.{Inserted, Repeat, Collision, Full}
-use Rattle.program.specs.Rows.{rank, Ascending, find, Held, Repeats, remove, registered}
+use Rattle.program.specs.Rows.{rank, Ascending, find, Held, Repeats, registered}
 use Rattle.program.specs.Rows as table
 use Rattle.program.specs.Runs.{movesOf, triangle}
-use Rattle.program.proofs.Cases.{by-eq, zero-one}
+use Rattle.program.proofs.Cases.{zero-one}
 use Rattle.program.proofs.Laws.{by-registered, find-insert-other, find-registered-same, find-registered-other, registered-room, registered-ascending, remove-ascending}
 use Rattle.program.proofs.Moves.{moves-step}
 use Rattle.loader.specs.Trace.{Trace, done, stop, register, forget, andThen, each, Settled, accepted, refused, settle, onRegistered, onSettled, settle-andThen}
+use Rattle.loader.proofs.Counting.{remove-le}
 use Rattle.loader.proofs.Ends.{Ends, ends-then}
 use Rattle.loader.proofs.Asked.{Asks, Keeps}
 
@@ -44,13 +43,6 @@ find-stays : (cap : ℕ) (r : Row) (rs : List Row) (k : ℕ) (x : Row) → find 
 find-stays cap r rs k x h = by-registered (λ (l : List Row) (_ : Registered). find k l ≡ At x) cap r rs
     (λ _ _ _. h) (λ _ _ _. h) (λ _ _. h)
     (λ none _. find-insert-other k r rs (λ e. let none′ : find k rs ≡ Nothing = rw e at none in zero-one (cc)) ∙ h)
-
-remove-le : (k : ℕ) (rs : List Row) → length (remove k rs) ≤ length rs
-unfolding _if_else_
-remove-le k [] = zero-le
-remove-le k (x ∷ rs) = by-eq (rank x) k (λ (b : Bool). length (rs if b else (x ∷ remove k rs)) ≤ suc (length rs))
-    (λ _. omega arith)
-    (λ _. suc-le-suc (remove-le k rs))
 
 -- ---- a trace
 

@@ -12,7 +12,6 @@ use Rattle.ebpf.specs.Instructions.{insnAt}
 use Rattle.ebpf.specs.declared.Insn.{Insn}
 use Rattle.ebpf.specs.declared.Slot.{Slot}
 use Rattle.ebpf.specs.declared.Slot.the-variants.{Holds, Past}
-use Rattle.program.specs.declared.Row.{Row}
 use Rattle.program.specs.declared.FunctionName.the-variants.{OfIndex}
 use Rattle.program.specs.declared.Legacy.{Legacy}
 use Rattle.program.specs.declared.Legacy.the-variants.{Free, Taken}

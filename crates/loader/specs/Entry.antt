@@ -1,6 +1,5 @@
 -- The entry's part of a load.
 use Prim.Native.Nat.{ℕ, _+_, _-_, _/_, _%_}
-use mathlib.Core.Path.{_≡_}
 use mathlib.Core.Bool.{Bool, true, false, not}
 use mathlib.Core.List.{List}
 use lib.Dec.{eqb}
@@ -13,7 +12,7 @@ use Rattle.loader.specs.declared.error.ElfError.the-variants.{InvalidEnt
 use Rattle.loader.specs.declared.deeds.Deed.{Deed}
 use Rattle.loader.specs.declared.deeds.Deed.the-variants.{Refuse}
 use Rattle.loader.specs.declared.deeds.Outcome.{Outcome}
-use Rattle.loader.specs.declared.deeds.Outcome.the-variants.{Holds, Refused}
+use Rattle.loader.specs.declared.deeds.Outcome.the-variants.{Holds}
 use Rattle.loader.specs.declared.validate.Job.{Job}
 use Rattle.loader.specs.Functions.{rowFor, entrypoint}
 use Rattle.loader.specs.Labels.{labelRow, row-fits}

@@ -1,13 +1,13 @@
 -- The row that a function is registered as, and its name.
 use Prim.Native.Nat.{ℕ, _-_, _/_}
-use mathlib.Core.Path.{_≡_, refl}
+use mathlib.Core.Path.{_≡_}
 use mathlib.Core.Bool.{Bool, _&&_}
 use mathlib.Core.List.{List, [], _∷_}
 use lib.Dec.{leb, ltb}
 use Rattle.ebpf.specs.IndexKeys.{indexKey, keyIn}
 use Rattle.elf_parser.specs.SectionNames.{sameBytes}
 use Rattle.program.specs.declared.FunctionName.{FunctionName}
-use Rattle.program.specs.declared.FunctionName.the-variants.{Symbol, OfIndex, Entrypoint}
+use Rattle.program.specs.declared.FunctionName.the-variants.{Symbol}
 use Rattle.program.specs.declared.Legacy.{Legacy}
 use Rattle.program.specs.HashedLegacy.{legacyRow}
 use Rattle.loader.specs.declared.validate.Job.{Job}

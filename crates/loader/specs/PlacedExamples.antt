@@ -1,5 +1,4 @@
 -- Placings and text places worked by hand.
-use Prim.Native.Nat.{ℕ}
 use mathlib.Core.Path.{_≡_, refl}
 use mathlib.Core.Bool.{true, false}
 use Rattle.ebpf.specs.Choice.{_if_else_}

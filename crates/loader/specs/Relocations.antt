@@ -1,17 +1,16 @@
 -- What a relocation asks for. A place r is an offset in the file; `s` is the file, `im` the image as the relocations before left it.
-use Prim.Native.Nat.{ℕ, zero, suc, _+_, _-_, _*_, _/_, _%_, _≤_, _<_, _^_, min}
+use Prim.Native.Nat.{ℕ, zero, suc, _+_, _-_, _*_, _/_, _%_, _≤_, _<_, _^_}
 use native.Mathlib.Omega.{arith}
 use native.Mathlib.Numerals.{add-one}
 use mathlib.Core.Path.{_≡_, refl}
 use mathlib.Core.Bool.{Bool, true, false, _&&_, _||_, not}
-use mathlib.Core.List.{List, [], _∷_}
+use mathlib.Core.List.{List}
 use lib.ListN.{length, take, drop}
 use lib.Dec.{ltb, leb, eqb}
 use borrow.Author.Tests.{ltb-false}
 use Rattle.ebpf.specs.Choice.{_if_else_}
 use Rattle.ebpf.specs.LittleEndian.{le, join}
 use Rattle.ebpf.specs.Murmur3.{murmur3}
-use Rattle.elf_parser.specs.declared.types.Elf64Phdr.{Elf64Phdr}
 use Rattle.elf_parser.specs.declared.types.Elf64Rel.{Elf64Rel}
 use Rattle.elf_parser.specs.declared.types.Elf64Sym.{Elf64Sym}
 use Rattle.elf_parser.specs.declared.layout.Layout.{Layout}
@@ -35,7 +34,6 @@ use Rattle.program.specs.declared.FunctionName.{FunctionName}
 use Rattle.program.specs.declared.Legacy.{Legacy}
 use Rattle.program.specs.declared.Legacy.the-variants.{Free, Taken}
 use Rattle.program.specs.Search.{isAmong}
-use Rattle.loader.specs.declared.error.ElfError.{ElfError}
 use Rattle.loader.specs.declared.error.ElfError.the-variants.{UnresolvedSymbol, SymbolHashCollision, InvalidVirtualAddress, UnknownRelocation, UnknownSymbol, ValueOutOfBounds}
 use Rattle.loader.specs.declared.validate.Job.{Job}
 use Rattle.loader.specs.declared.relocations.Used.{Used}

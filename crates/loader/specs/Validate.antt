@@ -1,6 +1,5 @@
 -- The checks ahead of a load, in the order of the Rust, and what they leave.
-use Prim.Native.Nat.{ℕ, suc, _+_, _%_, _≤_, _<_, _^_}
-use mathlib.Core.Path.{_≡_, refl}
+use Prim.Native.Nat.{ℕ}
 use mathlib.Core.Bool.{Bool, true, false, _&&_, not}
 use mathlib.Core.List.{List, [], _∷_}
 use lib.ListN.{length}

@@ -1,6 +1,6 @@
 -- Document 01's worked examples that are marked to be proved, in its order: each holds by computation.
 use Prim.Native.Nat.{ℕ, _+_, _-_, _*_, _^_}
-use mathlib.Core.Bool.{Bool, true, false}
+use mathlib.Core.Bool.{true, false}
 use mathlib.Core.List.{List, [], _∷_, _++_}
 use mathlib.Core.Path.{_≡_, refl}
 use lib.ListN.{replicate}
@@ -18,14 +18,14 @@ use Rattle.elf_parser.specs.SectionHeaders.{sectionCheck}
 use Rattle.elf_parser.specs.Strings.{stringIn, stringCheck, gives, terminated, beforeZero}
 use Rattle.elf_parser.specs.Types.{rel, sym}
 use Rattle.program.specs.declared.Row.{Row}
-use Rattle.program.specs.HashedLegacy.{legacyRow, legacyKey, keptSymbol, isTaken}
-use Rattle.loader.specs.declared.error.ElfError.the-variants.{RelativeJumpOutOfBounds, InvalidVirtualAddress, UnknownRelocation, ValueOutOfBounds}
+use Rattle.program.specs.HashedLegacy.{legacyRow, legacyKey, isTaken}
+use Rattle.loader.specs.declared.error.ElfError.the-variants.{RelativeJumpOutOfBounds, InvalidVirtualAddress, UnknownRelocation}
 use Rattle.loader.specs.declared.deeds.Deed.{Deed}
 use Rattle.loader.specs.declared.deeds.Deed.the-variants.{Skip, Refuse, Halves, Register}
 use Rattle.loader.specs.declared.validate.Job.{Job}
 use Rattle.loader.specs.Calls.{inside, target, callOf, callAt, callDeed}
 use Rattle.loader.specs.Functions.{rowFor}
-use Rattle.loader.specs.Relocations.{relocationAt, usedBefore, usedHeader, placeOf, planAt, plan6464, addressDeed, halvesDeed, wordDeed, planRelative, relativeText, relativeValue, immediateAt, programAddress, within}
+use Rattle.loader.specs.Relocations.{relocationAt, usedBefore, usedHeader, placeOf, planAt, plan6464, addressDeed, halvesDeed, wordDeed, planRelative, relativeText, immediateAt, programAddress, within}
 use Rattle.loader.specs.RelocationExamples.{layout, job, image, zeros, asked}
 
 hash-of-no-bytes : murmur3 [] ≡ 0

@@ -5,7 +5,6 @@ use mathlib.Core.List.{List}
 use lib.ListN.{length}
 use borrow.Author.Needs.{needs}
 use Rattle.program.specs.Table.{Slices, slices, capacity}
-use Rattle.program.proofs.Tables.{SameLens}
 use Rattle.loader.specs.declared.answer.Load.{Load}
 use Rattle.loader.specs.Load.{Loading, loadOf, Loaded}
 use Rattle.loader.specs.Demand.{Demand3}

@@ -1,6 +1,6 @@
 -- `exports::answers::give` meets its contract. The loop's invariant: the first i words are written, and the length is as it was.
 -- Assumes nothing.
-use mathlib.Core.Path.{_≡_, refl, sym}
+use mathlib.Core.Path.{_≡_, refl}
 use Prim.Native.Nat.{_≤_, _-_}
 use native.Mathlib.Nat.{le-antisymm}
 use native.Mathlib.Numerals.{add-one}

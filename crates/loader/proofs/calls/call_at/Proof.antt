@@ -1,11 +1,8 @@
 -- `loader::calls::call_at` meets its contract: by the slot.
 -- Assumes nothing.
-use mathlib.Core.Path.{_≡_, sym, ap, _∙_}
+use mathlib.Core.Path.{sym, _∙_}
 use native.Mathlib.Omega.{arith}
-use Prim.Native.Nat.{ℕ, _/_, _≤_, _<_, _^_}
-use lib.ListN.{length}
-use borrow.Author.Tests.{ltb-false}
-use Rattle.loader.specs.Calls.{callAt, callIn}
+use Rattle.loader.specs.Calls.{callAt}
 use Rattle.loader.proofs.Slots.{whole-slot}
 use borrow.Author.Needs.{needs}
 use Rattle.loader.proofs.calls.call_at.Statement.{statement}

@@ -1,11 +1,9 @@
 -- `loader::calls::call_deed` meets its contract: by what the slot calls.
 -- Assumes nothing.
-use mathlib.Core.Path.{_≡_, sym, ap, _∙_}
-use native.Mathlib.Omega.{arith}
+use mathlib.Core.Path.{_≡_}
 use native.Mathlib.Nat.{add-sub-cancel-left}
-use lib.Seq.{length-take-le}
-use Rattle.loader.specs.declared.calls.Call.the-variants.{None, To, Outside}
-use Rattle.loader.specs.Calls.{callBy, callRow, callDeed}
+use Rattle.loader.specs.declared.calls.Call.the-variants.{None, Outside}
+use Rattle.loader.specs.Calls.{callDeed}
 use borrow.Author.Needs.{needs}
 use Rattle.loader.proofs.calls.call_deed.Statement.{statement}
 use Rattle.loader.proofs.calls.call_deed.Tie as tie

@@ -12,7 +12,7 @@ use Rattle.program.specs.Table.{Slices, slices}
 use Rattle.program.proofs.Tables.{SameLens}
 use Rattle.loader.specs.declared.deeds.Outcome.{Outcome}
 use Rattle.loader.specs.declared.deeds.Outcome.the-variants.{Holds, Refused}
-use Rattle.loader.specs.Calls.{slotCount, slotTrace, callDeed}
+use Rattle.loader.specs.Calls.{slotCount, slotTrace}
 use Rattle.loader.specs.Deeds.{DeedFits}
 use Rattle.loader.specs.Contracts.{Settles}
 use Rattle.loader.proofs.Slots.{call-fits, slot-settles, next-bounds, calls-ahead}

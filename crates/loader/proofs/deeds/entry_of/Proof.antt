@@ -1,6 +1,5 @@
 -- `loader::deeds::entry_of` meets its contract, deed by deed.
 -- Assumes nothing.
-use mathlib.Core.Path.{_≡_, sym, ap, _∙_}
 use borrow.Author.Needs.{needs}
 use Rattle.loader.proofs.deeds.entry_of.Statement.{statement}
 use Rattle.loader.proofs.deeds.entry_of.Tie as tie

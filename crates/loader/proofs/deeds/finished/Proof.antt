@@ -1,6 +1,5 @@
 -- `loader::deeds::finished` meets its contract, by the outcome and the test.
 -- Assumes nothing.
-use mathlib.Core.Path.{_≡_, sym, ap, _∙_}
 use borrow.Author.Needs.{needs}
 use Rattle.loader.proofs.deeds.finished.Statement.{statement}
 use Rattle.loader.proofs.deeds.finished.Tie as tie

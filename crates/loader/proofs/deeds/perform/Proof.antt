@@ -1,7 +1,6 @@
 -- `loader::deeds::perform` meets its contract: the bytes are written, then the table is asked.
 -- Assumes nothing.
 use Rattle.program.specs.Table.{Slices, slices}
-use mathlib.Core.Path.{_≡_, sym, ap, _∙_}
 use Rattle.loader.specs.declared.deeds.Deed.{Deed}
 use Rattle.loader.proofs.Performing.{performs-nothing, performs-refuse, performs-row}
 use borrow.Author.Needs.{needs}

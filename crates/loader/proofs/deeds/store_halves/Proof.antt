@@ -1,6 +1,6 @@
 -- `loader::deeds::store_halves` meets its contract: one half, then the other.
 -- Assumes nothing.
-use mathlib.Core.Path.{_≡_, sym, ap, _∙_}
+use mathlib.Core.Path.{ap, _∙_}
 use mathlib.Core.List.{List}
 use Prim.Native.Nat.{ℕ, _/_, _^_}
 use Rattle.loader.specs.Bytes.{put}

@@ -1,9 +1,6 @@
 -- `loader::deeds::write` meets its contract, deed by deed.
 -- Assumes nothing.
-use mathlib.Core.Path.{_≡_, sym, ap, _∙_}
 use native.Mathlib.Omega.{arith}
-use Prim.Native.Nat.{ℕ, _+_, _≤_}
-use lib.ListN.{length}
 use borrow.Author.Needs.{needs}
 use Rattle.loader.proofs.deeds.write.Statement.{statement}
 use Rattle.loader.proofs.deeds.write.Tie as tie

@@ -1,7 +1,6 @@
 -- `loader::entry::entry_deed` meets its contract: a choice.
 -- Assumes nothing.
 use Rattle.ebpf.specs.Choice.{choices}
-use mathlib.Core.Path.{_≡_, sym, ap, _∙_}
 use Rattle.loader.specs.Entry.{entryDeed}
 use borrow.Author.Needs.{needs}
 use Rattle.loader.proofs.entry.entry_deed.Statement.{statement}

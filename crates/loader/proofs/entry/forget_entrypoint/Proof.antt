@@ -1,8 +1,8 @@
 -- `loader::entry::forget_entrypoint` meets its contract: what the removal means for a table.
 -- Assumes nothing.
 use Rattle.program.specs.Table.{Slices, slices}
-use mathlib.Core.Path.{_≡_, sym, subst}
-use mathlib.Core.Bool.{Bool, true, false}
+use mathlib.Core.Path.{sym, subst}
+use mathlib.Core.Bool.{Bool}
 use Rattle.loader.specs.declared.deeds.Outcome.the-variants.{Holds}
 use Rattle.loader.specs.Contracts.{Forgets}
 use Rattle.loader.proofs.Forgetting.{forgets-nothing, gone-sums, forgets}

@@ -1,8 +1,6 @@
 -- `loader::entry::forgotten` meets its contract, answer by answer.
 -- Assumes nothing.
-use mathlib.Core.Path.{_≡_, sym, ap, _∙_}
 use Rattle.loader.proofs.Forgetting.{forgotten-as, gone-fit}
-use Rattle.loader.specs.Entry.{forgottenBy}
 use borrow.Author.Needs.{needs}
 use Rattle.loader.proofs.entry.forgotten.Statement.{statement}
 use Rattle.loader.proofs.entry.forgotten.Tie as tie

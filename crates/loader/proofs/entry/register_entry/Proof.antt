@@ -8,7 +8,6 @@ use Prim.Native.Nat.{ℕ}
 use Rattle.program.proofs.Tables.{SameLens}
 use Rattle.loader.specs.declared.deeds.Deed.{Deed}
 use Rattle.loader.specs.declared.deeds.Outcome.{Outcome}
-use Rattle.loader.specs.declared.deeds.Outcome.the-variants.{Holds, Refused}
 use Rattle.loader.specs.Trace.{Trace}
 use Rattle.loader.specs.Deeds.{DeedFits, deedTrace}
 use Rattle.loader.specs.Entry.{entryDeed, forgetTrace, entry-fits}

@@ -1,6 +1,5 @@
 -- `loader::error::from_parser` meets its contract, case by case.
 -- Assumes nothing.
-use mathlib.Core.Path.{_≡_, sym, ap, _∙_}
 use borrow.Author.Needs.{needs}
 use Rattle.loader.proofs.error.from_parser.Statement.{statement}
 use Rattle.loader.proofs.error.from_parser.Tie as tie

@@ -1,6 +1,5 @@
 -- `loader::error::report_of` meets its contract, case by case.
 -- Assumes nothing.
-use mathlib.Core.Path.{_≡_, sym, ap, _∙_}
 use borrow.Author.Needs.{needs}
 use Rattle.loader.proofs.error.report_of.Statement.{statement}
 use Rattle.loader.proofs.error.report_of.Tie as tie

@@ -1,6 +1,5 @@
 -- `loader::filling::after_placing` meets its contract, by the outcome and the placing.
 -- Assumes nothing.
-use mathlib.Core.Path.{_≡_, sym, ap, _∙_}
 use borrow.Author.Needs.{needs}
 use Rattle.loader.proofs.filling.after_placing.Statement.{statement}
 use Rattle.loader.proofs.filling.after_placing.Tie as tie

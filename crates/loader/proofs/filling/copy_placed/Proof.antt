@@ -1,6 +1,5 @@
 -- `loader::filling::copy_placed` meets its contract, by the placing.
 -- Assumes nothing.
-use mathlib.Core.Path.{_≡_, sym, ap, _∙_}
 use borrow.Author.Needs.{needs}
 use Rattle.loader.proofs.filling.copy_placed.Statement.{statement}
 use Rattle.loader.proofs.filling.copy_placed.Tie as tie

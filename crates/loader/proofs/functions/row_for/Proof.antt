@@ -1,6 +1,6 @@
 -- `loader::functions::row_for` meets its contract: the table gives every index its key.
 -- Assumes nothing.
-use mathlib.Core.Path.{_≡_, sym, ap, _∙_}
+use mathlib.Core.Path.{_∙_}
 use Rattle.loader.proofs.Rowing.{same-row}
 use Rattle.loader.specs.Functions.{rowFor}
 use borrow.Author.Needs.{needs}

@@ -4,7 +4,7 @@
 use denote.Ref.{now}
 use mathlib.Core.Path.{_≡_, subst}
 use mathlib.Core.List.{List}
-use Prim.Native.Nat.{ℕ, _+_, _-_}
+use Prim.Native.Nat.{ℕ, _-_}
 use borrow.Author.Count.{falls}
 use Rattle.program.specs.Table.{Slices, slices}
 use Rattle.program.proofs.Tables.{SameLens}

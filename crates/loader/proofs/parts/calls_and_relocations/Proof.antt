@@ -7,7 +7,6 @@ use Prim.Native.Nat.{ℕ}
 use Rattle.program.specs.Table.{Slices, slices}
 use Rattle.program.proofs.Tables.{SameLens}
 use Rattle.loader.specs.declared.deeds.Outcome.{Outcome}
-use Rattle.loader.specs.declared.deeds.Outcome.the-variants.{Holds, Refused}
 use Rattle.loader.specs.Trace.{Trace}
 use Rattle.loader.specs.Calls.{callsTrace, slotCount}
 use Rattle.loader.specs.Relocations.{relocationsTrace}

@@ -1,13 +1,12 @@
 -- `loader::parts::labels_and_entry` meets its contract: one part after the other.
 -- Assumes nothing.
 use denote.Ref.{now}
-use mathlib.Core.Path.{_≡_, subst, _∙_}
+use mathlib.Core.Path.{_≡_, subst}
 use mathlib.Core.List.{List}
 use Prim.Native.Nat.{ℕ}
 use Rattle.program.specs.Table.{Slices, slices}
 use Rattle.program.proofs.Tables.{SameLens}
 use Rattle.loader.specs.declared.deeds.Outcome.{Outcome}
-use Rattle.loader.specs.declared.deeds.Outcome.the-variants.{Holds, Refused}
 use Rattle.loader.specs.Trace.{Trace}
 use Rattle.loader.specs.Labels.{labelsTrace, labelSymbols}
 use Rattle.loader.specs.Entry.{entryTrace}

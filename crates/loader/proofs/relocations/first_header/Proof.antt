@@ -2,9 +2,9 @@
 -- Assumes nothing.
 use Prim.Native.Nat.{_+_, _-_, _≤_}
 use native.Mathlib.Omega.{arith}
-use mathlib.Core.Path.{_≡_, refl, sym, ap, _∙_}
+use mathlib.Core.Path.{_≡_, refl, sym, _∙_}
 use denote.Ref.{now}
-use Rattle.loader.specs.Relocations.{firstFrom, contains, headerAt, first-here, first-later, first-none}
+use Rattle.loader.specs.Relocations.{firstFrom, first-here, first-later, first-none}
 use borrow.Author.Needs.{needs}
 use Rattle.loader.proofs.relocations.first_header.Statement.{statement}
 use Rattle.loader.proofs.relocations.first_header.Tie as tie

@@ -1,6 +1,5 @@
 -- `loader::sections::section_at` meets its contract: the header, or a blank one.
 -- Assumes nothing.
-use mathlib.Core.Path.{_≡_, sym, ap, _∙_}
 use Rattle.loader.specs.Sections.{sectionAt}
 use borrow.Author.Needs.{needs}
 use Rattle.loader.proofs.sections.section_at.Statement.{statement}

@@ -1,6 +1,5 @@
 -- `loader::sections::survey_step` meets its contract: the tests and choices, put together.
 -- Assumes nothing.
-use mathlib.Core.Path.{_≡_, sym, ap, _∙_}
 use Rattle.loader.specs.Sections.{surveyStep}
 use borrow.Author.Needs.{needs}
 use Rattle.loader.proofs.sections.survey_step.Statement.{statement}

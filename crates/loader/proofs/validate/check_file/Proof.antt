@@ -1,7 +1,7 @@
 -- `loader::validate::check_file` meets its contract: one check after another.
 -- Assumes nothing.
-use mathlib.Core.Path.{_≡_, sym, ap, _∙_}
-use Rattle.loader.specs.declared.validate.Verdict.the-variants.{Pass, Refused}
+use mathlib.Core.Path.{_≡_}
+use Rattle.loader.specs.declared.validate.Verdict.the-variants.{Pass}
 use Rattle.loader.specs.Validate.{_then_}
 use borrow.Author.Needs.{needs}
 use Rattle.loader.proofs.validate.check_file.Statement.{statement}

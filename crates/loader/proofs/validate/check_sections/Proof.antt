@@ -1,7 +1,6 @@
 -- `loader::validate::check_sections` meets its contract: a row of checks.
 -- Assumes nothing.
 use Rattle.ebpf.specs.Choice.{choices}
-use mathlib.Core.Path.{_≡_, sym, ap, _∙_}
 use Rattle.loader.specs.Validate.{sectionsCheck}
 use borrow.Author.Needs.{needs}
 use Rattle.loader.proofs.validate.check_sections.Statement.{statement}

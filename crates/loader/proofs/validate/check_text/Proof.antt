@@ -1,7 +1,6 @@
 -- `loader::validate::check_text` meets its contract: a row of checks.
 -- Assumes nothing.
 use Rattle.ebpf.specs.Choice.{choices}
-use mathlib.Core.Path.{_≡_, sym, ap, _∙_}
 use Rattle.loader.specs.Validate.{textCheck}
 use borrow.Author.Needs.{needs}
 use Rattle.loader.proofs.validate.check_text.Statement.{statement}

@@ -1,7 +1,5 @@
 -- `loader::validate::writable_error` meets its contract: by the place of the name.
 -- Assumes nothing.
-use mathlib.Core.Path.{_≡_, sym, ap, _∙_}
-use Rattle.loader.specs.Validate.{writableBy}
 use borrow.Author.Needs.{needs}
 use Rattle.loader.proofs.validate.writable_error.Statement.{statement}
 use Rattle.loader.proofs.validate.writable_error.Tie as tie
