@@ -1,22 +1,21 @@
 //! vectors FOLDER [CASES [SEED]]: writes a fixed sample of loads for a program that replays them
-//! without any Rust. `load_vectors.bin` has the cases, `load_vectors.txt` a line for each, what the
-//! true Rust answers (and document 01 where the Rust says nothing).
+//! without any Rust (`crates/load_vectors`). The file `stdin` has the cases, `stdout` a line for
+//! each, what the true Rust answers (and document 01 where the Rust says nothing).
 //!
 //! A case, all numbers 32 bits little-endian:
 //!
 //!     length of the file
-//!     bytes of it that follow; the rest of the file is zeros
 //!     settings, as `sbpf_load` takes them
 //!     number of built-ins
-//!     rows: the length of each of the five columns
 //!     length of the image buffer
 //!     length of the read-only buffer
+//!     lengths of the columns: keys, indices, kinds, starts, lengths
 //!     the built-ins
 //!     the bytes of the file
 //!
 //! The columns and buffers are to be filled with anything but zeros before the load. A line:
 //!
-//!     refused NUMBER VALUE START LENGTH
+//!     refused NUMBER VALUE START LENGTH IMAGE RO ROWS
 //!     accepted VERSION ENTRY KEYS MOVES COPIED OFFSET START LENGTH ADDR AT SIZE TEXT IMAGE RO ROWS
 //!
 //! COPIED to LENGTH tell of the read-only bytes, ADDR, AT and SIZE of the text (its address and its
@@ -28,12 +27,15 @@
 //!
 //! Files are drawn small, and of those that agree in what they show (number, version, settings,
 //! what was relocated and registered) the smallest is kept. Three of eight cases are accepted ones,
-//! spread over all that they show; the others are the smallest of each refusal and version. The two
-//! cases of 40 are last: their files have 16,777,217 bytes, of which none follow.
+//! spread over all that they show; the others are the smallest of each refusal and version.
+//!
+//! The replaying program has nothing but its stack, so what it lends are arrays of fixed lengths,
+//! the limits below; a case that passes one of them is left out. So is 40: its file would have
+//! 16,777,217 bytes, twice a usual stack. `differential` has 40 among its cases.
 
 use differential::{
     cases::Case,
-    expected::{expected, Expected, LONGEST},
+    expected::{expected, Expected},
     outcome::{hash, Text},
 };
 use std::{collections::BTreeMap, env, fs, path::Path};
@@ -43,54 +45,62 @@ const DRAWN: u64 = 400_000;
 /// The bytes of all cases together stay below this.
 const MOST_BYTES: usize = 1_450_000;
 
+// What the replaying program can lend: LENT, ROWS and BUILTINS of its source.
+const MOST_LENT: usize = 4_096;
+const MOST_ROWS: usize = 256;
+const MOST_BUILTINS: usize = 64;
+
 fn line(e: &Expected) -> String {
     let w = &e.words;
-    if w[0] != 0 {
-        return format!("refused {} {} {} {}", w[0], w[1], w[2], w[3]);
-    }
     let rows: Vec<u8> = e
         .table
         .iter()
         .flatten()
         .flat_map(|x| x.to_le_bytes())
         .collect();
+    let answer = if w[0] != 0 {
+        format!("refused {} {} {} {}", w[0], w[1], w[2], w[3])
+    } else {
+        let words: Vec<String> = w[4..15].iter().map(u64::to_string).collect();
+        format!("accepted {} {}", words.join(" "), text_number(e))
+    };
     format!(
-        "accepted {} {} {} {} {} {} {} {} {} {} {} {} {:08x} {:08x} {:08x}",
-        w[4],
-        w[5],
-        w[6],
-        w[7],
-        w[8],
-        w[9],
-        w[10],
-        w[11],
-        w[12],
-        w[13],
-        w[14],
-        if e.text == Some(Text::Aborted) { 44 } else { 0 },
+        "{answer} {:08x} {:08x} {:08x}",
         hash(&e.image),
         hash(&e.ro),
         hash(&rows)
     )
 }
 
-fn bytes(case: &Case, given: usize) -> Vec<u8> {
+/// What the text part answers: 44 where the Rust aborts.
+fn text_number(e: &Expected) -> u64 {
+    match e.text {
+        Some(Text::Aborted) => 44,
+        _ => 0,
+    }
+}
+
+/// The number of a refusal; 44 for an accepted file whose text part is refused.
+fn number_of(e: &Expected) -> u64 {
+    e.words[0].max(text_number(e))
+}
+
+fn bytes(case: &Case) -> Vec<u8> {
     let mut out = Vec::new();
-    for n in [
+    let head = [
         case.file.len(),
-        given,
         case.settings.bits() as usize,
         case.builtins.len(),
-        case.rows(),
         case.image,
         case.ro,
-    ] {
-        out.extend_from_slice(&(n as u32).to_le_bytes());
+    ];
+    for n in head.iter().chain(&case.columns) {
+        out.extend_from_slice(&(*n as u32).to_le_bytes());
     }
     for key in &case.builtins {
         out.extend_from_slice(&key.to_le_bytes());
     }
-    out.extend_from_slice(&case.file[..given]);
+    out.extend_from_slice(&case.file);
     out
 }
 
@@ -137,18 +147,19 @@ fn shows(case: &Case, e: &Expected) -> Vec<u64> {
         w[8],
         relocations,
         (case.rows() as u64 == w[6]) as u64,
-        (e.text == Some(Text::Aborted)) as u64,
+        (case.columns != [case.rows(); 5]) as u64,
+        text_number(e),
         (case.settings.bits() & 1) | (case.settings.bits() & 8),
         (e.image.len() > case.file.len()) as u64,
         (case.builtins.len() as u64).min(2),
     ]
 }
 
-/// A case whose columns are equally long, since the format has one number for them.
-fn small(seed: u64, number: u64) -> Case {
-    let mut case = Case::small(seed, number);
-    case.columns = [case.rows(); 5];
-    case
+/// The replaying program can lend all that the case asks for.
+fn can_lend(case: &Case) -> bool {
+    case.file.len().max(case.image).max(case.ro) <= MOST_LENT
+        && case.columns.iter().all(|n| *n <= MOST_ROWS)
+        && case.builtins.len() <= MOST_BUILTINS
 }
 
 fn main() {
@@ -163,19 +174,17 @@ fn main() {
     };
     let (wanted, seed) = (number(1, 2_400) as usize, number(2, 1));
 
-    // the smallest that shows each thing, by number and version; 44 for an accepted file whose
-    // text part is refused
+    // the smallest that shows each thing, by number and version
     type Kept = (usize, u64);
     let mut groups: BTreeMap<(u64, bool), BTreeMap<Vec<u64>, Kept>> = BTreeMap::new();
     for k in 0..DRAWN {
-        let case = small(seed, k);
+        let case = Case::small(seed, k);
+        if !can_lend(&case) {
+            continue;
+        }
         let e = expected(&case).expect("the model agrees with the Rust");
-        let size = bytes(&case, case.file.len()).len();
-        let number = match e.text {
-            Some(Text::Aborted) => 44,
-            _ => e.words[0],
-        };
-        let group = groups.entry((number, case.version2)).or_default();
+        let size = bytes(&case).len();
+        let group = groups.entry((number_of(&e), case.version2)).or_default();
         let kept = group.entry(shows(&case, &e)).or_insert((size, k));
         *kept = (*kept).min((size, k));
     }
@@ -198,41 +207,32 @@ fn main() {
             queue
         })
         .collect();
-    while chosen.len() + 2 < wanted && queues.iter().any(|q| !q.is_empty()) {
+    while chosen.len() < wanted && queues.iter().any(|q| !q.is_empty()) {
         for queue in queues.iter_mut() {
             chosen.extend(queue.pop().map(|(_, k)| k));
         }
     }
-    chosen.truncate(wanted - 2);
+    chosen.truncate(wanted);
     chosen.sort_unstable();
     chosen.dedup();
 
     let (mut binary, mut text) = (Vec::new(), String::new());
     let mut numbers: BTreeMap<(u64, bool), u64> = BTreeMap::new();
-    let mut add = |case: &Case, given: usize| {
-        let e = expected(case).expect("the model agrees with the Rust");
-        binary.extend(bytes(case, given));
+    for k in &chosen {
+        let case = Case::small(seed, *k);
+        let e = expected(&case).expect("the model agrees with the Rust");
+        binary.extend(bytes(&case));
         text += &line(&e);
         text.push('\n');
-        *numbers.entry((e.words[0], case.version2)).or_insert(0) += 1;
-    };
-    for k in &chosen {
-        let case = small(seed, *k);
-        add(&case, case.file.len());
-    }
-    for buffers in [LONGEST + 1, 0] {
-        let mut case = Case::of_file(vec![0; LONGEST + 1]);
-        case.columns = [1; 5];
-        (case.image, case.ro) = (buffers, buffers);
-        add(&case, 0);
+        *numbers.entry((number_of(&e), case.version2)).or_insert(0) += 1;
     }
     assert!(
         binary.len() < MOST_BYTES,
         "{} bytes are too many: ask for fewer cases",
         binary.len()
     );
-    fs::write(Path::new(folder).join("load_vectors.bin"), &binary).expect("a folder");
-    fs::write(Path::new(folder).join("load_vectors.txt"), &text).expect("a folder");
+    fs::write(Path::new(folder).join("stdin"), &binary).expect("a folder");
+    fs::write(Path::new(folder).join("stdout"), &text).expect("a folder");
     println!(
         "{} cases, {} bytes, {} bytes of answers",
         text.lines().count(),
