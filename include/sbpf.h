@@ -1,10 +1,11 @@
 /* The proved functions of crates/exports, for C. Build the archive with
  * `rt staticlib exports` and link target/staticlib/libexports.a (x86-64 Linux).
  *
- * A slice is a pointer and a length; the pointer is not null, also where the length is 0,
- * and lent slices do not overlap. The functions demand nothing else, always return, and write
- * nothing but the answer. What they answer is said, for every input, in
- * crates/exports/specs/Answers.antt.
+ * A slice is a pointer and a length in elements; the pointer is not null, also where the length
+ * is 0, and lent slices do not overlap. The functions demand nothing else, always return, and
+ * write nothing but the slices that are lent to them without `const`: a load its image, its
+ * read-only buffer, its five columns and its answer, every other function its answer alone. What
+ * they answer is said, for every input, in crates/exports/specs/Answers.antt.
  *
  * An answer is SBPF_WORDS words. The first is a number, which is also the result: 0, or why
  * there is nothing. A refusal has its value, and the start and the length of the name that it
@@ -43,7 +44,38 @@ enum {
     SBPF_DYNAMIC_SYMBOL_COUNT
 };
 
-/* Words of a place in the file, and of a table: where it starts, and its bytes or entries. */
+/* Words of an accepted load. The read-only bytes stand in the image from SBPF_RO_START on, or,
+ * where they were copied (SBPF_RO_COPIED is 1), at the front of the read-only buffer; the first of
+ * them has the address 0x100000000 + SBPF_RO_OFFSET. SBPF_TEXT_START is a place in the file. */
+enum {
+    SBPF_VERSION = 4,
+    SBPF_ENTRY,
+    SBPF_USED,
+    SBPF_MOVES,
+    SBPF_RO_COPIED,
+    SBPF_RO_OFFSET,
+    SBPF_RO_START,
+    SBPF_RO_LENGTH,
+    SBPF_TEXT_ADDR,
+    SBPF_TEXT_START,
+    SBPF_TEXT_LENGTH
+};
+
+/* Settings of a load, by bits; others are not looked at. */
+enum {
+    SBPF_LABELS = 1,
+    SBPF_REJECT_BROKEN = 2,
+    SBPF_COLLISION_CHECK = 4,
+    SBPF_OPTIMIZE = 8,
+    SBPF_V1 = 16,
+    SBPF_V2 = 32
+};
+
+/* Kinds of a row's name: empty, a part of the file, the text entrypoint, made from the index. */
+enum { SBPF_KIND_EMPTY, SBPF_KIND_IN_FILE, SBPF_KIND_ENTRYPOINT, SBPF_KIND_FROM_INDEX };
+
+/* Words of a place in the file, and of a table: where it starts, and its bytes or entries. Words
+ * of the text's place in the lent bytes, too. */
 enum { SBPF_START = 4, SBPF_LENGTH };
 
 /* Words of a row that was found. */
@@ -80,6 +112,28 @@ uint32_t sbpf_lookup(const uint32_t *keys, size_t keys_len, const uint32_t *indi
                      const uint32_t *starts, size_t starts_len, const uint32_t *lengths,
                      size_t lengths_len, uint64_t used, uint32_t key, uint64_t *answer,
                      size_t answer_len);
+
+/* Loads a file of at most 16,777,216 bytes (else 40). Lent are: the image and the read-only
+ * buffer, each at least as long as the file (else 41); and the table, five columns with as many
+ * rows as the shortest has (43 where the functions do not fit). The built-ins are keys that
+ * strictly ascend (else 42). What the lent slices hold before does not matter.
+ *
+ * Afterwards they hold their whole content, or, where the load is refused, only zeros. Accepted:
+ * the image is the file, relocated; the read-only buffer holds the copied bytes, if they were
+ * copied; the columns hold SBPF_USED rows, ascending by key. All behind that is zero. */
+uint32_t sbpf_load(const uint8_t *file, size_t file_len, const uint32_t *builtins,
+                   size_t builtins_len, uint32_t settings, uint8_t *image, size_t image_len,
+                   uint8_t *ro, size_t ro_len, uint32_t *keys, size_t keys_len,
+                   uint32_t *indices, size_t indices_len, uint32_t *kinds, size_t kinds_len,
+                   uint32_t *starts, size_t starts_len, uint32_t *lengths, size_t lengths_len,
+                   uint64_t *answer, size_t answer_len);
+
+/* Where the text stands among the read-only bytes of a load, or 44. `lent` is the length of the
+ * image, or, where the bytes were copied, of the read-only buffer, and the place is one in it; the
+ * others are words of the load's answer. */
+uint32_t sbpf_text_place(uint64_t lent, uint64_t ro_offset, uint64_t ro_start,
+                         uint64_t ro_length, uint64_t text_addr, uint64_t text_length,
+                         uint64_t *answer, size_t answer_len);
 
 #ifdef __cplusplus
 }

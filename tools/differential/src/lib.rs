@@ -1,7 +1,7 @@
 //! The proved functions and the true Rust, side by side. `outcome` has the true Rust's answers
 //! in document 01's numbers: solana_rbpf 0.8.5, compiled unchanged from DOCS_SRC. `port` calls
 //! the proved functions. `cases` makes the inputs, `compare` asks both, and `loads` does for whole
-//! loads, whose answers `expected` has in full.
+//! loads, whose answers `expected` has in full. `worked` has document 01's examples.
 
 pub mod bench;
 pub mod cases;
@@ -14,6 +14,7 @@ pub mod mutate;
 pub mod outcome;
 pub mod port;
 pub mod random;
+pub mod worked;
 
 pub use outcome::{outcome, Outcome};
 

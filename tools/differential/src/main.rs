@@ -3,6 +3,8 @@
 //! differential readers CASES [SEED [FIRST]], differential loads ..: one of them alone.
 //! differential rust CASES [SEED [FIRST]]: what is expected of a load, without the port: the true
 //!     Rust's answers, and the second telling of document 01 held against them.
+//! differential worked: document 01's worked examples and published hashes, against what was worked
+//!     out by hand.
 //! differential write CASE FILE [SEED]: the file of a case.
 //! differential FILE..: both answers to files, with all settings on and no built-ins.
 
@@ -11,6 +13,7 @@ use differential::{
     compare::{shrink, Comparer},
     expected, loads, number_name, outcome, port,
     random::Random,
+    worked,
 };
 use std::{env, fs, process::exit, time::Instant};
 
@@ -26,11 +29,16 @@ struct Ask {
     loads: bool,
 }
 
-fn compare(ask: Ask, cases: u64, seed: u64, first: u64) {
-    if (ask.readers && !port::HAS_PORT) || (ask.loads && !port::HAS_LOAD) {
+/// Stops where the library cannot be asked.
+fn need(there: bool) {
+    if !there {
         eprintln!("the library that this was built with cannot be asked for that (see build.rs)");
         exit(2);
     }
+}
+
+fn compare(ask: Ask, cases: u64, seed: u64, first: u64) {
+    need((!ask.readers || port::HAS_PORT) && (!ask.loads || port::HAS_LOAD));
     let began = Instant::now();
     let mut both = Comparer::new();
     let mut counts = loads::Counts::default();
@@ -206,6 +214,10 @@ fn main() {
         Some("readers") => run(true, false, false),
         Some("loads") => run(false, true, true),
         Some("rust") => run(false, true, false),
+        Some("worked") => {
+            need(port::HAS_LOAD);
+            exit((worked::run() > 0) as i32)
+        }
         Some("write") => fs::write(&args[2], Case::new(number(3, 1), number(1, 0)).file)
             .expect("a file that can be written"),
         Some(a) if a.starts_with(|c: char| c.is_ascii_digit()) => {
@@ -222,7 +234,7 @@ fn main() {
         Some(_) => args.iter().for_each(|name| one(name)),
         None => {
             eprintln!(
-                "differential [readers | loads | rust] CASES [SEED [FIRST]] | write CASE FILE [SEED] | FILE.."
+                "differential [readers | loads | rust] CASES [SEED [FIRST]] | worked | write CASE FILE [SEED] | FILE.."
             );
             exit(2);
         }

@@ -1,0 +1,468 @@
+//! The proved functions of crates/exports, for Rust (x86-64 Linux). What they answer is said, for
+//! every input, in crates/exports/specs/Answers.antt. Nothing here is proved: this module is the
+//! declarations and the way from words to fields.
+//!
+//! Every function here is safe, demands nothing and always returns.
+
+use std::{fmt, ops::Range};
+
+/// The words of an answer.
+const WORDS: usize = 16;
+
+/// The exported functions, in the order of include/sbpf.h and with its arguments: a slice is a
+/// pointer and its length in elements. Nothing checks them against crates/exports/src/lib.rt.
+mod c {
+    extern "C" {
+        pub fn sbpf_hash(name: *const u8, name_len: usize) -> u32;
+        pub fn sbpf_parse(
+            file: *const u8,
+            file_len: usize,
+            answer: *mut u64,
+            answer_len: usize,
+        ) -> u32;
+        pub fn sbpf_section_place(
+            file: *const u8,
+            file_len: usize,
+            index: u32,
+            answer: *mut u64,
+            answer_len: usize,
+        ) -> u32;
+        pub fn sbpf_section_name(
+            file: *const u8,
+            file_len: usize,
+            sh_name: u32,
+            answer: *mut u64,
+            answer_len: usize,
+        ) -> u32;
+        pub fn sbpf_symbol_name(
+            file: *const u8,
+            file_len: usize,
+            st_name: u32,
+            answer: *mut u64,
+            answer_len: usize,
+        ) -> u32;
+        pub fn sbpf_dynamic_symbol_name(
+            file: *const u8,
+            file_len: usize,
+            st_name: u32,
+            answer: *mut u64,
+            answer_len: usize,
+        ) -> u32;
+        pub fn sbpf_symbol_table(
+            file: *const u8,
+            file_len: usize,
+            answer: *mut u64,
+            answer_len: usize,
+        ) -> u32;
+        pub fn sbpf_lookup(
+            keys: *const u32,
+            keys_len: usize,
+            indices: *const u32,
+            indices_len: usize,
+            kinds: *const u32,
+            kinds_len: usize,
+            starts: *const u32,
+            starts_len: usize,
+            lengths: *const u32,
+            lengths_len: usize,
+            used: u64,
+            key: u32,
+            answer: *mut u64,
+            answer_len: usize,
+        ) -> u32;
+        pub fn sbpf_load(
+            file: *const u8,
+            file_len: usize,
+            builtins: *const u32,
+            builtins_len: usize,
+            settings: u32,
+            image: *mut u8,
+            image_len: usize,
+            ro: *mut u8,
+            ro_len: usize,
+            keys: *mut u32,
+            keys_len: usize,
+            indices: *mut u32,
+            indices_len: usize,
+            kinds: *mut u32,
+            kinds_len: usize,
+            starts: *mut u32,
+            starts_len: usize,
+            lengths: *mut u32,
+            lengths_len: usize,
+            answer: *mut u64,
+            answer_len: usize,
+        ) -> u32;
+        pub fn sbpf_text_place(
+            lent: u64,
+            ro_offset: u64,
+            ro_start: u64,
+            ro_length: u64,
+            text_addr: u64,
+            text_length: u64,
+            answer: *mut u64,
+            answer_len: usize,
+        ) -> u32;
+    }
+}
+
+// Why the calls below are sound. The exported functions ask for three things: that each pointer
+// with its length is a valid slice, that it is not null, and that lent slices do not overlap.
+// Every pointer and length here comes from one Rust slice, which is valid for the whole call,
+// aligned, and has a pointer that is not null, also where it is empty. The slices that are written
+// are `&mut`, so none of them overlaps another slice. The library writes inside them alone, holds
+// no pointer after it returns, and has no state of its own.
+
+/// Why there is nothing: the number, and what it carries. The name that it speaks of is a part of
+/// the file. What is not used is 0.
+#[derive(Clone, Copy, Debug, PartialEq, Eq)]
+pub struct Refusal {
+    pub number: u32,
+    pub value: u64,
+    pub name_start: usize,
+    pub name_length: usize,
+}
+
+impl fmt::Display for Refusal {
+    fn fmt(&self, f: &mut fmt::Formatter) -> fmt::Result {
+        write!(
+            f,
+            "refused {} {} {} {}",
+            self.number, self.value, self.name_start, self.name_length
+        )
+    }
+}
+
+impl std::error::Error for Refusal {}
+
+/// The sixteen words of a call that answers 0, else its refusal.
+fn answered(call: impl FnOnce(*mut u64, usize) -> u32) -> Result<[u64; WORDS], Refusal> {
+    let mut a = [0; WORDS];
+    match call(a.as_mut_ptr(), WORDS) {
+        0 => Ok(a),
+        number => Err(Refusal {
+            number,
+            value: a[1],
+            name_start: a[2] as usize,
+            name_length: a[3] as usize,
+        }),
+    }
+}
+
+/// MurmurHash3, x86 32-bit, seed 0.
+pub fn hash(name: &[u8]) -> u32 {
+    // SAFETY: as said above; nothing is written.
+    unsafe { c::sbpf_hash(name.as_ptr(), name.len()) }
+}
+
+/// A table of the file: where it starts, and how many entries it has.
+#[derive(Clone, Copy, Debug, PartialEq, Eq)]
+pub struct Entries {
+    pub start: usize,
+    pub count: usize,
+}
+
+/// Where things stand in a file. A header that was found by name is given by its offset, 0 where
+/// there is none.
+#[derive(Clone, Copy, Debug, PartialEq, Eq)]
+pub struct Layout {
+    pub program_headers: Entries,
+    pub section_headers: Entries,
+    pub shstrtab: usize,
+    pub symtab: usize,
+    pub strtab: usize,
+    pub dynstr: usize,
+    pub dynamic_relocations: Entries,
+    pub dynamic_symbols: Entries,
+}
+
+/// Where things stand in an ELF-64 file.
+pub fn parse(file: &[u8]) -> Result<Layout, Refusal> {
+    // SAFETY: as said above.
+    let a = answered(|words, n| unsafe { c::sbpf_parse(file.as_ptr(), file.len(), words, n) })?;
+    let entries = |k: usize| Entries {
+        start: a[k] as usize,
+        count: a[k + 1] as usize,
+    };
+    Ok(Layout {
+        program_headers: entries(4),
+        section_headers: entries(6),
+        shstrtab: a[8] as usize,
+        symtab: a[9] as usize,
+        strtab: a[10] as usize,
+        dynstr: a[11] as usize,
+        dynamic_relocations: entries(12),
+        dynamic_symbols: entries(14),
+    })
+}
+
+type Question = unsafe extern "C" fn(*const u8, usize, u32, *mut u64, usize) -> u32;
+
+/// The part of the file that a question answers. `question` is a function of `c`.
+fn part(question: Question, file: &[u8], number: u32) -> Result<&[u8], Refusal> {
+    // SAFETY: as said above.
+    let a = answered(|words, n| unsafe { question(file.as_ptr(), file.len(), number, words, n) })?;
+    Ok(&file[a[4] as usize..(a[4] + a[5]) as usize])
+}
+
+/// The contents of a section; 45 where there is none of that index. This and the next four parse
+/// the file first, and answer its refusal.
+pub fn section(file: &[u8], index: u32) -> Result<&[u8], Refusal> {
+    part(c::sbpf_section_place, file, index)
+}
+
+/// The section name at a string offset.
+pub fn section_name(file: &[u8], sh_name: u32) -> Result<&[u8], Refusal> {
+    part(c::sbpf_section_name, file, sh_name)
+}
+
+/// The symbol name at a string offset.
+pub fn symbol_name(file: &[u8], st_name: u32) -> Result<&[u8], Refusal> {
+    part(c::sbpf_symbol_name, file, st_name)
+}
+
+/// The dynamic symbol name at a string offset.
+pub fn dynamic_symbol_name(file: &[u8], st_name: u32) -> Result<&[u8], Refusal> {
+    part(c::sbpf_dynamic_symbol_name, file, st_name)
+}
+
+/// The symbols of .symtab: no entries where there is no such section.
+pub fn symbol_table(file: &[u8]) -> Result<Entries, Refusal> {
+    // SAFETY: as said above.
+    let a =
+        answered(|words, n| unsafe { c::sbpf_symbol_table(file.as_ptr(), file.len(), words, n) })?;
+    Ok(Entries {
+        start: a[4] as usize,
+        count: a[5] as usize,
+    })
+}
+
+/// The five columns of a table; it has as many rows as the shortest.
+#[derive(Clone, Copy, Debug)]
+pub struct Table<'a> {
+    pub keys: &'a [u32],
+    pub indices: &'a [u32],
+    pub kinds: &'a [u32],
+    pub starts: &'a [u32],
+    pub lengths: &'a [u32],
+}
+
+/// A row's instruction index and name. Kinds: 0 empty, 1 the part of the file from `start` on, 2
+/// the text entrypoint, 3 made from the index.
+#[derive(Clone, Copy, Debug, PartialEq, Eq)]
+pub struct Row {
+    pub index: u32,
+    pub kind: u32,
+    pub start: u32,
+    pub length: u32,
+}
+
+/// The first of the used rows with the key, whatever the columns hold; at most the rows lent count.
+pub fn lookup(table: Table, used: usize, key: u32) -> Option<Row> {
+    // SAFETY: as said above.
+    let a = answered(|words, n| unsafe {
+        c::sbpf_lookup(
+            table.keys.as_ptr(),
+            table.keys.len(),
+            table.indices.as_ptr(),
+            table.indices.len(),
+            table.kinds.as_ptr(),
+            table.kinds.len(),
+            table.starts.as_ptr(),
+            table.starts.len(),
+            table.lengths.as_ptr(),
+            table.lengths.len(),
+            used as u64,
+            key,
+            words,
+            n,
+        )
+    })
+    .ok()?;
+    Some(Row {
+        index: a[1] as u32,
+        kind: a[2] as u32,
+        start: a[3] as u32,
+        length: a[4] as u32,
+    })
+}
+
+/// The settings of a load, by the names of the Rust's `Config` in short.
+#[derive(Clone, Copy, Debug, PartialEq, Eq)]
+pub struct Settings {
+    /// `enable_symbol_and_section_labels`
+    pub labels: bool,
+    /// `reject_broken_elfs`
+    pub reject_broken: bool,
+    /// `external_internal_function_hash_collision`
+    pub collision_check: bool,
+    /// `optimize_rodata`
+    pub optimize: bool,
+    /// `enable_sbpf_v1`
+    pub v1: bool,
+    /// `enable_sbpf_v2`
+    pub v2: bool,
+}
+
+impl Settings {
+    pub const ALL_ON: Settings = Settings {
+        labels: true,
+        reject_broken: true,
+        collision_check: true,
+        optimize: true,
+        v1: true,
+        v2: true,
+    };
+
+    fn bits(self) -> u32 {
+        self.labels as u32
+            | (self.reject_broken as u32) << 1
+            | (self.collision_check as u32) << 2
+            | (self.optimize as u32) << 3
+            | (self.v1 as u32) << 4
+            | (self.v2 as u32) << 5
+    }
+}
+
+/// What is lent to a load. Image and read-only buffer are at least as long as the file (else 41);
+/// the table has as many rows as the shortest column (43 where the functions do not fit). What they
+/// hold before does not matter.
+///
+/// After an accepted load the image is the file, relocated; the read-only buffer holds the copied
+/// bytes, if they were copied; the columns hold the used rows, ascending by key; all behind that is
+/// zero. After a refused one they hold only zeros.
+#[derive(Debug)]
+pub struct Lent<'a> {
+    pub image: &'a mut [u8],
+    pub ro: &'a mut [u8],
+    pub keys: &'a mut [u32],
+    pub indices: &'a mut [u32],
+    pub kinds: &'a mut [u32],
+    pub starts: &'a mut [u32],
+    pub lengths: &'a mut [u32],
+}
+
+impl Lent<'_> {
+    /// The columns, to look a key up.
+    pub fn table(&self) -> Table<'_> {
+        Table {
+            keys: self.keys,
+            indices: self.indices,
+            kinds: self.kinds,
+            starts: self.starts,
+            lengths: self.lengths,
+        }
+    }
+
+    /// The bytes that hold the read-only ones of a load.
+    fn holding(&self, a: &Accepted) -> &[u8] {
+        if a.ro_copied {
+            self.ro
+        } else {
+            self.image
+        }
+    }
+
+    /// The read-only bytes after the load into these that answered `a`; none where they are not
+    /// here.
+    pub fn read_only(&self, a: &Accepted) -> Option<&[u8]> {
+        let end = a.ro_start.checked_add(a.ro_length)?;
+        self.holding(a).get(a.ro_start..end)
+    }
+
+    /// The text after the load into these that answered `a`, or 44.
+    pub fn text(&self, a: &Accepted) -> Result<&[u8], Refusal> {
+        let held = self.holding(a);
+        Ok(&held[text_place(held.len(), a)?])
+    }
+}
+
+/// An accepted load: version (1 or 2), the entry's instruction index, rows used, rows moved in all;
+/// whether the read-only bytes were copied to the buffer, how far behind 0x100000000 they are
+/// addressed, where they start in the image (0 if copied) and their number; the text's address and
+/// its place in the file.
+#[derive(Clone, Copy, Debug, PartialEq, Eq)]
+pub struct Accepted {
+    pub version: u32,
+    pub entry: u32,
+    pub used: usize,
+    pub moves: u64,
+    pub ro_copied: bool,
+    pub ro_offset: u64,
+    pub ro_start: usize,
+    pub ro_length: usize,
+    pub text_addr: u64,
+    pub text_start: usize,
+    pub text_length: usize,
+}
+
+/// Loads a file of at most 16,777,216 bytes (else 40). The built-ins are keys that strictly ascend
+/// (else 42).
+pub fn load(
+    file: &[u8],
+    builtins: &[u32],
+    settings: Settings,
+    lent: &mut Lent,
+) -> Result<Accepted, Refusal> {
+    // SAFETY: as said above.
+    let a = answered(|words, n| unsafe {
+        c::sbpf_load(
+            file.as_ptr(),
+            file.len(),
+            builtins.as_ptr(),
+            builtins.len(),
+            settings.bits(),
+            lent.image.as_mut_ptr(),
+            lent.image.len(),
+            lent.ro.as_mut_ptr(),
+            lent.ro.len(),
+            lent.keys.as_mut_ptr(),
+            lent.keys.len(),
+            lent.indices.as_mut_ptr(),
+            lent.indices.len(),
+            lent.kinds.as_mut_ptr(),
+            lent.kinds.len(),
+            lent.starts.as_mut_ptr(),
+            lent.starts.len(),
+            lent.lengths.as_mut_ptr(),
+            lent.lengths.len(),
+            words,
+            n,
+        )
+    })?;
+    Ok(Accepted {
+        version: a[4] as u32,
+        entry: a[5] as u32,
+        used: a[6] as usize,
+        moves: a[7],
+        ro_copied: a[8] == 1,
+        ro_offset: a[9],
+        ro_start: a[10] as usize,
+        ro_length: a[11] as usize,
+        text_addr: a[12],
+        text_start: a[13] as usize,
+        text_length: a[14] as usize,
+    })
+}
+
+/// Where the text of a load stands in the bytes that hold the read-only ones, which are `lent`
+/// many: the image's, or, where they were copied, the buffer's. Else 44.
+pub fn text_place(lent: usize, a: &Accepted) -> Result<Range<usize>, Refusal> {
+    // SAFETY: as said above.
+    let place = answered(|words, n| unsafe {
+        c::sbpf_text_place(
+            lent as u64,
+            a.ro_offset,
+            a.ro_start as u64,
+            a.ro_length as u64,
+            a.text_addr,
+            a.text_length as u64,
+            words,
+            n,
+        )
+    })?;
+    Ok(place[4] as usize..(place[4] + place[5]) as usize)
+}
+
+#[cfg(test)]
+mod tests;

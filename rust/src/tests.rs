@@ -1,0 +1,181 @@
+use super::*;
+
+/// Version 2, two zero slots as .text at 0x100000000, entry there.
+const EXAMPLE: &[u8] = include_bytes!("../../crates/loadlist/stdin");
+
+/// Buffers that hold no zeros.
+struct Held {
+    bytes: [Vec<u8>; 2],
+    columns: [Vec<u32>; 5],
+}
+
+impl Held {
+    fn new(length: usize, rows: usize) -> Held {
+        Held {
+            bytes: [(); 2].map(|()| vec![0xa5; length]),
+            columns: [(); 5].map(|()| vec![0xa5a5_a5a5; rows]),
+        }
+    }
+
+    fn lend(&mut self) -> Lent<'_> {
+        let [image, ro] = &mut self.bytes;
+        let [keys, indices, kinds, starts, lengths] = &mut self.columns;
+        Lent {
+            image,
+            ro,
+            keys,
+            indices,
+            kinds,
+            starts,
+            lengths,
+        }
+    }
+
+    fn all_zero(&self) -> bool {
+        self.bytes.iter().flatten().all(|b| *b == 0)
+            && self.columns.iter().flatten().all(|x| *x == 0)
+    }
+}
+
+fn refusal(number: u32, value: u64) -> Refusal {
+    Refusal {
+        number,
+        value,
+        name_start: 0,
+        name_length: 0,
+    }
+}
+
+/// With all settings on.
+fn refused(file: &[u8], builtins: &[u32], held: &mut Held) -> Refusal {
+    load(file, builtins, Settings::ALL_ON, &mut held.lend()).expect_err("the file is refused")
+}
+
+#[test]
+fn the_example_is_accepted() {
+    let mut held = Held::new(EXAMPLE.len() + 3, 4);
+    let mut lent = held.lend();
+    let a = load(EXAMPLE, &[], Settings::ALL_ON, &mut lent).expect("the file is accepted");
+    let expected = Accepted {
+        version: 2,
+        entry: 0,
+        used: 1,
+        moves: 0,
+        ro_copied: false,
+        ro_offset: 0,
+        ro_start: 64,
+        ro_length: 16,
+        text_addr: 0x1_0000_0000,
+        text_start: 64,
+        text_length: 16,
+    };
+    assert_eq!(a, expected);
+    let entry = Row {
+        index: 0,
+        kind: 2,
+        start: 0,
+        length: 10,
+    };
+    assert_eq!(lookup(lent.table(), a.used, 0), Some(entry));
+    assert_eq!(lookup(lent.table(), a.used, 1), None);
+    assert_eq!(lookup(lent.table(), 0, 0), None);
+    assert_eq!(lent.read_only(&a), Some(&EXAMPLE[64..80]));
+    assert_eq!(lent.text(&a), Ok(&EXAMPLE[64..80]));
+    assert_eq!(text_place(79, &a), Err(refusal(44, 0)));
+    assert_eq!(text_place(80, &a), Ok(64..80));
+    assert_eq!(&lent.image[..EXAMPLE.len()], EXAMPLE);
+    assert_eq!(&lent.image[EXAMPLE.len()..], [0; 3]);
+    assert!(lent.ro.iter().all(|b| *b == 0));
+    assert!(lent.keys[1..].iter().all(|k| *k == 0));
+}
+
+#[test]
+fn a_call_holds_the_key_that_finds_its_target() {
+    // the example as version 1: at its file offset, with a call of slot 1 in slot 0
+    let mut file = EXAMPLE.to_vec();
+    file[24..32].copy_from_slice(&64u64.to_le_bytes());
+    file[48] = 0;
+    file[184..192].copy_from_slice(&64u64.to_le_bytes());
+    file[64] = 0x85;
+    file[65] = 0x10;
+    let mut held = Held::new(file.len(), 2);
+    let mut lent = held.lend();
+    let a = load(&file, &[], Settings::ALL_ON, &mut lent).expect("the file is accepted");
+    assert_eq!((a.version, a.entry, a.used), (1, 0, 2));
+    let key = hash(&1u64.to_le_bytes());
+    assert_eq!(lent.image[68..72], key.to_le_bytes());
+    let found = |key| lookup(lent.table(), a.used, key).map(|row| (row.index, row.kind));
+    assert_eq!(found(key), Some((1, 3)));
+    assert_eq!(found(hash(b"entrypoint")), Some((0, 2)));
+
+    // a built-in of that key collides, and without version 1 the file is refused
+    let mut held = Held::new(file.len(), 2);
+    assert_eq!(refused(&file, &[key], &mut held), refusal(24, key as u64));
+    let settings = Settings {
+        v1: false,
+        ..Settings::ALL_ON
+    };
+    let got = load(&file, &[], settings, &mut held.lend());
+    assert_eq!(got, Err(refusal(34, 0)));
+}
+
+#[test]
+fn an_empty_file_is_refused() {
+    // slices of no elements throughout
+    let mut held = Held::new(0, 0);
+    assert_eq!(refused(&[], &[], &mut held), refusal(33, 0));
+    assert_eq!(parse(&[]), Err(refusal(5, 0)));
+    assert_eq!(lookup(held.lend().table(), 1, 0), None);
+}
+
+#[test]
+fn a_refusal_leaves_zeros() {
+    // the entry at the text's end
+    let mut file = EXAMPLE.to_vec();
+    file[24] = 16;
+    let mut held = Held::new(file.len() + 5, 7);
+    assert_eq!(refused(&file, &[], &mut held), refusal(20, 0));
+    assert!(held.all_zero());
+
+    let mut held = Held::new(file.len() - 1, 7);
+    assert_eq!(refused(EXAMPLE, &[], &mut held), refusal(41, 0));
+    assert!(held.all_zero());
+
+    let mut held = Held::new(file.len(), 7);
+    assert_eq!(refused(EXAMPLE, &[3, 3], &mut held), refusal(42, 0));
+    assert!(held.all_zero());
+}
+
+#[test]
+fn a_table_without_rows_is_full() {
+    let mut held = Held::new(EXAMPLE.len(), 0);
+    assert_eq!(refused(EXAMPLE, &[], &mut held), refusal(43, 0));
+    // the shortest column decides
+    let mut held = Held::new(EXAMPLE.len(), 4);
+    held.columns[3].clear();
+    assert_eq!(refused(EXAMPLE, &[], &mut held), refusal(43, 0));
+    assert!(held.all_zero());
+}
+
+#[test]
+fn the_readers_answer_parts_of_the_file() {
+    let layout = parse(EXAMPLE).expect("the file is parsed");
+    let at = |start, count| Entries { start, count };
+    assert_eq!(layout.section_headers, at(104, 3));
+    assert_eq!(layout.program_headers, at(0, 0));
+    assert_eq!(layout.shstrtab, 104 + 2 * 64);
+    assert_eq!(layout.symtab, 0);
+    assert_eq!(section(EXAMPLE, 1), Ok(&EXAMPLE[64..80]));
+    assert_eq!(section(EXAMPLE, 3), Err(refusal(45, 0)));
+    assert_eq!(section_name(EXAMPLE, 1), Ok(&b".text"[..]));
+    assert_eq!(symbol_name(EXAMPLE, 1), Err(refusal(12, 0)));
+    assert_eq!(dynamic_symbol_name(EXAMPLE, 1), Err(refusal(13, 0)));
+    assert_eq!(symbol_table(EXAMPLE), Ok(at(0, 0)));
+}
+
+#[test]
+fn published_hashes() {
+    assert_eq!(hash(b""), 0);
+    assert_eq!(hash(b"test"), 0xba6b_d213);
+    assert_eq!(hash(b"entrypoint"), 0x71e3_cf81);
+}

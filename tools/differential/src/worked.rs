@@ -1,0 +1,435 @@
+//! Document 01's worked examples that are run, not proved: each with the answer that was worked out
+//! by hand, the port's and the true Rust's. Where an example has a limit, the neighbour on its other
+//! side is beside it. And published hashes.
+
+use crate::{
+    cases::Case,
+    elf::{PROGRAM_START, STACK_START},
+    expected::LONGEST,
+    loads, outcome, port, Outcome,
+};
+use std::fmt;
+
+/// The input of crates/loadlist, which is the version 2 example.
+const LOADLIST: &[u8] = include_bytes!("../../../crates/loadlist/stdin");
+
+/// What loadlist prints.
+#[derive(Clone, Debug, PartialEq, Eq)]
+enum Told {
+    /// Number, value, name start, name length.
+    Refused([u64; 4]),
+    /// Version, entry, keys, moves; and key, index, name kind of each row.
+    Accepted([u64; 4], Vec<[u32; 3]>),
+}
+
+impl fmt::Display for Told {
+    fn fmt(&self, f: &mut fmt::Formatter) -> fmt::Result {
+        let numbers = |numbers: &[u64; 4]| numbers.map(|n| n.to_string()).join(" ");
+        match self {
+            Told::Refused(r) => write!(f, "refused {}", numbers(r)),
+            Told::Accepted(a, rows) => {
+                write!(f, "accepted {}", numbers(a))?;
+                rows.iter()
+                    .try_for_each(|[key, index, kind]| write!(f, " | {key} {index} {kind}"))
+            }
+        }
+    }
+}
+
+impl Told {
+    /// As far as the Rust can tell it: no moves, names in place of their kinds and places.
+    fn without_added(&self) -> String {
+        match self {
+            Told::Refused([number, value, ..]) => format!("refused {number} {value}"),
+            Told::Accepted([version, entry, keys, _], rows) => {
+                let mut text = format!("accepted {version} {entry} {keys}");
+                for [key, index, kind] in rows {
+                    let name = match kind {
+                        2 => "entrypoint".to_string(),
+                        3 => format!("function_{index}"),
+                        _ => String::new(),
+                    };
+                    text += &format!(" | {key} {index} {name}");
+                }
+                text
+            }
+        }
+    }
+}
+
+/// The same of the Rust.
+fn rust(case: &Case) -> String {
+    match outcome::outcome(&case.file, case.settings, &case.builtins, usize::MAX) {
+        Outcome::Refused(r) => {
+            let name = r
+                .name
+                .map(|name| format!(" {}", String::from_utf8_lossy(&name)));
+            format!(
+                "refused {} {}{}",
+                r.number,
+                r.value,
+                name.unwrap_or_default()
+            )
+        }
+        Outcome::Accepted(a) => {
+            let mut text = format!("accepted {} {} {}", a.version, a.entry, a.rows.len());
+            for row in a.rows {
+                let name = String::from_utf8_lossy(&row.name);
+                text += &format!(" | {} {} {name}", row.key, row.index);
+            }
+            text
+        }
+        other => format!("{other:?}"),
+    }
+}
+
+fn port(case: &Case) -> Told {
+    let (mut image, mut ro) = (vec![1; case.image], vec![1; case.ro]);
+    let mut table = case.columns.map(|n| vec![1; n]);
+    let mut a = [1; port::WORDS];
+    let columns = table.each_mut().map(|c| &mut c[..]);
+    let settings = case.settings.bits() as u32;
+    port::load(
+        &case.file,
+        &case.builtins,
+        settings,
+        &mut image,
+        &mut ro,
+        columns,
+        &mut a,
+    );
+    if a[0] != 0 {
+        return Told::Refused([a[0], a[1], a[2], a[3]]);
+    }
+    let row = |k| [table[0][k], table[1][k], table[2][k]];
+    Told::Accepted(
+        [a[4], a[5], a[6], a[7]],
+        (0..a[6] as usize).map(row).collect(),
+    )
+}
+
+/// A file with these and no more: zero bytes as .text, program headers of zeros, a label, names.
+#[derive(Clone, Copy)]
+struct Small {
+    version2: bool,
+    program_headers: usize,
+    /// None: at 0x100000000 in version 2, at its file offset in version 1.
+    text_addr: Option<u64>,
+    text_length: usize,
+    /// From the text's address on.
+    entry: u64,
+    /// The name of a function symbol at slot 1.
+    label: Option<&'static str>,
+    /// e_shstrndx; None: the section of names.
+    names: Option<u16>,
+}
+
+/// The example of loadlist.
+const PLAIN: Small = Small {
+    version2: true,
+    program_headers: 0,
+    text_addr: None,
+    text_length: 16,
+    entry: 0,
+    label: None,
+    names: None,
+};
+
+/// The same with one slot.
+const LEAST: Small = Small {
+    text_length: 8,
+    ..PLAIN
+};
+
+impl Small {
+    fn file(&self) -> Vec<u8> {
+        let mut bytes = vec![0; 64 + 56 * self.program_headers];
+        let text_at = bytes.len();
+        let text_addr = self.text_addr.unwrap_or(match self.version2 {
+            true => PROGRAM_START,
+            false => text_at as u64,
+        });
+        // name, type, flags, address, alignment, contents
+        let text = vec![0; self.text_length];
+        let mut sections = vec![(".text", 1u32, 6u64, text_addr, 8u64, text)];
+        if let Some(label) = self.label {
+            let mut symbol = vec![1, 0, 0, 0, 0x12, 0, 1, 0];
+            symbol.extend_from_slice(&(text_addr + 8).to_le_bytes());
+            symbol.extend_from_slice(&[0; 8]);
+            sections.push((".symtab", 2, 0, 0, 8, symbol));
+            let names = format!("\0{label}\0").into_bytes();
+            sections.push((".strtab", 3, 0, 0, 1, names));
+        }
+        sections.push((".shstrtab", 3, 0, 0, 1, Vec::new()));
+        let mut names = vec![0];
+        let mut name_at = Vec::new();
+        for (name, ..) in &sections {
+            name_at.push(names.len() as u32);
+            names.extend_from_slice(name.as_bytes());
+            names.push(0);
+        }
+        sections.last_mut().unwrap().5 = names;
+
+        let mut headers = vec![0; 64];
+        for ((_, kind, flags, addr, align, contents), name) in sections.iter().zip(&name_at) {
+            let mut header = [0; 64];
+            header[..4].copy_from_slice(&name.to_le_bytes());
+            header[4..8].copy_from_slice(&kind.to_le_bytes());
+            header[8..16].copy_from_slice(&flags.to_le_bytes());
+            header[16..24].copy_from_slice(&addr.to_le_bytes());
+            header[24..32].copy_from_slice(&(bytes.len() as u64).to_le_bytes());
+            header[32..40].copy_from_slice(&(contents.len() as u64).to_le_bytes());
+            header[48..56].copy_from_slice(&align.to_le_bytes());
+            headers.extend_from_slice(&header);
+            bytes.extend_from_slice(contents);
+        }
+        bytes.resize(bytes.len().div_ceil(8) * 8, 0);
+        let table = bytes.len() as u64;
+        bytes.extend_from_slice(&headers);
+
+        bytes[..7].copy_from_slice(b"\x7fELF\x02\x01\x01");
+        let names = self.names.unwrap_or(sections.len() as u16);
+        for (at, value) in [
+            (16, 3),
+            (18, 247),
+            (20, 1),
+            (48, if self.version2 { 0x20 } else { 0 }),
+            (52, 64),
+            (54, 56),
+            (56, self.program_headers as u16),
+            (58, 64),
+            (60, 1 + sections.len() as u16),
+            (62, names),
+        ] {
+            bytes[at..at + 2].copy_from_slice(&value.to_le_bytes());
+        }
+        let program_headers = if self.program_headers == 0 { 0 } else { 64 };
+        for (at, value) in [
+            (24, text_addr + self.entry),
+            (32, program_headers),
+            (40, table),
+        ] {
+            bytes[at..at + 8].copy_from_slice(&value.to_le_bytes());
+        }
+        bytes
+    }
+
+    fn case(&self) -> Case {
+        Case::of_file(self.file())
+    }
+}
+
+fn refused(number: u64, value: u64) -> Told {
+    Told::Refused([number, value, 0, 0])
+}
+
+/// Entry 0, which alone has a row, and no moves.
+fn accepted(version: u64, key: u32) -> Told {
+    Told::Accepted([version, 0, 1, 0], vec![[key, 0, 2]])
+}
+
+struct Example {
+    what: &'static str,
+    case: Case,
+    expected: Told,
+    /// The Rust has the limit too.
+    asks_rust: bool,
+}
+
+/// With rows lent.
+fn with_rows(mut case: Case, rows: usize) -> Case {
+    case.columns = [rows; 5];
+    case
+}
+
+fn examples() -> Vec<Example> {
+    let headers = |version2, program_headers| {
+        Small {
+            version2,
+            program_headers,
+            ..LEAST
+        }
+        .case()
+    };
+    // one slot before the limit, and one byte more
+    let ending = |text_length| {
+        Small {
+            text_addr: Some(STACK_START - 8),
+            text_length,
+            ..PLAIN
+        }
+        .case()
+    };
+    let entry = |version2, entry| {
+        Small {
+            version2,
+            entry,
+            ..LEAST
+        }
+        .case()
+    };
+    let long = |length| {
+        let mut file = LEAST.file();
+        file.resize(length, 0);
+        with_rows(Case::of_file(file), 256)
+    };
+    let labelled = |name, rows| {
+        let small = Small {
+            version2: false,
+            label: Some(name),
+            ..PLAIN
+        };
+        with_rows(small.case(), rows)
+    };
+    let names = Small {
+        names: Some(0),
+        ..LEAST
+    };
+    // MurmurHash3 of the name entrypoint
+    let entrypoint = 0x71e3_cf81;
+    let example = |what, case, expected| Example {
+        what,
+        case,
+        expected,
+        asks_rust: true,
+    };
+    let added = |what, case, expected| Example {
+        what,
+        case,
+        expected,
+        asks_rust: false,
+    };
+    let empty = Case::of_file(Vec::new());
+    let loadlist = Case::of_file(LOADLIST.to_vec());
+    vec![
+        example("loadlist, empty input", empty, refused(33, 0)),
+        example("loadlist, its input", loadlist, accepted(2, 0)),
+        example("the same, built here", PLAIN.case(), accepted(2, 0)),
+        example(
+            "version 2, 9 program headers",
+            headers(true, 9),
+            accepted(2, 0),
+        ),
+        example(
+            "version 2, 10 program headers",
+            headers(true, 10),
+            refused(2, 0),
+        ),
+        example(
+            "version 1, 10 program headers",
+            headers(false, 10),
+            accepted(1, entrypoint),
+        ),
+        example(
+            "version 2, text ending at 0x200000000",
+            ending(8),
+            accepted(2, 0),
+        ),
+        example(
+            "version 2, text ending at 0x200000001",
+            ending(9),
+            refused(33, 0),
+        ),
+        example(
+            "version 2, entry at the text's end",
+            entry(true, 8),
+            refused(20, 0),
+        ),
+        example(
+            "version 1, entry at the text's end",
+            entry(false, 8),
+            refused(20, 0),
+        ),
+        example("e_shstrndx 0 of 3", names.case(), refused(9, 0)),
+        example("file of 16,777,216 bytes", long(LONGEST), accepted(2, 0)),
+        added(
+            "file of 16,777,217 bytes",
+            long(LONGEST + 1),
+            refused(40, 0),
+        ),
+        example(
+            "version 1, table of 1 row, full with a row under the entrypoint key",
+            labelled("entrypoint", 1),
+            accepted(1, entrypoint),
+        ),
+        added(
+            "version 1, table of 1 row, full with a row under another key",
+            labelled("other", 1),
+            refused(43, 1),
+        ),
+    ]
+}
+
+/// MurmurHash3 x86 32-bit, seed 0: published vectors, then names that programs use and keys of
+/// indices, as in crates/hash_vectors.
+const HASHES: &[(&[u8], u32)] = &[
+    (b"", 0x0000_0000),
+    (b"\0", 0x514e_28b7),
+    (b"\0\0", 0x30f4_c306),
+    (b"\0\0\0", 0x85f0_b427),
+    (b"\0\0\0\0", 0x2362_f9de),
+    (b"\x21", 0x7266_1cf4),
+    (b"\x21\x43", 0xa0f7_b07a),
+    (b"\x21\x43\x65", 0x7e4a_8634),
+    (b"\x21\x43\x65\x87", 0xf55b_516b),
+    (b"\xff\xff\xff\xff", 0x7629_3b50),
+    (b"test", 0xba6b_d213),
+    (b"Hello, world!", 0xc036_3e43),
+    (b"The quick brown fox jumps over the lazy dog", 0x2e4f_f723),
+    (b"entrypoint", 0x71e3_cf81),
+    (b"abort", 0xb6fc_1a11),
+    (b"sol_log_", 0x2075_59bd),
+    (&0u64.to_le_bytes(), 0x6385_2afc),
+    (&1023u64.to_le_bytes(), 0x79bd_a4b4),
+    (&1024u64.to_le_bytes(), 0x71a9_1a4d),
+    (&0xffff_ffffu64.to_le_bytes(), 0x291f_3def),
+    (&0x1_0000_0000u64.to_le_bytes(), 0x3ad8_5688),
+    (&u64::MAX.to_le_bytes(), 0x6275_64e8),
+];
+
+/// Prints a line for each, and answers how many differ.
+pub fn run() -> usize {
+    let mut differences = 0;
+    let mut line = |same: bool, text: String| {
+        println!("{} {text}", if same { "same      " } else { "DIFFERENCE" });
+        differences += !same as usize;
+    };
+    line(
+        LOADLIST == PLAIN.file(),
+        "the input of loadlist and the file built here".into(),
+    );
+    for e in examples() {
+        let got = port(&e.case);
+        let (rust, asked) = match e.asks_rust {
+            true => (rust(&e.case), e.expected.without_added()),
+            false => (
+                "has no such limit".to_string(),
+                "has no such limit".to_string(),
+            ),
+        };
+        // every byte, word and number, with zeros after a refusal
+        let whole = loads::compare(&e.case, &mut loads::Counts::default());
+        let mut text = format!(
+            "{} ({} bytes): expected {}; port {got}; Rust {rust}",
+            e.what,
+            e.case.file.len(),
+            e.expected
+        );
+        if let Err(difference) = &whole {
+            text += &format!("\n    {difference}");
+        }
+        line(got == e.expected && rust == asked && whole.is_ok(), text);
+    }
+    for (name, expected) in HASHES {
+        let (rust, port) = (outcome::hash(name), port::hash(name));
+        line(
+            rust == *expected && port == *expected,
+            format!(
+                "hash of \"{}\": expected {expected:08x}, port {port:08x}, Rust {rust:08x}",
+                name.escape_ascii()
+            ),
+        );
+    }
+    println!("{differences} differences");
+    differences
+}
