@@ -27,3 +27,5 @@ pub mod Counting
 pub mod Reaching
 pub mod Early
 pub mod Refusing
+pub mod Gathered
+pub mod Aborting
