@@ -38,8 +38,7 @@ use Rattle.loader.specs.declared.read_only.Placing.{Placing}
 use Rattle.loader.specs.declared.read_only.Placing.the-variants.{Borrowed, Owned, Refused as NotPlaced}
 use Rattle.loader.specs.declared.sections.Survey.{Survey}
 use Rattle.loader.specs.declared.validate.Config.{Config}
-use Rattle.loader.specs.declared.validate.Verdict.{Verdict}
-use Rattle.loader.specs.declared.validate.Verdict.the-variants.{Pass, Refused as Fails}
+use Rattle.loader.specs.declared.validate.Verdict.the-variants.{Pass}
 use Rattle.loader.specs.declared.validate.Job.{Job}
 use Rattle.loader.specs.declared.validate.Prepared.{Prepared}
 use Rattle.loader.specs.declared.validate.Prepared.the-variants.{Ready, Refused as NotReady}
@@ -47,13 +46,13 @@ use Rattle.loader.specs.Addresses.{sumUpTo, machineAddr, MM-PROGRAM-STAR
 use Rattle.loader.specs.Sections.{headerOr, sectionAt, nameOf, dot-text, outsideFile, surveyStep, surveyFrom, no-survey, survey}
 use Rattle.loader.specs.ReadOnly.{readOnly, gatherBy, gathered, fromStart, placing}
 use Rattle.loader.specs.Placed.{owned-fits, owned-room}
-use Rattle.loader.specs.Validate.{sizeCheck, ascends, headerCheck, sectionsCheck, textCheck, jobOf, _then_, fileCheck, readyBy, isVersion2, validated, parsedThen, preparedBy, prepared}
+use Rattle.loader.specs.Validate.{sizeCheck, ascends, headerCheck, sectionsCheck, textCheck, jobOf, _then_, fileCheck, isVersion2, validated, parsedThen, prepared}
 use Rattle.loader.specs.GetBytes.{textAt, textPlace, roPlace, lentFor, roOf, textPlaceOf}
 use Rattle.loader.specs.Load.{acceptedAs, answerBy, heldBy, onTrace, onPrepared, loadOf, answerOf}
 use Rattle.loader.specs.Parts.{jobTrace}
 use Rattle.loader.specs.Trace.{Settled, accepted, refused, settle}
-use Rattle.loader.proofs.Readied.{Lies, sections-pass, text-passes, readied, placed-as}
-use Rattle.loader.proofs.Gathered.{true-false, or-none, and-false, Spans, spans, copied-offset, Stays, stays, copied-lowest}
+use Rattle.loader.proofs.Readied.{Lies, in-file, true-false, not-passed, not-ready, then-first, then-rest, ready-by, prepared-by, sections-pass, text-passes, readied, placed-as}
+use Rattle.loader.proofs.Gathered.{or-none, and-false, Spans, spans, copied-offset, Stays, stays, copied-lowest}
 
 -- ---- the text's section is one of those surveyed, with that name, and all of them lie in the file
 
@@ -85,10 +84,6 @@ from-text s l count (suc n) i v all g = from-text s l count n (i + 1) (surveySte
 
 survey-text : (s : List ℕ) (l : Layout) (count : ℕ) → HasText s l count (survey s l count)
 survey-text s l count = from-text s l count count 0 no-survey (omega arith) (λ t. absurd (t refl))
-
-in-file : (len offset size : ℕ) → outsideFile len offset size ≡ false → offset + size ≤ len
-unfolding outsideFile
-in-file len offset size e = ltb-false _ _ (row-rest _ _ _ _ true-false e)
 
 step-lies : (s : List ℕ) (l : Layout) (i : ℕ) (v : Survey) → surveyStep s l i v .outside ≡ false → (v .outside ≡ false) × Lies s l i
 unfolding surveyStep
@@ -124,30 +119,6 @@ text-stands len e (Header h) below lies =
 text-stands len e (NoShdr r) below lies = absurd (omega (arith, below))
 
 -- ---- the checks
-
-not-passed : (r : ElfError) → Fails r ≡ Pass → ⊥
-not-passed r e = let z : _≡_ {A = ℕ} 0 1 = cc in omega arith
-
-not-ready : (r : ElfError) (j : Job) → NotReady r ≡ Ready j → ⊥
-not-ready r j e = let z : _≡_ {A = ℕ} 0 1 = cc in omega arith
-
-then-first : (v w : Verdict) → (v then w) ≡ Pass → v ≡ Pass
-unfolding _then_
-then-first Pass w e = refl
-then-first (Fails r) w e = absurd (not-passed r e)
-
-then-rest : (v w : Verdict) → (v then w) ≡ Pass → w ≡ Pass
-unfolding _then_
-then-rest Pass w e = e
-then-rest (Fails r) w e = absurd (not-passed r e)
-
-ready-by : (w : Verdict) (k j : Job) → readyBy w k ≡ Ready j → (w ≡ Pass) × (k ≡ j)
-ready-by Pass k j e = (refl, cc)
-ready-by (Fails r) k j e = absurd (not-ready r j e)
-
-prepared-by : (w : Verdict) (p : Prepared) (j : Job) → preparedBy w p ≡ Ready j → p ≡ Ready j
-prepared-by Pass p j e = e
-prepared-by (Fails r) p j e = absurd (not-ready r j e)
 
 -- version 2 is optimized
 optimized : (h : Elf64Ehdr) (c : Config) (version2 : Bool) → headerCheck h c version2 ≡ Pass → version2 ≡ true → c .«optimize_rodata» ≡ true
@@ -250,7 +221,7 @@ parsed-text s c (File l) j e = validated-text s c l j e
 prepared-text : (s builtins : List ℕ) (c : Config) (n m : ℕ) (j : Job) → prepared s builtins c n m ≡ Ready j → Texts s c j
 unfolding prepared
 prepared-text s builtins c n m j e =
-    let w = prepared-by (sizeCheck (length s) n m) (NotReady BuiltinsNotAscending if not (ascends builtins) else parsedThen s c (parsed s)) j e in
+    let w = prepared-by (sizeCheck (length s) n m) (NotReady BuiltinsNotAscending if not (ascends builtins) else parsedThen s c (parsed s)) j e .1 in
     parsed-text s c (parsed s) j (row-rest _ _ _ _ (not-ready _ _) w)
 
 -- ---- the places, by the numbers of an answer

@@ -9,7 +9,7 @@ use mathlib.Core.Logic.{⊎-elim}
 use mathlib.Core.Bool.{Bool, true, false, _&&_, _||_, not}
 use mathlib.Core.List.{List}
 use lib.ListN.{length}
-use lib.Dec.{leb, eqb}
+use lib.Dec.{eqb}
 use borrow.Author.Tests.{ltb-false, eqb-true, le-leb, not-false, not-true}
 use Rattle.ebpf.specs.Choice.{_if_else_, not-first, row-rest}
 use Rattle.elf_parser.specs.declared.error.ElfParserError.{ElfParserError}
@@ -27,26 +27,18 @@ use Rattle.loader.specs.declared.read_only.Extent.{Extent}
 use Rattle.loader.specs.declared.read_only.Gathering.{Gathering}
 use Rattle.loader.specs.declared.read_only.Gathering.the-variants.{Next, Refused as Stop}
 use Rattle.loader.specs.declared.read_only.Placing.the-variants.{Borrowed, Owned, Refused}
-use Rattle.loader.specs.Addresses.{sumUpTo, machineAddr, MM-PROGRAM-START, MM-STACK-START}
+use Rattle.loader.specs.Addresses.{MM-PROGRAM-START, MM-STACK-START}
 use Rattle.loader.specs.Sections.{headerOr, sectionAt, nameOf}
 use Rattle.loader.specs.ReadOnly.{readOnly, gives, invalidBy, endOf, grown, taken, takenAt, gatherStep, nothing, gatherTurn, gatherBy, gathered, fromStart, canBorrow, borrowed, owned, placed, placingBy, placing}
-use Rattle.loader.specs.Placed.{Inside}
-use Rattle.loader.proofs.Readied.{Lies}
+use Rattle.loader.specs.Placed.{row-cases, Inside, no-owned, not-borrowed, no-next, end-ahead, no-goes}
+use Rattle.loader.proofs.Readied.{Lies, true-false}
 
 -- ---- rows and tests
 
 module _ {A : Type 0} where
-  row-cases : (b : Bool) (x y z : A) (G : Type 0) → (b ≡ true → x ≡ z → G) → (b ≡ false → y ≡ z → G) → (x if b else y) ≡ z → G
-  unfolding _if_else_
-  row-cases true x y z G f g e = f refl e
-  row-cases false x y z G f g e = g refl e
-
   row-first : (b : Bool) (x y z : A) → b ≡ true → (x if b else y) ≡ z → x ≡ z
   unfolding _if_else_
   row-first b x y z t e = row-cases b x y z (x ≡ z) (λ f q. q) (λ f q. absurd (let w : _≡_ {A = ℕ} 0 1 = cc in omega arith)) e
-
-pub true-false : _≡_ {A = Bool} true false → ⊥
-true-false e = let z : _≡_ {A = ℕ} 0 1 = cc in omega arith
 
 and-left : (a b : Bool) → (a && b) ≡ true → a ≡ true
 and-left true b e = refl
@@ -150,21 +142,6 @@ grown-keeps false i addr offset n len x lies ahead s = grown-plain i addr offset
 
 -- ---- where a section stands that was taken
 
-addr-of : (b : Bool) (addr m : ℕ) → (addr if b else sumUpTo addr MM-PROGRAM-START) ≡ m → m ≤ MM-STACK-START → addr ≤ MM-STACK-START
-unfolding _if_else_
-addr-of true addr m e h = omega arith
-addr-of false addr m e h = omega arith
-
-machine-ahead : (version2 : Bool) (addr m : ℕ) → machineAddr version2 addr ≡ m → m ≤ MM-STACK-START → addr ≤ MM-STACK-START
-unfolding machineAddr
-machine-ahead version2 addr m e h = addr-of (version2 && leb MM-PROGRAM-START addr) addr m e h
-
-end-ahead : (version2 : Bool) (addr size m : ℕ) → endOf version2 addr size ≡ m → m ≤ MM-STACK-START → addr ≤ MM-STACK-START
-unfolding endOf
-end-ahead version2 addr size m e h =
-    let ahead = machine-ahead version2 addr (machineAddr version2 addr) refl in
-    row-cases _ _ _ _ _ (λ b q. ahead (omega arith)) (λ b q. ahead (omega arith)) e
-
 -- its bytes end in the file where its whole range does
 no-place : (r : ElfParserError) (a n : ℕ) → NoPlace r ≡ At a n → ⊥
 no-place r a n p = let z : _≡_ {A = ℕ} 0 1 = cc in omega arith
@@ -180,12 +157,6 @@ place-lies len h start k lies e =
 by-lies : (len : ℕ) (h : Shdr) (start k : ℕ) → headerOr h .«sh_offset» + headerOr h .«sh_size» ≤ len → placeBy len h ≡ At start k → headerOr h .«sh_offset» + k ≤ len
 by-lies len (Header h) start k lies e = place-lies len h start k lies e
 by-lies len (NoShdr r) start k lies e = absurd (no-place _ _ _ e)
-
-no-next : (r : ElfError) (x : Extent) → Stop r ≡ Next x → ⊥
-no-next r x e = let z : _≡_ {A = ℕ} 0 1 = cc in omega arith
-
-no-goes : (r : ElfError) (y : Extent) → _≡_ {A = Turn ElfError Extent} (ends r) (goes y) → ⊥
-no-goes r y e = let z : _≡_ {A = ℕ} 0 1 = cc in omega arith
 
 module _ (version2 : Bool) (i : ℕ) (h : Elf64Shdr) (n : ℕ) (x : Extent) where
   -- the section taken has its bytes between the lowest and the highest address
@@ -290,15 +261,8 @@ module _ (s : List ℕ) (l : Layout) (version2 reject-broken : Bool) (count t st
 
 -- ---- what a placing says
 
-no-owned : (r : ElfError) (a b n : ℕ) → Refused r ≡ Owned a b n → ⊥
-no-owned r a b n e = let z : _≡_ {A = ℕ} 0 1 = cc in omega arith
-
 no-borrowed : (r : ElfError) (a b n : ℕ) → Refused r ≡ Borrowed a b n → ⊥
 no-borrowed r a b n e = let z : _≡_ {A = ℕ} 0 1 = cc in omega arith
-
-not-borrowed : (version2 : Bool) (x : Extent) (a b n : ℕ) → borrowed version2 x ≡ Owned a b n → ⊥
-unfolding borrowed
-not-borrowed version2 x a b n e = row-cases _ _ _ _ _ (λ t q. no-owned _ _ _ _ q) (λ t q. let z : _≡_ {A = ℕ} 0 1 = cc in omega arith) e
 
 not-owned : (len : ℕ) (optimize : Bool) (x : Extent) (a b n : ℕ) → owned len optimize x ≡ Borrowed a b n → ⊥
 unfolding owned

@@ -38,7 +38,7 @@ use Rattle.loader.specs.Contracts.{InFile}
 
 -- ---- the survey
 
-true-false : true ≡ false → ⊥
+pub true-false : true ≡ false → ⊥
 true-false e = let z : _≡_ {A = ℕ} 0 1 = cc in omega arith
 
 or-left : (a b : Bool) → (a || b) ≡ false → a ≡ false
@@ -49,7 +49,7 @@ or-right : (a b : Bool) → (a || b) ≡ false → b ≡ false
 or-right true b e = absurd (true-false e)
 or-right false b e = e
 
-in-file : (len offset size : ℕ) → outsideFile len offset size ≡ false → offset + size ≤ len
+pub in-file : (len offset size : ℕ) → outsideFile len offset size ≡ false → offset + size ≤ len
 unfolding outsideFile
 in-file len offset size e = ltb-false _ _ (row-rest _ _ _ _ true-false e)
 
@@ -88,27 +88,27 @@ survey-lies s l n = from-lies s l n 0 no-survey (λ o t. absurd (t refl))
 
 -- ---- the checks
 
-not-passed : (r : ElfError) → Refused r ≡ Pass → ⊥
+pub not-passed : (r : ElfError) → Refused r ≡ Pass → ⊥
 not-passed r e = let z : _≡_ {A = ℕ} 0 1 = cc in omega arith
 
-not-ready : (r : ElfError) (j : Job) → NotReady r ≡ Ready j → ⊥
+pub not-ready : (r : ElfError) (j : Job) → NotReady r ≡ Ready j → ⊥
 not-ready r j e = let z : _≡_ {A = ℕ} 0 1 = cc in omega arith
 
-then-first : (v w : Verdict) → (v then w) ≡ Pass → v ≡ Pass
+pub then-first : (v w : Verdict) → (v then w) ≡ Pass → v ≡ Pass
 unfolding _then_
 then-first Pass w e = refl
 then-first (Refused r) w e = absurd (not-passed r e)
 
-then-rest : (v w : Verdict) → (v then w) ≡ Pass → w ≡ Pass
+pub then-rest : (v w : Verdict) → (v then w) ≡ Pass → w ≡ Pass
 unfolding _then_
 then-rest Pass w e = e
 then-rest (Refused r) w e = absurd (not-passed r e)
 
-ready-by : (w : Verdict) (k j : Job) → readyBy w k ≡ Ready j → (w ≡ Pass) × (k ≡ j)
+pub ready-by : (w : Verdict) (k j : Job) → readyBy w k ≡ Ready j → (w ≡ Pass) × (k ≡ j)
 ready-by Pass k j e = (refl, cc)
 ready-by (Refused r) k j e = absurd (not-ready r j e)
 
-prepared-by : (w : Verdict) (p : Prepared) (j : Job) → preparedBy w p ≡ Ready j → (w ≡ Pass) × (p ≡ Ready j)
+pub prepared-by : (w : Verdict) (p : Prepared) (j : Job) → preparedBy w p ≡ Ready j → (w ≡ Pass) × (p ≡ Ready j)
 prepared-by Pass p j e = (refl, e)
 prepared-by (Refused r) p j e = absurd (not-ready r j e)
 

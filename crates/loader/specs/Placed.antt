@@ -31,7 +31,7 @@ use Rattle.loader.specs.ReadOnly.{readOnly, endOf, grown, taken, takenAt
 
 -- a row by its first test
 module _ {A : Type 0} where
-  row-cases : (b : Bool) (x y z : A) (G : Type 0) → (b ≡ true → x ≡ z → G) → (b ≡ false → y ≡ z → G) → (x if b else y) ≡ z → G
+  pub row-cases : (b : Bool) (x y z : A) (G : Type 0) → (b ≡ true → x ≡ z → G) → (b ≡ false → y ≡ z → G) → (x if b else y) ≡ z → G
   unfolding _if_else_
   row-cases true x y z G f g e = f refl e
   row-cases false x y z G f g e = g refl e
@@ -71,10 +71,10 @@ module _ (image s : List ℕ) (l : Layout) (lowest : ℕ) where
 
 -- ---- what `Owned` says
 
-no-owned : (r : ElfError) (a b n : ℕ) → Refused r ≡ Owned a b n → ⊥
+pub no-owned : (r : ElfError) (a b n : ℕ) → Refused r ≡ Owned a b n → ⊥
 no-owned r a b n e = let z : _≡_ {A = ℕ} 0 1 = cc in omega arith
 
-not-borrowed : (version2 : Bool) (x : Extent) (a b n : ℕ) → borrowed version2 x ≡ Owned a b n → ⊥
+pub not-borrowed : (version2 : Bool) (x : Extent) (a b n : ℕ) → borrowed version2 x ≡ Owned a b n → ⊥
 unfolding borrowed
 not-borrowed version2 x a b n e = row-cases _ _ _ _ _ (λ t q. no-owned _ _ _ _ q) (λ t q. let z : _≡_ {A = ℕ} 0 1 = cc in omega arith) e
 
@@ -121,7 +121,7 @@ pub record Wider (x z : Extent) : Type 0 where
 still : (h : Elf64Shdr) (k : ℕ) (x z : Extent) → Wider x z → Inside h k x → Inside h k z
 still h k x z w i = record { above = omega arith; below = omega arith; ahead = i .ahead }
 
-no-next : (r : ElfError) (x : Extent) → Stop r ≡ Next x → ⊥
+pub no-next : (r : ElfError) (x : Extent) → Stop r ≡ Next x → ⊥
 no-next r x e = let z : _≡_ {A = ℕ} 0 1 = cc in omega arith
 
 addr-of : (b : Bool) (addr m : ℕ) → (addr if b else sumUpTo addr MM-PROGRAM-START) ≡ m → m ≤ MM-STACK-START → addr ≤ MM-STACK-START
@@ -129,11 +129,11 @@ unfolding _if_else_
 addr-of true addr m e h = omega arith
 addr-of false addr m e h = omega arith
 
-machine-ahead : (version2 : Bool) (addr m : ℕ) → machineAddr version2 addr ≡ m → m ≤ MM-STACK-START → addr ≤ MM-STACK-START
+pub machine-ahead : (version2 : Bool) (addr m : ℕ) → machineAddr version2 addr ≡ m → m ≤ MM-STACK-START → addr ≤ MM-STACK-START
 unfolding machineAddr
 machine-ahead version2 addr m e h = addr-of (version2 && leb MM-PROGRAM-START addr) addr m e h
 
-end-ahead : (version2 : Bool) (addr size m : ℕ) → endOf version2 addr size ≡ m → m ≤ MM-STACK-START → addr ≤ MM-STACK-START
+pub end-ahead : (version2 : Bool) (addr size m : ℕ) → endOf version2 addr size ≡ m → m ≤ MM-STACK-START → addr ≤ MM-STACK-START
 unfolding endOf
 end-ahead version2 addr size m e h =
     let ahead = machine-ahead version2 addr (machineAddr version2 addr) refl in
@@ -155,7 +155,7 @@ at-inside version2 reject-broken i h x z (At a b) e =
     (t .0, λ start k q. let r : b ≡ k = cc in rw (← r) (t .1))
 at-inside version2 reject-broken i h x z (NoPlace r) e = absurd (no-next _ _ e)
 
-no-goes : (r : ElfError) (y : Extent) → _≡_ {A = Turn ElfError Extent} (ends r) (goes y) → ⊥
+pub no-goes : (r : ElfError) (y : Extent) → _≡_ {A = Turn ElfError Extent} (ends r) (goes y) → ⊥
 no-goes r y e = let z : _≡_ {A = ℕ} 0 1 = cc in omega arith
 
 module _ (s : List ℕ) (l : Layout) (version2 reject-broken : Bool) where
