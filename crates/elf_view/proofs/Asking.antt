@@ -58,7 +58,7 @@ abbrev B : Lfts 1 → RattleType
 B κs = T.the-row (namedLft 1 0 tt κs)
 
 -- `&[u8]`, as MIR has it
-abbrev bytes : Lifetime → Ty
+abbrev pub bytes : Lifetime → Ty
 bytes a = tyStruct (38 ∷ 91 ∷ 93 ∷ []) (tcons (tyRef a imm (tyInt w8)) (tcons (tyInt w64) tnil))
 
 -- the MIR: the file and the layout are read from the view, and go with the number to the function k, whose result has the type τ
