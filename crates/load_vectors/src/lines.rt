@@ -124,7 +124,7 @@ fn print_columns_hash(
     print_hash(&bytes[..e]);
 }
 
-pub fn print_line(
+pub(crate) fn print_line(
     answer: Load,
     image: &[u8],
     ro_section: &[u8],

@@ -6,11 +6,11 @@ use native.Mathlib.Omega.{arith}
 use native.Mathlib.Nat.{eq-or-lt-of-le}
 use mathlib.Core.Path.{_≡_, refl, sym, ap, subst, _∙_}
 use mathlib.Core.Logic.{⊎-elim, _↔_}
-use mathlib.Core.Bool.{Bool, true, false, _&&_, not}
+use mathlib.Core.Bool.{Bool, true, false, not}
 use mathlib.Core.List.{List, []}
 use lib.ListN.{length}
 use lib.Dec.{ltb, eqb}
-use borrow.Author.Tests.{ltb-false, lt-ltb, le-ltb, le-leb, lt-leb, eqb-false, not-false}
+use borrow.Author.Tests.{ltb-false, lt-ltb, le-ltb, le-leb, lt-leb, not-false}
 use Rattle.ebpf.specs.Choice.{_if_else_, yes, no-go, not-first, row-rest}
 use Rattle.elf_parser.specs.declared.types.Elf64Ehdr.{Elf64Ehdr}
 use Rattle.elf_parser.specs.declared.types.Elf64Shdr.{Elf64Shdr}
@@ -51,8 +51,9 @@ use Rattle.loader.specs.GetBytes.{textAt, textPlace, roPlace, lentFor, r
 use Rattle.loader.specs.Load.{acceptedAs, answerBy, heldBy, onTrace, onPrepared, loadOf, answerOf}
 use Rattle.loader.specs.Parts.{jobTrace}
 use Rattle.loader.specs.Trace.{Settled, accepted, refused, settle}
-use Rattle.loader.proofs.Readied.{Lies, in-file, true-false, not-passed, not-ready, then-first, then-rest, ready-by, prepared-by, sections-pass, text-passes, readied, placed-as}
-use Rattle.loader.proofs.Gathered.{or-none, and-false, Spans, spans, copied-offset, Stays, stays, copied-lowest}
+use Rattle.loader.proofs.Readied.{Lies, pick-in, in-file, true-false, not-passed, not-ready, then-first, then-rest, ready-by, prepared-by, sections-pass, text-passes, readied, placed-as}
+use Rattle.loader.proofs.Gathered.{and-false, Spans, spans, copied-offset, Stays, stays, copied-lowest}
+use Rattle.loader.proofs.Bools.{or-false}
 
 -- ---- the text's section is one of those surveyed, with that name, and all of them lie in the file
 
@@ -62,20 +63,9 @@ IsText s l count i = (i < count) × (sameBytes (nameOf s l (sectionAt s l i)) do
 abbrev HasText : List ℕ → Layout → ℕ → Survey → Type 0
 HasText s l count v = (v .texts ≡ 0 → ⊥) → IsText s l count (v .text)
 
-pick-text : (P : ℕ → Type 0) (b e : Bool) (n x i : ℕ)
-    → eqb n 0 ≡ e
-    → ((n ≡ 0 → ⊥) → P x)
-    → (b ≡ true → P i)
-    → ((n + 1 if b else n) ≡ 0 → ⊥)
-    → P (i if b && e else x)
-unfolding _if_else_
-pick-text P true true n x i q old new h = new refl
-pick-text P true false n x i q old new h = old (eqb-false n 0 q)
-pick-text P false e n x i q old new h = old h
-
 step-text : (s : List ℕ) (l : Layout) (count i : ℕ) (v : Survey) → i < count → HasText s l count v → HasText s l count (surveyStep s l i v)
 unfolding surveyStep
-step-text s l count i v below g t = pick-text (IsText s l count) (sameBytes (nameOf s l (sectionAt s l i)) dot-text) (eqb (v .texts) 0) (v .texts) (v .text) i refl g (λ is. (below, is)) t
+step-text s l count i v below g t = pick-in (IsText s l count) (sameBytes (nameOf s l (sectionAt s l i)) dot-text) (eqb (v .texts) 0) (v .texts) (v .text) i refl g (λ is. (below, is)) t
 
 from-text : (s : List ℕ) (l : Layout) (count n i : ℕ) (v : Survey) → i + n ≤ count → HasText s l count v → HasText s l count (surveyFrom s l n i v)
 unfolding surveyFrom
@@ -88,7 +78,7 @@ survey-text s l count = from-text s l count count 0 no-survey (omega arith) (λ 
 step-lies : (s : List ℕ) (l : Layout) (i : ℕ) (v : Survey) → surveyStep s l i v .outside ≡ false → (v .outside ≡ false) × Lies s l i
 unfolding surveyStep
 step-lies s l i v e =
-    let o = or-none (v .outside) (outsideFile (length s) (sectionAt s l i .«sh_offset») (sectionAt s l i .«sh_size»)) e in
+    let o = or-false (v .outside) (outsideFile (length s) (sectionAt s l i .«sh_offset») (sectionAt s l i .«sh_size»)) e in
     (o .0, in-file (length s) (sectionAt s l i .«sh_offset») (sectionAt s l i .«sh_size») (o .1))
 
 from-lie : (s : List ℕ) (l : Layout) (n i : ℕ) (v : Survey) → surveyFrom s l n i v .outside ≡ false → (v .outside ≡ false) × ((j : ℕ) → i ≤ j → j < i + n → Lies s l j)

@@ -5,7 +5,7 @@ use Prim.Native.Nat.{ℕ, _+_, _-_, _/_, _≤_, _<_, _^_}
 use native.Mathlib.Omega.{arith}
 use mathlib.Core.Path.{_≡_, refl}
 use mathlib.Core.Logic.{_⊎_, inl, inr}
-use mathlib.Core.Bool.{Bool, true, false, _&&_}
+use mathlib.Core.Bool.{Bool, true, false}
 use mathlib.Core.List.{List, []}
 use lib.ListN.{length, take, drop, length-take}
 use lib.Dec.{ltb, leb}
@@ -52,6 +52,7 @@ use Rattle.loader.specs.Contracts.{InFile}
 use Rattle.loader.specs.Demand.{nameKey, keyOf, earlyTrace}
 use Rattle.loader.proofs.Plain.{Plain, picks}
 use Rattle.loader.proofs.Reaching.{Steady, steady-then, steady-each}
+use Rattle.loader.proofs.Bools.{and-right}
 
 -- an index below 2 ^ 32, with its own key, or in version 1 the name's
 abbrev pub Good : Bool → Row → Type 0
@@ -142,11 +143,6 @@ unfolding callAt
 at-in text version2 i = slot-in (length text / 8) version2 i (insnAt text i)
 
 -- ---- an address of the text
-
-and-right : (a b : Bool) → (a && b) ≡ true → b ≡ true
-and-right true b e = e
-and-right false true e = refl
-and-right false false e = e
 
 index-in : (j : Job) (a : ℕ) → j .«sh_size» ≤ 2 ^ 24 → inText j a ≡ true → indexOf j a < 2 ^ 32
 index-in j a size e =

@@ -6,7 +6,7 @@ use native.Mathlib.Omega.{arith}
 use native.Mathlib.Nat.{eq-or-lt-of-le}
 use mathlib.Core.Path.{_≡_, refl, sym, ap, subst, _∙_}
 use mathlib.Core.Logic.{⊎-elim}
-use mathlib.Core.Bool.{Bool, true, false, _&&_, _||_, not}
+use mathlib.Core.Bool.{Bool, true, false, _&&_, not}
 use mathlib.Core.List.{List}
 use lib.ListN.{length}
 use lib.Dec.{eqb}
@@ -32,6 +32,7 @@ use Rattle.loader.specs.Sections.{headerOr, sectionAt, nameOf}
 use Rattle.loader.specs.ReadOnly.{readOnly, gives, invalidBy, endOf, grown, taken, takenAt, gatherStep, nothing, gatherTurn, gatherBy, gathered, fromStart, canBorrow, borrowed, owned, placed, placingBy, placing}
 use Rattle.loader.specs.Placed.{row-cases, Inside, no-owned, not-borrowed, no-next, end-ahead, no-goes}
 use Rattle.loader.proofs.Readied.{Lies, true-false}
+use Rattle.loader.proofs.Bools.{and-left, and-right, or-false}
 
 -- ---- rows and tests
 
@@ -40,21 +41,9 @@ module _ {A : Type 0} where
   unfolding _if_else_
   row-first b x y z t e = row-cases b x y z (x ≡ z) (λ f q. q) (λ f q. absurd (let w : _≡_ {A = ℕ} 0 1 = cc in omega arith)) e
 
-and-left : (a b : Bool) → (a && b) ≡ true → a ≡ true
-and-left true b e = refl
-and-left false b e = e
-
-and-right : (a b : Bool) → (a && b) ≡ true → b ≡ true
-and-right true b e = e
-and-right false b e = absurd (true-false (sym e))
-
 pub and-false : (a b : Bool) → (a && b) ≡ false → a ≡ true → b ≡ false
 and-false true b e h = e
 and-false false b e h = absurd (true-false (sym h))
-
-pub or-none : (a b : Bool) → (a || b) ≡ false → (a ≡ false) × (b ≡ false)
-or-none true b e = absurd (true-false e)
-or-none false b e = (refl, e)
 
 -- ---- a section that breaks nothing stands at the constant above its file offset
 
@@ -132,7 +121,7 @@ module _ (i addr offset n len : ℕ) (x : Extent) (lies : offset + n ≤ len) wh
     plain = λ e. absurd (true-false e);
     blank = λ v e off.
         let p = shifted-offset addr offset x e in
-        let o = or-none (x .shifted) (gives true addr offset x) off in
+        let o = or-false (x .shifted) (gives true addr offset x) off in
         absurd (true-false (sym (gives-first addr offset x (p .0) (p .1) (o .0)) ∙ o .1));
   }
 

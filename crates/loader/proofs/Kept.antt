@@ -19,6 +19,7 @@ use Rattle.loader.specs.Trace.{Trace, each}
 use Rattle.loader.specs.Deeds.{written, deedTrace, length-written}
 use Rattle.loader.specs.Demand.{isIn}
 use Rattle.loader.proofs.Ends.{Ends, ends-each}
+use Rattle.loader.proofs.Bools.{or-false}
 
 -- ---- n places from `start` on
 
@@ -33,10 +34,6 @@ not-in start n b (inr h) = by-le start b (λ (x : Bool). (x && ltb b (start + n)
 
 pub in-places : (start n b : ℕ) → start ≤ b → b < start + n → isIn start n b ≡ true
 in-places start n b h l = rw (le-leb start b h, lt-ltb b (start + n) l) refl
-
-pub or-false : (a b : Bool) → (a || b) ≡ false → (a ≡ false) × (b ≡ false)
-or-false true b e = absurd (zero-one (cc))
-or-false false b e = (refl, e)
 
 -- ---- a number written over bytes
 

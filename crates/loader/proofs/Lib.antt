@@ -8,6 +8,7 @@ pub mod Slots
 pub mod Symbols
 pub mod Forgetting
 pub mod Turns
+pub mod Bools
 pub mod Readied
 pub mod Over
 pub mod Front

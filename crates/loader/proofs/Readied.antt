@@ -3,7 +3,7 @@
 use Prim.Native.Nat.{ℕ, zero, suc, _+_, _*_, _≤_, _<_, _^_}
 use native.Mathlib.Omega.{arith}
 use mathlib.Core.Path.{_≡_, refl, subst}
-use mathlib.Core.Bool.{Bool, true, false, _&&_, _||_, not}
+use mathlib.Core.Bool.{Bool, true, false, _&&_, not}
 use mathlib.Core.List.{List}
 use lib.ListN.{length}
 use lib.Dec.{eqb}
@@ -35,19 +35,12 @@ use Rattle.loader.specs.ReadOnly.{placing}
 use Rattle.loader.specs.Relocations.{few-relocations}
 use Rattle.loader.specs.Validate.{sizeCheck, ascends, sectionsCheck, textCheck, jobOf, _then_, fileCheck, readyBy, isVersion2, validated, parsedThen, preparedBy, prepared}
 use Rattle.loader.specs.Contracts.{InFile}
+use Rattle.loader.proofs.Bools.{or-false}
 
 -- ---- the survey
 
 pub true-false : true ≡ false → ⊥
 true-false e = let z : _≡_ {A = ℕ} 0 1 = cc in omega arith
-
-or-left : (a b : Bool) → (a || b) ≡ false → a ≡ false
-or-left true b e = absurd (true-false e)
-or-left false b e = refl
-
-or-right : (a b : Bool) → (a || b) ≡ false → b ≡ false
-or-right true b e = absurd (true-false e)
-or-right false b e = e
 
 pub in-file : (len offset size : ℕ) → outsideFile len offset size ≡ false → offset + size ≤ len
 unfolding outsideFile
@@ -61,14 +54,14 @@ Lies s l i = sectionAt s l i .«sh_offset» + sectionAt s l i .«sh_size» ≤ l
 abbrev pub Lie : List ℕ → Layout → Survey → Type 0
 Lie s l v = v .outside ≡ false → (v .texts ≡ 0 → ⊥) → Lies s l (v .text)
 
-pick-in : (P : ℕ → Type 0) (b e : Bool) (n x i : ℕ)
+pub pick-in : (P : ℕ → Type 0) (b e : Bool) (n x i : ℕ)
     → eqb n 0 ≡ e
     → ((n ≡ 0 → ⊥) → P x)
-    → P i
+    → (b ≡ true → P i)
     → ((n + 1 if b else n) ≡ 0 → ⊥)
     → P (i if b && e else x)
 unfolding _if_else_
-pick-in P true true n x i q old new h = new
+pick-in P true true n x i q old new h = new refl
 pick-in P true false n x i q old new h = old (eqb-false n 0 q)
 pick-in P false e n x i q old new h = old h
 
@@ -76,7 +69,7 @@ step-lies : (s : List ℕ) (l : Layout) (i : ℕ) (v : Survey) → Lie s l v →
 unfolding surveyStep
 step-lies s l i v g o t =
     let out : Bool = outsideFile (length s) (sectionAt s l i .«sh_offset») (sectionAt s l i .«sh_size») in
-    pick-in (Lies s l) (sameBytes (nameOf s l (sectionAt s l i)) dot-text) (eqb (v .texts) 0) (v .texts) (v .text) i refl (g (or-left (v .outside) out o)) (in-file (length s) (sectionAt s l i .«sh_offset») (sectionAt s l i .«sh_size») (or-right (v .outside) out o)) t
+    pick-in (Lies s l) (sameBytes (nameOf s l (sectionAt s l i)) dot-text) (eqb (v .texts) 0) (v .texts) (v .text) i refl (g (or-false (v .outside) out o .0)) (λ _. in-file (length s) (sectionAt s l i .«sh_offset») (sectionAt s l i .«sh_size») (or-false (v .outside) out o .1)) t
 
 from-lies : (s : List ℕ) (l : Layout) (n i : ℕ) (v : Survey) → Lie s l v → Lie s l (surveyFrom s l n i v)
 unfolding surveyFrom
