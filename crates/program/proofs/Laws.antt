@@ -221,6 +221,16 @@ module _ (n : ℕ) (r : Row) (rs : List Row) where
       (λ _ _ _ h. absurd (h refl))
       (λ none _ _ _. (r, find-insert-same r rs none, refl))
 
+  -- a key that finds the row's index: a repeat, which changes nothing
+  pub repeat-held : (x : Row) → find (rank r) rs ≡ At x → x .index ≡ r .index → (register n r rs ≡ Repeat) × (registered n r rs ≡ rs)
+  unfolding registered
+  repeat-held x e s = (repeat-iff .1 (x, e, s), rw e refl)
+
+  -- what is found stays found
+  pub find-stays : (k : ℕ) (x : Row) → find k rs ≡ At x → find k (registered n r rs) ≡ At x
+  find-stays k x e = by-registered (λ (l : List Row) (_ : Registered). find k l ≡ At x) n r rs
+      (λ _ _ _. e) (λ _ _ _. e) (λ _ _. e) (λ none _. find-insert-other k r rs (λ same. not-both x (find k rs) e (rw same at none)) ∙ e)
+
   -- other keys are found as before
   pub find-registered-other : (k : ℕ) → (rank r ≡ k → ⊥) → find k (registered n r rs) ≡ find k rs
   find-registered-other k ne = by-registered (λ (l : List Row) (_ : Registered). find k l ≡ find k rs) n r rs

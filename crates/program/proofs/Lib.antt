@@ -8,3 +8,4 @@ pub mod Moves
 pub mod Steps
 pub mod Keys
 pub mod Tables
+pub mod Alike

@@ -1,24 +1,29 @@
--- What each way out of `register_function`, `unregister_function` and `lookup_by_key` leaves, in the words of the contract: one lemma for
--- each return, whatever the slices hold. Assumes nothing.
+-- What each way out of a registration, `unregister_function` and `lookup_by_key` answers and leaves, in the words of the contract: one
+-- lemma for each return, whatever the slices hold. Assumes nothing.
 use mathlib.Core.Path.{_≡_, refl, sym, ap, _∙_}
 use mathlib.Core.Bool.{Bool, true, false}
-use mathlib.Core.List.{map}
+use mathlib.Core.Logic.{⊎-elim}
+use mathlib.Core.List.{[], _∷_, map}
 use Prim.Native.Nat.{ℕ, _+_, _-_, _≤_, _<_, min}
 use native.Mathlib.Omega.{arith}
 use lib.ListN.{length, take, getD}
-use lib.Dec.{eqb}
+use lib.Dec.{leb, eqb}
 use borrow.Author.Tests.{lt-ltb, le-leb, lt-leb, eq-eqb, ne-eqb}
+use types.Run.{OneOf}
+use denote.Enum.Declared.{tagOf}
 use Rattle.ebpf.specs.Choice.{_if_else_}
 use Rattle.program.specs.declared.Row.{Row}
 use Rattle.program.specs.declared.Found.the-variants.{At, Nothing}
+use Rattle.program.specs.declared.Registered.{Registered}
 use Rattle.program.specs.declared.Registered.the-variants.{Inserted, Repeat, Collision, Full}
 use Rattle.program.specs.declared.Removed.the-variants.{Gone, Absent}
 use Rattle.program.specs.Search.{halves, indexOf}
 use Rattle.program.specs.Rows.{rank}
-use Rattle.program.specs.Table.{Slices, capacity, Least, Within, rowAt, rowsOf, ranksOf, openedRow, closedRow, counted, placeIn, holds, registerAt, registeredAt, registerIn, registeredIn, unregisterAt, unregisteredAt, unregisterIn, unregisteredIn, Registers, Unregisters, lookupIn}
-use Rattle.program.proofs.Cases.{by-lt}
+use Rattle.program.specs.Table.{Slices, capacity, Least, Within, rowAt, rowsOf, ranksOf, Opening, closedRow, counted, placeIn, holds, registerAt, registeredAt, registerIn, registeredBy, unregisterAt, unregisteredAt, unregisterIn, unregisteredIn, RegistersBy, Unregisters, lookupIn}
+use Rattle.program.proofs.Registered.{the-type}
+use Rattle.program.proofs.Cases.{by-lt, by-le, by-eq, zero-one}
 use Rattle.program.proofs.Halves.{search-le}
-use Rattle.program.proofs.Laying.{lent-capacity, zero-row, length-rows, ranks-rows, row-at}
+use Rattle.program.proofs.Laying.{lent-capacity, within-room, zero-row, length-rows, ranks-rows, row-at}
 use Rattle.program.proofs.Rows.{find-first, find-none}
 
 -- the rows that the code counts
@@ -86,53 +91,95 @@ module _ (t : Slices) (used rows n : ℕ) (c : Counts t used rows n) (k at : ℕ
     leaves = closes ∙ sym (removes .1 ∙ rw (here t n at k l e) refl);
   }
 
--- a registration at that place
+-- a registration's answer at that place
 module _ (t : Slices) (used rows n : ℕ) (c : Counts t used rows n) (row : Row) (at : ℕ) (is : at ≡ halves (rank row) (take n (t .keys))) where
-  enters : (registerIn t used row ≡ registerAt t n at row) × (registeredIn t used row ≡ registeredAt t n at row)
-  unfolding registerIn registeredIn
-  enters =
-      let p = is-place t used rows n c (rank row) at is in
-      (rw (p, is-counted t used rows n c) refl, rw (p, is-counted t used rows n c) refl)
+  goes : registerIn t used row ≡ registerAt t n at row
+  unfolding registerIn
+  goes = rw (is-place t used rows n c (rank row) at is, is-counted t used rows n c) refl
 
   module _ (l : at < n) (e : getD (t .keys) at 0 ≡ rank row) where
-    pub repeats : getD (t .indices) at 0 ≡ row .index → Registers t t used row Repeat
-    unfolding registerAt registeredAt _if_else_
-    repeats same = record {
-      answers = sym (enters .0 ∙ rw (here t n at (rank row) l e, eq-eqb (getD (t .indices) at 0) (row .index) same) refl);
-      leaves = sym (enters .1 ∙ rw (here t n at (rank row) l e) refl);
-    }
+    pub repeats : getD (t .indices) at 0 ≡ row .index → Repeat ≡ registerIn t used row
+    unfolding registerAt _if_else_
+    repeats same = sym (goes ∙ rw (here t n at (rank row) l e, eq-eqb (getD (t .indices) at 0) (row .index) same) refl)
 
-    pub collides : (getD (t .indices) at 0 ≡ row .index → ⊥) → Registers t t used row Collision
-    unfolding registerAt registeredAt _if_else_
-    collides other = record {
-      answers = sym (enters .0 ∙ rw (here t n at (rank row) l e, ne-eqb (getD (t .indices) at 0) (row .index) other) refl);
-      leaves = sym (enters .1 ∙ rw (here t n at (rank row) l e) refl);
-    }
+    pub collides : (getD (t .indices) at 0 ≡ row .index → ⊥) → Collision ≡ registerIn t used row
+    unfolding registerAt _if_else_
+    collides other = sym (goes ∙ rw (here t n at (rank row) l e, ne-eqb (getD (t .indices) at 0) (row .index) other) refl)
 
   module _ (h : at < n → getD (t .keys) at 0 ≡ rank row → ⊥) where
-    pub full : rows ≤ n → Registers t t used row Full
-    unfolding registerAt registeredAt _if_else_
-    full l =
-        let shut = le-leb (capacity t) n (rw (c .lent) at l) in
-        record {
-          answers = sym (enters .0 ∙ rw (not-here t n at (rank row) h, shut) refl);
-          leaves = sym (enters .1 ∙ rw (not-here t n at (rank row) h, shut) refl);
-        }
+    pub full : rows ≤ n → Full ≡ registerIn t used row
+    unfolding registerAt _if_else_
+    full l = sym (goes ∙ rw (not-here t n at (rank row) h, le-leb (capacity t) n (rw (c .lent) at l)) refl)
 
-    pub inserts : (u : Slices) → n < rows → u ≡ openedRow at n row t → Registers t u used row (Inserted (n - at))
-    unfolding registerAt registeredAt _if_else_
-    inserts u l opens =
-        let room = lt-leb (capacity t) n (rw (c .lent) at l) in
-        record {
-          answers = sym (enters .0 ∙ rw (not-here t n at (rank row) h, room) refl);
-          leaves = opens ∙ sym (enters .1 ∙ rw (not-here t n at (rank row) h, room) refl);
-        }
+    pub inserts : n < rows → Inserted (n - at) ≡ registerIn t used row
+    unfolding registerAt _if_else_
+    inserts l = sym (goes ∙ rw (not-here t n at (rank row) h, lt-leb (capacity t) n (rw (c .lent) at l)) refl)
 
-  -- room for one row more
-  pub room-more : n < rows → Within (n + 1) t
-  room-more l =
-      let w = c .within in
-      record { in-keys = omega arith; in-indices = omega arith; in-kinds = omega arith; in-starts = omega arith; in-lengths = omega arith }
+-- ---- the ways that a registration goes at a place, for any statement of the slices afterwards and the answer
+
+pub by-holds : (t : Slices) (n at k : ℕ) (P : Bool → Type 0) → (at < n → rank (rowAt t at) ≡ k → P true) → ((at < n → rank (rowAt t at) ≡ k → ⊥) → P false) → P (holds t n at k)
+unfolding holds _if_else_
+by-holds t n at k P yes-here not-here = by-lt at n (λ (b : Bool). P (eqb (rank (rowAt t at)) k if b else false))
+    (λ l. by-eq (rank (rowAt t at)) k P (yes-here l) (λ ne. not-here (λ _. ne)))
+    (λ g. not-here (λ l _. absurd (omega arith)))
+
+pub by-registeredAt : (P : Slices → Registered → Type 0) (opening : Opening) (t : Slices) (n at : ℕ) (row : Row)
+    → (at < n → rank (rowAt t at) ≡ rank row → rowAt t at .index ≡ row .index → P t Repeat)
+    → (at < n → rank (rowAt t at) ≡ rank row → (rowAt t at .index ≡ row .index → ⊥) → P t Collision)
+    → ((at < n → rank (rowAt t at) ≡ rank row → ⊥) → capacity t ≤ n → P t Full)
+    → ((at < n → rank (rowAt t at) ≡ rank row → ⊥) → n < capacity t → P (opening at n row t) (Inserted (n - at)))
+    → P (registeredAt opening t n at row) (registerAt t n at row)
+unfolding registerAt registeredAt _if_else_
+by-registeredAt P opening t n at row same other full more =
+    by-holds t n at (rank row)
+    (λ (b : Bool). P (t if b else t if leb (capacity t) n else opening at n row t)
+    ((Repeat if eqb (rowAt t at .index) (row .index) else Collision) if b else Full if leb (capacity t) n else Inserted (n - at)))
+    (λ l e. by-eq (rowAt t at .index) (row .index) (λ (b : Bool). P t (Repeat if b else Collision)) (same l e) (other l e))
+    (λ h. by-le (capacity t) n (λ (b : Bool). P (t if b else opening at n row t) (Full if b else Inserted (n - at))) (full h) (more h))
+
+-- ---- what a registration leaves, by its answer
+
+-- the other answers, as the code tells them: by the number of the variant
+pub not-inserted : (a : Registered) → OneOf (1 ∷ 2 ∷ 3 ∷ []) (tagOf the-type a) → (m : ℕ) → a ≡ Inserted m → ⊥
+not-inserted a o m e =
+    let z = ap (tagOf the-type) e in
+    ⊎-elim (λ k. omega arith) (⊎-elim (λ k. omega arith) (λ k. omega arith)) o
+
+module _ (opening : Opening) (t : Slices) (used : ℕ) (row : Row) where
+  -- no insertion: the slices as they came
+  pub kept : ((m : ℕ) → registerIn t used row ≡ Inserted m → ⊥) → registeredBy opening t used row ≡ t
+  unfolding registerIn registeredBy
+  kept = by-registeredAt (λ (u : Slices) (a : Registered). ((m : ℕ) → a ≡ Inserted m → ⊥) → u ≡ t) opening t (counted t used) (placeIn t (counted t used) (rank row)) row
+      (λ _ _ _ _. refl) (λ _ _ _ _. refl) (λ _ _ _. refl) (λ _ _ h. absurd (h _ refl))
+
+  -- an insertion: all used rows count
+  all-count : counted t used < capacity t → counted t used ≡ used
+  unfolding counted
+  all-count l = omega arith
+
+  place-used : counted t used < capacity t → placeIn t used (rank row) ≤ used
+  unfolding placeIn ranksOf
+  place-used l = search-le (t .keys) used (rank row) (within-room used t (omega (arith, all-count l)) .in-keys)
+
+  -- there is room for one row more, and as many rows as moved stand behind the place
+  pub inserted : (m : ℕ) → registerIn t used row ≡ Inserted m → (m ≤ used) × Within (used + 1) t × (registeredBy opening t used row ≡ opening (used - m) used row t)
+  unfolding registerIn registeredBy
+  inserted m = by-registeredAt (λ (u : Slices) (a : Registered). a ≡ Inserted m → (m ≤ used) × Within (used + 1) t × (u ≡ opening (used - m) used row t)) opening t (counted t used) (placeIn t (counted t used) (rank row)) row
+      (λ _ _ _ h. absurd (zero-one (cc)))
+      (λ _ _ _ h. absurd (zero-one (cc)))
+      (λ _ _ h. absurd (zero-one (cc)))
+      (λ _ l h.
+      let all = all-count l in
+      let e : m ≡ counted t used - placeIn t (counted t used) (rank row) = cc in
+      let e′ : m ≡ used - placeIn t used (rank row) = rw all at e in
+      let back : placeIn t used (rank row) ≡ used - m = omega (arith, place-used l) in
+      (omega arith, within-room (used + 1) t (omega arith), rw (all, back) refl))
+
+  pub stays : (a : Registered) → a ≡ registerIn t used row → ((m : ℕ) → a ≡ Inserted m → ⊥) → RegistersBy opening t t used row a
+  stays a is h = record { answers = is; leaves = sym (kept (λ m e. h m (is ∙ e))) }
+
+  pub enters : (u : Slices) (m : ℕ) → Inserted m ≡ registerIn t used row → u ≡ opening (used - m) used row t → RegistersBy opening t u used row (Inserted m)
+  enters u m is opens = record { answers = is; leaves = opens ∙ sym (inserted m (sym is) .2) }
 
 -- a lookup
 module _ (t : Slices) (used rows n : ℕ) (c : Counts t used rows n) (k at : ℕ) (is : at ≡ indexOf k (take n (t .keys))) where

@@ -1,12 +1,11 @@
 -- What the contracts mean for a table, whose used rows ascend with zeros elsewhere: a registration and a removal are those of its rows, and
 -- what they leave is a table again. Assumes nothing.
 use mathlib.Core.Path.{_≡_, refl, sym, ap, subst, _∙_}
-use mathlib.Core.Bool.{Bool, true, false}
+use mathlib.Core.Bool.{Bool}
 use mathlib.Core.List.{List, [], _∷_, _++_, map}
 use Prim.Native.Nat.{ℕ, suc, _+_, _-_, _≤_, _<_, min, zero-le}
 use native.Mathlib.Omega.{arith}
 use lib.ListN.{length, take, drop, getD, replicate}
-use lib.Dec.{eqb, leb}
 use borrow.Author.Tests.{lt-ltb, le-ltb, eq-eqb, ne-eqb}
 use Rattle.ebpf.specs.Choice.{_if_else_}
 use Rattle.program.specs.declared.Row.{Row}
@@ -16,10 +15,10 @@ use Rattle.program.specs.declared.Registered.the-variants.{Inserted, Rep
 use Rattle.program.specs.declared.Removed.{Removed}
 use Rattle.program.specs.declared.Removed.the-variants.{Gone, Absent}
 use Rattle.program.specs.Rows.{rank, Ascending, find, remove, register, registered, unregister}
-use Rattle.program.specs.Table.{Slices, least, capacity, column, lay, rowAt, rowsOf, openedRow, closedRow, counted, placeIn, holds, registerAt, registeredAt, registerIn, registeredIn, unregisterAt, unregisteredAt, unregisterIn, unregisteredIn, Registers, Unregisters, lookupIn, Ready, Registration, Removal}
-use Rattle.program.proofs.Cases.{by-lt, by-le, by-eq}
+use Rattle.program.specs.Table.{Slices, least, capacity, column, lay, rowAt, rowsOf, openedRow, closedRow, counted, placeIn, registerIn, registeredBy, registeredIn, unregisterAt, unregisteredAt, unregisterIn, unregisteredIn, Registers, Unregisters, lookupIn, Ready, Registration, Removal}
 use Rattle.program.proofs.Halves.{halves-place}
 use Rattle.program.proofs.Laying.{zero-row, within-room, length-column, length-rows, ranks-rows, row-at, rows-lay, capacity-lay, opened-lay, closed-lay}
+use Rattle.program.proofs.Steps.{by-holds, by-registeredAt}
 use Rattle.program.proofs.Rows.{placeOf, find-here, find-missing, insert-here, above-missing, remove-here, above-held, remove-missing}
 use Rattle.program.proofs.Laws.{registered-ascending, registered-room, kept-rows, more-rows, remove-ascending, length-remove, gone-iff, absent-iff, above-less}
 
@@ -99,28 +98,7 @@ zeros-lay t u a b c d e = λ i. record {
 pub ready-none : (t : Slices) → t ≡ lay t [] → Ready t 0
 ready-none t z = subst (λ (u : Slices). Ready u 0) (sym z) (ready-lay t [] zero-le tt)
 
--- ---- the ways that a registration and a removal go at a place, for any statement of the slices afterwards and the answer
-
-module _ (t : Slices) (n at k : ℕ) where
-  by-holds : (P : Bool → Type 0) → (at < n → rank (rowAt t at) ≡ k → P true) → ((at < n → rank (rowAt t at) ≡ k → ⊥) → P false) → P (holds t n at k)
-  unfolding holds _if_else_
-  by-holds P yes-here not-here = by-lt at n (λ (b : Bool). P (eqb (rank (rowAt t at)) k if b else false))
-      (λ l. by-eq (rank (rowAt t at)) k P (yes-here l) (λ ne. not-here (λ _. ne)))
-      (λ g. not-here (λ l _. absurd (omega arith)))
-
-by-registeredAt : (P : Slices → Registered → Type 0) (t : Slices) (n at : ℕ) (row : Row)
-    → (at < n → rank (rowAt t at) ≡ rank row → rowAt t at .index ≡ row .index → P t Repeat)
-    → (at < n → rank (rowAt t at) ≡ rank row → (rowAt t at .index ≡ row .index → ⊥) → P t Collision)
-    → ((at < n → rank (rowAt t at) ≡ rank row → ⊥) → capacity t ≤ n → P t Full)
-    → ((at < n → rank (rowAt t at) ≡ rank row → ⊥) → n < capacity t → P (openedRow at n row t) (Inserted (n - at)))
-    → P (registeredAt t n at row) (registerAt t n at row)
-unfolding registerAt registeredAt _if_else_
-by-registeredAt P t n at row same other full more =
-    by-holds t n at (rank row)
-    (λ (b : Bool). P (t if b else t if leb (capacity t) n else openedRow at n row t)
-    ((Repeat if eqb (rowAt t at .index) (row .index) else Collision) if b else Full if leb (capacity t) n else Inserted (n - at)))
-    (λ l e. by-eq (rowAt t at .index) (row .index) (λ (b : Bool). P t (Repeat if b else Collision)) (same l e) (other l e))
-    (λ h. by-le (capacity t) n (λ (b : Bool). P (t if b else openedRow at n row t) (Full if b else Inserted (n - at))) (full h) (more h))
+-- ---- the ways that a removal goes at a place, for any statement of the slices afterwards and the answer
 
 by-unregisteredAt : (P : Slices → Removed → Type 0) (t : Slices) (n at k : ℕ)
     → ((at < n → rank (rowAt t at) ≡ k → ⊥) → P t Absent)
@@ -225,10 +203,10 @@ module _ (t : Slices) (used : ℕ) (ready : Ready t used) where
 
   -- THE LAWS: for a table the contracts are those of its rows
   pub registration : (row : Row) → Registration t (registeredIn t used row) used row (registerIn t used row)
-  unfolding registerIn registeredIn
+  unfolding registerIn registeredBy
   registration row =
       rw (counted-ready, place-ready (rank row))
-      (by-registeredAt (λ (u : Slices) (a : Registered). Registration t u used row a) t used (placeOf (rank row) (rowsOf t used)) row
+      (by-registeredAt (λ (u : Slices) (a : Registered). Registration t u used row a) openedRow t used (placeOf (rank row) (rowsOf t used)) row
       (repeats row (placeOf (rank row) (rowsOf t used)) refl)
       (collides row (placeOf (rank row) (rowsOf t used)) refl)
       (full row (placeOf (rank row) (rowsOf t used)) refl)

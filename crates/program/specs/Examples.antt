@@ -12,7 +12,7 @@ use Rattle.program.specs.declared.KeptName.{KeptName}
 use Rattle.program.specs.declared.FunctionName.the-variants.{Symbol, OfIndex, Entrypoint}
 use Rattle.program.specs.Search.{between, halves}
 use Rattle.program.specs.Rows.{rank}
-use Rattle.program.specs.Table.{Slices, slices, least, capacity, rowsOf, ranksOf, opened, closed, openedRow, closedRow, counted, placeIn, holds, registerAt, registeredAt, registerIn, registeredIn, unregisterAt, unregisteredAt, unregisterIn, unregisteredIn, lookupIn}
+use Rattle.program.specs.Table.{Slices, slices, least, capacity, rowsOf, ranksOf, opened, closed, openedRow, openedAlike, closedRow, counted, placeIn, holds, registerAt, registeredAt, registerIn, registeredBy, registeredIn, registeredAlikeIn, unregisterAt, unregisteredAt, unregisterIn, unregisteredIn, lookupIn}
 use Rattle.program.specs.HashedLegacy.{kept, keptSymbol, keptName}
 
 -- a row with a name that is made from the index
@@ -43,8 +43,23 @@ registrations = refl
 -- a repeat under another name changes nothing
 registered : registeredIn two 2 (row 20 2) ∷ registeredIn two 2 (record { key = 30; index = 3; kind = 1; start = 64; length = 5 }) ∷ []
     ≡ three ∷ two ∷ []
-unfolding registeredIn registeredAt counted placeIn holds halves between ranksOf capacity least rank openedRow opened _if_else_
+unfolding registeredBy registeredAt counted placeIn holds halves between ranksOf capacity least rank openedRow opened _if_else_
 registered = refl
+
+-- the name at the last place: as before where the rows all have it, and another table where they do not
+alike : registeredAlikeIn two 2 (row 20 2) ∷ registeredAlikeIn two 2 (row 30 3) ∷ [] ≡ registeredIn two 2 (row 20 2) ∷ two ∷ []
+unfolding registeredBy registeredAt counted placeIn holds halves between ranksOf capacity least rank openedRow openedAlike opened _if_else_
+alike = refl
+
+abbrev named : Row
+named = record { key = 20; index = 2; kind = 1; start = 64; length = 5 }
+
+unlike : registeredAlikeIn two 2 named ∷ registeredIn two 2 named ∷ []
+    ≡ slices (10 ∷ 20 ∷ 30 ∷ []) (1 ∷ 2 ∷ 3 ∷ 0 ∷ []) (3 ∷ 3 ∷ 1 ∷ 0 ∷ []) (0 ∷ 0 ∷ 64 ∷ []) (0 ∷ 0 ∷ 5 ∷ [])
+    ∷ slices (10 ∷ 20 ∷ 30 ∷ []) (1 ∷ 2 ∷ 3 ∷ 0 ∷ []) (3 ∷ 1 ∷ 3 ∷ 0 ∷ []) (0 ∷ 64 ∷ 0 ∷ []) (0 ∷ 5 ∷ 0 ∷ [])
+    ∷ []
+unfolding registeredBy registeredAt counted placeIn holds halves between ranksOf capacity least rank openedRow openedAlike opened _if_else_
+unlike = refl
 
 removals : unregisterIn two 2 10 ∷ unregisterIn two 2 30 ∷ unregisterIn two 2 20 ∷ [] ≡ Gone 1 ∷ Gone 0 ∷ Absent ∷ []
 unfolding unregisterIn unregisterAt counted placeIn holds halves between ranksOf capacity least rank _if_else_

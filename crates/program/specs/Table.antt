@@ -1,9 +1,9 @@
 -- The table: five slices of numbers that hold rows, and what a registration, a removal and a lookup make of them, whatever they hold.
-use Prim.Native.Nat.{ℕ, zero, suc, _-_, _≤_, min}
+use Prim.Native.Nat.{ℕ, zero, suc, _-_, _≤_, _<_, min}
 use mathlib.Core.Path.{_≡_}
 use mathlib.Core.Bool.{Bool, false}
 use mathlib.Core.List.{List, [], _∷_, _++_, map}
-use lib.ListN.{length, getD, replicate, take, drop}
+use lib.ListN.{length, getD, set, replicate, take, drop}
 use lib.Dec.{ltb, leb, eqb}
 use Rattle.ebpf.specs.Choice.{_if_else_}
 use Rattle.program.specs.Search.{halves}
@@ -98,13 +98,27 @@ opened at n v s = take at s ++ (v ∷ (drop at (take n s) ++ drop (suc n) s))
 unfoldable pub closed : ℕ → ℕ → List ℕ → List ℕ
 closed at n s = take at s ++ (drop (suc at) (take n s) ++ (0 ∷ drop n s))
 
-unfoldable pub openedRow : ℕ → ℕ → Row → Slices → Slices
+-- how a row goes to a place among the first n
+abbrev pub Opening : Type 0
+Opening = ℕ → ℕ → Row → Slices → Slices
+
+unfoldable pub openedRow : Opening
 openedRow at n r t = record {
   keys = opened at n (r .key) (t .keys);
   indices = opened at n (r .index) (t .indices);
   kinds = opened at n (r .kind) (t .kinds);
   starts = opened at n (r .start) (t .starts);
   lengths = opened at n (r .length) (t .lengths);
+}
+
+-- the same of the key and the index alone; the name goes behind the n rows, which is the same where they all have it
+unfoldable pub openedAlike : Opening
+openedAlike at n r t = record {
+  keys = opened at n (r .key) (t .keys);
+  indices = opened at n (r .index) (t .indices);
+  kinds = set (t .kinds) n (r .kind);
+  starts = set (t .starts) n (r .start);
+  lengths = set (t .lengths) n (r .length);
 }
 
 unfoldable pub closedRow : ℕ → ℕ → Slices → Slices
@@ -137,14 +151,20 @@ registerAt t n at row =
     else Full if leb (capacity t) n
     else Inserted (n - at)
 
-unfoldable pub registeredAt : Slices → ℕ → ℕ → Row → Slices
-registeredAt t n at row = t if holds t n at (rank row) else t if leb (capacity t) n else openedRow at n row t
+unfoldable pub registeredAt : Opening → Slices → ℕ → ℕ → Row → Slices
+registeredAt opening t n at row = t if holds t n at (rank row) else t if leb (capacity t) n else opening at n row t
 
 unfoldable pub registerIn : Slices → ℕ → Row → Registered
 registerIn t used row = registerAt t (counted t used) (placeIn t (counted t used) (rank row)) row
 
-unfoldable pub registeredIn : Slices → ℕ → Row → Slices
-registeredIn t used row = registeredAt t (counted t used) (placeIn t (counted t used) (rank row)) row
+unfoldable pub registeredBy : Opening → Slices → ℕ → Row → Slices
+registeredBy opening t used row = registeredAt opening t (counted t used) (placeIn t (counted t used) (rank row)) row
+
+abbrev pub registeredIn : Slices → ℕ → Row → Slices
+registeredIn t used row = registeredBy openedRow t used row
+
+abbrev pub registeredAlikeIn : Slices → ℕ → Row → Slices
+registeredAlikeIn t used row = registeredBy openedAlike t used row
 
 -- a removal of rank k at a place, from a table of n rows
 unfoldable pub unregisterAt : Slices → ℕ → ℕ → ℕ → Removed
@@ -160,9 +180,15 @@ unfoldable pub unregisteredIn : Slices → ℕ → ℕ → Slices
 unregisteredIn t used k = unregisteredAt t (counted t used) (placeIn t (counted t used) k) k
 
 -- slices t are u after a registration of a row that answered a
-pub record Registers (t u : Slices) (used : ℕ) (row : Row) (a : Registered) : Type 0 where
+pub record RegistersBy (opening : Opening) (t u : Slices) (used : ℕ) (row : Row) (a : Registered) : Type 0 where
   pub answers : a ≡ registerIn t used row
-  pub leaves : u ≡ registeredIn t used row
+  pub leaves : u ≡ registeredBy opening t used row
+
+abbrev pub Registers : Slices → Slices → ℕ → Row → Registered → Type 0
+Registers t u used row a = RegistersBy openedRow t u used row a
+
+abbrev pub RegistersAlike : Slices → Slices → ℕ → Row → Registered → Type 0
+RegistersAlike t u used row a = RegistersBy openedAlike t u used row a
 
 -- slices t are u after a removal of rank k that answered a
 pub record Unregisters (t u : Slices) (used k : ℕ) (a : Removed) : Type 0 where
@@ -179,6 +205,12 @@ pub record Ready (t : Slices) (used : ℕ) : Type 0 where
   pub room : used ≤ capacity t
   pub laid : t ≡ lay t (rowsOf t used)
   pub rising : Ascending (rowsOf t used)
+
+-- the first n rows have the row's name
+pub record Alike (t : Slices) (n : ℕ) (row : Row) : Type 0 where
+  pub kinds-alike : (i : ℕ) → i < n → getD (t .kinds) i 0 ≡ row .kind
+  pub starts-alike : (i : ℕ) → i < n → getD (t .starts) i 0 ≡ row .start
+  pub lengths-alike : (i : ℕ) → i < n → getD (t .lengths) i 0 ≡ row .length
 
 -- what a registration and a removal are for a table, in the words of its rows
 pub record Registration (t u : Slices) (used : ℕ) (row : Row) (a : Registered) : Type 0 where

@@ -3,7 +3,7 @@ use crate::Row;
 ghost use mathlib.Core.Path.{_≡_};
 ghost use Prim.Native.Nat.{_+_, _≤_, _<_, min};
 ghost use lib.ListN.{length};
-ghost use Rattle.program.specs.Table.{Least, Within, slices, opened, closed, openedRow, closedRow};
+ghost use Rattle.program.specs.Table.{Least, Within, slices, opened, closed, openedRow, openedAlike, closedRow};
 
 pub(crate) fn smaller(a: usize, b: usize) -> usize
     ensures { λ r. ⌜ r ≡ min a b ⌝ }
@@ -70,6 +70,28 @@ pub(crate) fn open_row(
     open_at(kinds, at, n, row.kind);
     open_at(starts, at, n, row.start);
     open_at(lengths, at, n, row.length);
+}
+
+// Opens the place `at` of the keys and indices, and puts the row's there; its name goes to the place
+// `n`.
+pub(crate) fn open_alike(
+    keys: &mut [u32],
+    indices: &mut [u32],
+    kinds: &mut [u32],
+    starts: &mut [u32],
+    lengths: &mut [u32],
+    at: usize,
+    n: usize,
+    row: Row,
+)
+    requires { ⌜ (at ≤ n) × Within (n + 1) (slices (now keys) (now indices) (now kinds) (now starts) (now lengths)) ⌝ }
+    ensures { λ _. ⌜ slices (now (keys .exit)) (now (indices .exit)) (now (kinds .exit)) (now (starts .exit)) (now (lengths .exit)) ≡ openedAlike at n row (slices (now (keys .entry)) (now (indices .entry)) (now (kinds .entry)) (now (starts .entry)) (now (lengths .entry))) ⌝ }
+{
+    open_at(keys, at, n, row.key);
+    open_at(indices, at, n, row.index);
+    kinds[n] = row.kind;
+    starts[n] = row.start;
+    lengths[n] = row.length;
 }
 
 // Closes the place `at` of each column.

@@ -1,7 +1,7 @@
 // The function registry: the port of src/program.rs. A table of rows in five lent slices, ascending
 // by key, with zeros behind the used rows; it has as many rows as the shortest slice has numbers.
 ghost use mathlib.Core.Path.{_≡_};
-ghost use Rattle.program.specs.Table.{slices, lookupIn, Registers, Unregisters};
+ghost use Rattle.program.specs.Table.{slices, registerIn, lookupIn, Registers, RegistersAlike, Unregisters};
 
 mod columns;
 mod hashed_legacy;
@@ -84,17 +84,17 @@ pub enum Legacy {
     Taken(u32),
 }
 
-// Registers a row in a table of `used` rows. At most the rows lent count.
-pub fn register_function(
-    keys: &mut [u32],
-    indices: &mut [u32],
-    kinds: &mut [u32],
-    starts: &mut [u32],
-    lengths: &mut [u32],
+// What a registration answers, before anything moves. At most the rows lent count.
+fn answer_of(
+    keys: &[u32],
+    indices: &[u32],
+    kinds: &[u32],
+    starts: &[u32],
+    lengths: &[u32],
     used: usize,
     row: Row,
 ) -> Registered
-    ensures { λ r. ⌜ Registers (slices (now (keys .entry)) (now (indices .entry)) (now (kinds .entry)) (now (starts .entry)) (now (lengths .entry))) (slices (now (keys .exit)) (now (indices .exit)) (now (kinds .exit)) (now (starts .exit)) (now (lengths .exit))) used row r ⌝ }
+    ensures { λ r. ⌜ r ≡ registerIn (slices (now (keys .entry)) (now (indices .entry)) (now (kinds .entry)) (now (starts .entry)) (now (lengths .entry))) used row ⌝ }
 {
     let key = row.key;
     let index = row.index;
@@ -118,8 +118,68 @@ pub fn register_function(
     if rows <= n {
         return Registered::Full;
     }
-    columns::open_row(keys, indices, kinds, starts, lengths, at, n, row);
     Registered::Inserted(n - at)
+}
+
+// Registers a row in a table of `used` rows. At most the rows lent count: where one is inserted there
+// is room behind the used rows, so that they all count.
+pub fn register_function(
+    keys: &mut [u32],
+    indices: &mut [u32],
+    kinds: &mut [u32],
+    starts: &mut [u32],
+    lengths: &mut [u32],
+    used: usize,
+    row: Row,
+) -> Registered
+    ensures { λ r. ⌜ Registers (slices (now (keys .entry)) (now (indices .entry)) (now (kinds .entry)) (now (starts .entry)) (now (lengths .entry))) (slices (now (keys .exit)) (now (indices .exit)) (now (kinds .exit)) (now (starts .exit)) (now (lengths .exit))) used row r ⌝ }
+{
+    let answer = answer_of(keys, indices, kinds, starts, lengths, used, row);
+    let Registered::Inserted(moves) = answer else {
+        return answer;
+    };
+    columns::open_row(
+        keys,
+        indices,
+        kinds,
+        starts,
+        lengths,
+        used - moves,
+        used,
+        row,
+    );
+    answer
+}
+
+// Registers a row whose name is that of every used row: the answer is `register_function`'s, but the
+// columns of the name are not shifted, since there equal numbers would move: the name goes behind the
+// last row.
+pub fn register_alike(
+    keys: &mut [u32],
+    indices: &mut [u32],
+    kinds: &mut [u32],
+    starts: &mut [u32],
+    lengths: &mut [u32],
+    used: usize,
+    row: Row,
+) -> Registered
+    ensures { λ r. ⌜ RegistersAlike (slices (now (keys .entry)) (now (indices .entry)) (now (kinds .entry)) (now (starts .entry)) (now (lengths .entry))) (slices (now (keys .exit)) (now (indices .exit)) (now (kinds .exit)) (now (starts .exit)) (now (lengths .exit))) used row r ⌝ }
+{
+    let answer = answer_of(keys, indices, kinds, starts, lengths, used, row);
+    let Registered::Inserted(moves) = answer else {
+        return answer;
+    };
+    columns::open_alike(
+        keys,
+        indices,
+        kinds,
+        starts,
+        lengths,
+        used - moves,
+        used,
+        row,
+    );
+    answer
 }
 
 // Removes the row of a key from a table of `used` rows, where there is one. At most the rows lent
