@@ -8,8 +8,9 @@ use elf_parser::Sliced;
 use elf_parser::report_of;
 use program::Found;
 ghost use mathlib.Core.Path.{_≡_};
-ghost use lib.ListN.{getD};
-ghost use Rattle.exports.specs.Answers.{wordsOf, Gives, reported, refused, laidOut, parseAnswer, placeAnswer, tableAnswer, rowAnswer};
+ghost use mathlib.Core.List.{_∷_};
+ghost use lib.ListN.{length, getD};
+ghost use Rattle.exports.specs.Answers.{written, Gives, reported, refused, laidOut, parseAnswer, placeAnswer, tableAnswer, rowAnswer};
 
 // A number, 0 where nothing was refused, and what goes with it.
 pub struct Answer {
@@ -167,24 +168,33 @@ fn word_in(words: &[u64], i: usize) -> u64
     0
 }
 
-fn word_at(a: Answer, i: usize) -> u64
-    ensures { λ r. ⌜ r ≡ getD (wordsOf a) i 0 ⌝ }
+// The number, or a word behind it.
+fn word_of(number: u32, words: &[u64], i: usize) -> u64
+    ensures { λ r. ⌜ r ≡ getD (number ∷ now (words .entry)) i 0 ⌝ }
 {
     if i == 0 {
-        return a.number as u64;
+        return number as u64;
     }
-    let words = a.words;
-    word_in(&words, i - 1)
+    word_in(words, i - 1)
 }
 
-// Fills the lent slice: the words, as many as there is room for, and zeros behind them.
-pub fn give(answer: &mut [u64], a: Answer) -> u32
-    ensures { λ r. ⌜ Gives a (now (answer .entry)) (now (answer .exit)) r ⌝ }
+// Fills the lent slice: the number and the words, as many as there is room for, and zeros behind
+// them. The words are lent: by value they would be copied for each word.
+fn give_words(answer: &mut [u64], number: u32, words: &[u64])
+    ensures { λ _. ⌜ now (answer .exit) ≡ written (length (now (answer .entry))) (number ∷ now (words .entry)) ⌝ }
 {
     let mut i = 0;
     while i < answer.len() {
-        answer[i] = word_at(a, i);
+        answer[i] = word_of(number, words, i);
         i += 1;
     }
+}
+
+// Fills the lent slice with an answer's words.
+pub fn give(answer: &mut [u64], a: Answer) -> u32
+    ensures { λ r. ⌜ Gives a (now (answer .entry)) (now (answer .exit)) r ⌝ }
+{
+    let words = a.words;
+    give_words(answer, a.number, &words);
     a.number
 }
