@@ -29,4 +29,5 @@ pub mod Reaching
 pub mod Early
 pub mod Refusing
 pub mod Gathered
+pub mod Onward
 pub mod Aborting

@@ -75,10 +75,19 @@ abbrev pub takenAt : Bool → Bool → ℕ → Elf64Shdr → Extent → Place �
 takenAt version2 reject-broken i h x (At start n) = taken version2 reject-broken i h n x
 takenAt version2 reject-broken i h x (NoPlace r) = Stop ValueOutOfBounds
 
+-- the section number i, of that header and name
+abbrev pub gatherNamed : List ℕ → Layout → Bool → Bool → ℕ → Elf64Shdr → List ℕ → Extent → Gathering
+gatherNamed s l version2 reject-broken i h name x =
+    Next x if not (readOnly name) else
+    takenAt version2 reject-broken i h x (sectionPlaceOf s l i)
+
 unfoldable pub gatherStep : List ℕ → Layout → Bool → Bool → ℕ → Extent → Gathering
-gatherStep s l version2 reject-broken i x =
-    Next x if not (readOnly (nameOf s l (sectionAt s l i))) else
-    takenAt version2 reject-broken i (sectionAt s l i) x (sectionPlaceOf s l i)
+gatherStep s l version2 reject-broken i x = gatherNamed s l version2 reject-broken i (sectionAt s l i) (nameOf s l (sectionAt s l i)) x
+
+-- the same after what the sections before it gave: a refusal stays
+abbrev pub gatherNext : List ℕ → Layout → Bool → Bool → ℕ → Elf64Shdr → List ℕ → Gathering → Gathering
+gatherNext s l version2 reject-broken i h name (Next x) = gatherNamed s l version2 reject-broken i h name x
+gatherNext s l version2 reject-broken i h name (Stop r) = Stop r
 
 -- ---- all sections
 

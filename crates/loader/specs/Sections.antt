@@ -66,19 +66,21 @@ unsupported name flags = startsWith name dot-bss || (eqb (flags % 4) 3 && (start
 unfoldable pub outsideFile : ℕ → ℕ → ℕ → Bool
 outsideFile len offset size = true if pastWord (offset + size) else ltb len (offset + size)
 
--- one section more
-unfoldable pub surveyStep : List ℕ → Layout → ℕ → Survey → Survey
-surveyStep s l i v =
-    let h : Elf64Shdr = sectionAt s l i in
-    let is-text : Bool = sameBytes (nameOf s l h) dot-text in
-    let bad : Bool = unsupported (nameOf s l h) (h .«sh_flags») in
+-- one section more, of that header and name, in a file of that length
+abbrev pub surveyNamed : ℕ → ℕ → Elf64Shdr → List ℕ → Survey → Survey
+surveyNamed len i h name v =
+    let is-text : Bool = sameBytes name dot-text in
+    let bad : Bool = unsupported name (h .«sh_flags») in
     record {
       texts = v .texts + 1 if is-text else v .texts;
       text = i if is-text && eqb (v .texts) 0 else v .text;
       writable = v .writable || bad;
       «writable_name» = h .«sh_name» if not (v .writable) && bad else v .«writable_name»;
-      outside = v .outside || outsideFile (length s) (h .«sh_offset») (h .«sh_size»);
+      outside = v .outside || outsideFile len (h .«sh_offset») (h .«sh_size»);
     }
+
+unfoldable pub surveyStep : List ℕ → Layout → ℕ → Survey → Survey
+surveyStep s l i v = surveyNamed (length s) i (sectionAt s l i) (nameOf s l (sectionAt s l i)) v
 
 -- n sections from i on
 unfoldable pub surveyFrom : List ℕ → Layout → ℕ → ℕ → Survey → Survey

@@ -22,6 +22,7 @@ mod functions;
 mod get_bytes;
 mod labelling;
 mod labels;
+mod overview;
 mod parts;
 mod read_only;
 mod relocating;

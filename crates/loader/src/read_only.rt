@@ -20,7 +20,7 @@ ghost use Prim.Native.Nat.{_+_, _≤_};
 ghost use lib.ListN.{length, drop};
 ghost use lib.Seq.{paste};
 ghost use Rattle.ebpf.specs.Choice.{_if_else_};
-ghost use Rattle.loader.specs.ReadOnly.{readOnly, gives, invalidBy, endOf, grown, taken, gatherStep, gathered, fromStart, canBorrow, borrowed, owned, placed, placing, copiedTo, copyStep, copiedFrom};
+ghost use Rattle.loader.specs.ReadOnly.{readOnly, gives, invalidBy, endOf, grown, taken, gatherNext, nothing, fromStart, canBorrow, borrowed, owned, placed, placingBy, copiedTo, copyStep, copiedFrom};
 
 pub enum Placing {
     // They stay in the image: the offset of their address from the program's start, and their place.
@@ -153,34 +153,11 @@ fn take_section(
     Gathering::Next(grow(version2, index, h.sh_addr, h.sh_offset, n, x))
 }
 
-// One section, read-only or not.
-fn gather_step(
-    file: &[u8],
-    layout: Layout,
-    version2: bool,
-    reject_broken: bool,
-    index: u32,
-    x: Extent,
-) -> Gathering
-    ensures { λ r. ⌜ r ≡ gatherStep (now (file .entry)) layout version2 «reject_broken» index x ⌝ }
+// Before the first section.
+pub(crate) fn no_extent() -> Extent
+    ensures { λ r. ⌜ r ≡ nothing ⌝ }
 {
-    let h = section_at(file, layout, index);
-    if !is_read_only(section_name_part(file, layout, h.sh_name)) {
-        return Gathering::Next(x);
-    }
-    match section_place(file, layout, index) {
-        Place::Refused(_) => Gathering::Refused(ElfError::ValueOutOfBounds),
-        Place::At { start: _, length } => {
-            take_section(version2, reject_broken, index as u64, h, length as u64, x)
-        }
-    }
-}
-
-// All sections, in one pass.
-fn gather(file: &[u8], layout: Layout, count: u32, version2: bool, reject_broken: bool) -> Gathering
-    ensures { λ r. ⌜ r ≡ gathered (now (file .entry)) layout count version2 «reject_broken» ⌝ }
-{
-    let mut x = Extent {
+    Extent {
         lowest: 0xffff_ffff_ffff_ffff,
         highest: 0,
         filled: 0,
@@ -190,20 +167,34 @@ fn gather(file: &[u8], layout: Layout, count: u32, version2: bool, reject_broken
         first: 0,
         last: 0,
         many: 0,
-    };
-    let mut i: u32 = 0;
-    while i < count {
-        match gather_step(file, layout, version2, reject_broken, i, x) {
-            Gathering::Next(next) => {
-                x = next;
-            }
-            Gathering::Refused(r) => {
-                return Gathering::Refused(r);
-            }
-        }
-        i += 1;
     }
-    Gathering::Next(x)
+}
+
+// With one section more, of that header and name, read-only or not. A refusal stays.
+pub(crate) fn gather_next(
+    file: &[u8],
+    layout: Layout,
+    version2: bool,
+    reject_broken: bool,
+    index: u32,
+    h: Elf64Shdr,
+    name: &[u8],
+    g: Gathering,
+) -> Gathering
+    ensures { λ r. ⌜ r ≡ gatherNext (now (file .entry)) layout version2 «reject_broken» index h (now (name .entry)) g ⌝ }
+{
+    let Gathering::Next(x) = g else {
+        return g;
+    };
+    if !is_read_only(name) {
+        return g;
+    }
+    match section_place(file, layout, index) {
+        Place::Refused(_) => Gathering::Refused(ElfError::ValueOutOfBounds),
+        Place::At { start: _, length } => {
+            take_section(version2, reject_broken, index as u64, h, length as u64, x)
+        }
+    }
 }
 
 // An address as an offset from the program's start.
@@ -270,19 +261,18 @@ fn place_extent(len: u64, version2: bool, reject_broken: bool, optimize: bool, x
     own_sections(len, optimize, x)
 }
 
-// It asks for no byte of the sections, only for the file's headers and names.
-pub(crate) fn place_sections(
-    file: &[u8],
-    layout: Layout,
-    count: u32,
+// It asks for no byte of the sections, only for what was gathered of their headers and names.
+pub(crate) fn place_gathered(
+    len: u64,
     version2: bool,
     reject_broken: bool,
     optimize: bool,
+    g: Gathering,
 ) -> Placing
-    ensures { λ r. ⌜ r ≡ placing (now (file .entry)) layout count version2 «reject_broken» optimize ⌝ }
+    ensures { λ r. ⌜ r ≡ placingBy len version2 «reject_broken» optimize g ⌝ }
 {
-    match gather(file, layout, count, version2, reject_broken) {
-        Gathering::Next(x) => place_extent(file.len() as u64, version2, reject_broken, optimize, x),
+    match g {
+        Gathering::Next(x) => place_extent(len, version2, reject_broken, optimize, x),
         Gathering::Refused(r) => Placing::Refused(r),
     }
 }

@@ -3,13 +3,12 @@ use elf_parser::Layout;
 use elf_parser::Shdr;
 use elf_parser::same_bytes;
 use elf_parser::section_header;
-use elf_parser::section_name_part;
 use elf_parser::types::Elf64Shdr;
 ghost use mathlib.Core.Path.{_≡_};
 ghost use Prim.Native.Nat.{_≤_, _<_};
 ghost use lib.ListN.{length};
 ghost use Rattle.ebpf.specs.Choice.{_if_else_, pastWord};
-ghost use Rattle.loader.specs.Sections.{sectionAt, startsWith, unsupported, outsideFile, surveyStep, survey};
+ghost use Rattle.loader.specs.Sections.{sectionAt, startsWith, unsupported, outsideFile, no-survey, surveyNamed};
 
 // The section number `index`; a blank one where there is none.
 pub(crate) fn section_at(file: &[u8], layout: Layout, index: u32) -> Elf64Shdr
@@ -78,15 +77,27 @@ pub struct Survey {
     pub outside: bool,
 }
 
-fn survey_step(file: &[u8], layout: Layout, index: u32, v: Survey) -> Survey
-    requires { ⌜ (v .texts ≤ index) × (index < 65536) ⌝ }
-    ensures { λ r. ⌜ r ≡ surveyStep (now (file .entry)) layout index v ⌝ }
+// Before the first section.
+pub(crate) fn no_survey() -> Survey
+    ensures { λ r. ⌜ r ≡ no-survey ⌝ }
 {
-    let h = section_at(file, layout, index);
-    let name = section_name_part(file, layout, h.sh_name);
+    Survey {
+        texts: 0,
+        text: 0,
+        writable: false,
+        writable_name: 0,
+        outside: false,
+    }
+}
+
+// With one section more, of that header and name, in a file of `len` bytes.
+pub(crate) fn survey_next(len: u64, index: u32, h: Elf64Shdr, name: &[u8], v: Survey) -> Survey
+    requires { ⌜ (v .texts ≤ index) × (index < 65536) ⌝ }
+    ensures { λ r. ⌜ r ≡ surveyNamed len index h (now (name .entry)) v ⌝ }
+{
     let is_text = same_bytes(name, b".text");
     let bad = is_unsupported(name, h.sh_flags);
-    let outside = outside_file(file.len() as u64, h.sh_offset, h.sh_size);
+    let outside = outside_file(len, h.sh_offset, h.sh_size);
     let first = v.texts == 0;
     Survey {
         texts: pick(is_text, v.texts + 1, v.texts),
@@ -95,25 +106,4 @@ fn survey_step(file: &[u8], layout: Layout, index: u32, v: Survey) -> Survey
         writable_name: pick(!v.writable & bad, h.sh_name, v.writable_name),
         outside: v.outside | outside,
     }
-}
-
-// All sections, in one pass.
-pub(crate) fn survey_sections(file: &[u8], layout: Layout, count: u32) -> Survey
-    requires { ⌜ count ≤ 65536 ⌝ }
-    ensures { λ r. ⌜ r ≡ survey (now (file .entry)) layout count ⌝ }
-{
-    let mut v = Survey {
-        texts: 0,
-        text: 0,
-        writable: false,
-        writable_name: 0,
-        outside: false,
-    };
-    let mut i: u32 = 0;
-    while i < count {
-        let next = survey_step(file, layout, i, v);
-        v = next;
-        i += 1;
-    }
-    v
 }

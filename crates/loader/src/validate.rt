@@ -4,11 +4,11 @@ use crate::addresses::machine_addr;
 use crate::addresses::saturating_add;
 use crate::error::ElfError;
 use crate::error::from_parser;
+use crate::overview::look_over;
 use crate::read_only::Placing;
-use crate::read_only::place_sections;
+use crate::read_only::place_gathered;
 use crate::sections::Survey;
 use crate::sections::section_at;
-use crate::sections::survey_sections;
 use ebpf::EF_SBPF_V2;
 use ebpf::MM_STACK_START;
 use elf_parser::ElfParserError;
@@ -246,19 +246,25 @@ fn validate(file: &[u8], c: Config, layout: Layout) -> Prepared
 {
     let h = file_header(file);
     let version2 = h.e_flags == EF_SBPF_V2;
-    let count = h.e_shnum as u32;
-    let v = survey_sections(file, layout, count);
+    let seen = look_over(
+        file,
+        layout,
+        h.e_shnum as u32,
+        version2,
+        c.reject_broken_elfs,
+    );
+    let v = seen.survey;
+    let g = seen.gathering;
     match check_file(file, c, layout, h, version2, v) {
         Verdict::Refused(r) => Prepared::Refused(r),
         Verdict::Pass => {
             let text = section_at(file, layout, v.text);
-            let placing = place_sections(
-                file,
-                layout,
-                count,
+            let placing = place_gathered(
+                file.len() as u64,
                 version2,
                 c.reject_broken_elfs,
                 c.optimize_rodata,
+                g,
             );
             Prepared::Ready(job_of(c, version2, layout, h.e_entry, text, placing))
         }
