@@ -11,6 +11,7 @@ use Rattle.loader.specs.declared.error.ElfError.{ElfError}
 use Rattle.loader.specs.declared.deeds.Outcome.{Outcome}
 use Rattle.loader.specs.declared.deeds.Outcome.the-variants.{Holds, Refused}
 use Rattle.loader.specs.Trace.{Trace, andThen, each, refused, settle, settle-andThen}
+use Rattle.loader.specs.CallLoop.{Leads}
 use Rattle.loader.specs.Contracts.{Near, Begins, Settles}
 
 pub same-refl : (t : Slices) → SameLens t t
@@ -56,71 +57,139 @@ module _ (T : Trace) (K : List ℕ → Trace) (im im′ : List ℕ) (t u v : Sli
     near = near-add n m used moves used′ moves′ a (did .near .0) (did .near .1) (next .near);
   }
 
--- ---- a loop of n parts: those from i on, with the rows and moves held now, settle to what the whole settles to
-pub record Going (step : ℕ → List ℕ → Trace) (n : ℕ) (im₀ im : List ℕ) (t₀ t : Slices) (used₀ moves₀ used moves i : ℕ) : Type 0 where
+-- ---- a loop over the parts from number o up to k, of n: those from i on, with the rows and moves held now, settle to what those from o
+-- on settle to with what was held then
+pub record GoingIn (step : ℕ → List ℕ → Trace) (n o k : ℕ) (im₀ im : List ℕ) (t₀ t : Slices) (used₀ moves₀ used moves i : ℕ) : Type 0 where
   pub same : SameLens t₀ t
   pub image-as : length im ≡ length im₀
   pub ready : Ready t used
-  pub passed : i ≤ n
-  pub few : used ≤ used₀ + i
-  pub moved : moves ≤ moves₀ + i * 2 ^ 26
-  pub onward : settle (capacity t) (each step (n - i) i im) (rowsOf t used) moves ≡ settle (capacity t₀) (each step n 0 im₀) (rowsOf t₀ used₀) moves₀
+  pub begun : o ≤ i
+  pub passed : i ≤ k
+  pub few : used ≤ used₀ + (i - o)
+  pub moved : moves ≤ moves₀ + (i - o) * 2 ^ 26
+  pub onward : settle (capacity t) (each step (n - i) i im) (rowsOf t used) moves ≡ settle (capacity t₀) (each step (n - o) o im₀) (rowsOf t₀ used₀) moves₀
 
-module _ (step : ℕ → List ℕ → Trace) (n : ℕ) where
-  pub going-start : (im : List ℕ) (t : Slices) (rows used moves : ℕ) → Begins n t rows used moves → Going step n im im t t used moves used moves 0
-  going-start im t rows used moves b = record {
+module _ (step : ℕ → List ℕ → Trace) (n o k : ℕ) (within : k ≤ n) where
+  pub in-start : (im : List ℕ) (t : Slices) (rows used moves : ℕ) → o ≤ k → Begins (k - o) t rows used moves → GoingIn step n o k im im t t used moves used moves o
+  in-start im t rows used moves l b = record {
     same = same-refl t;
     image-as = refl;
     ready = b .ready;
-    passed = omega arith;
+    begun = omega arith;
+    passed = l;
     few = omega arith;
     moved = omega arith;
-    onward = let e : n - 0 ≡ n = omega arith in rw e refl;
+    onward = refl;
   }
 
-  module _ (im₀ im : List ℕ) (t₀ t : Slices) (rows used₀ moves₀ used moves i : ℕ) (begins : Begins n t₀ rows used₀ moves₀) (going : Going step n im₀ im t₀ t used₀ moves₀ used moves i) where
-    pub going-done : n ≤ i → Settles (each step n 0 im₀) im t₀ t n used₀ moves₀ (Holds used moves)
-    unfolding each settle
-    going-done l =
-        let e : n - i ≡ 0 = omega arith in
-        let j : i ≡ n = omega (arith, going .passed) in
-        record { answers = rw e at (going .onward); sound = going .ready; near = (omega (arith, going .few), omega (arith, going .moved)) }
+  module _ (im₀ im : List ℕ) (t₀ t : Slices) (rows used₀ moves₀ used moves i : ℕ) (begins : Begins (k - o) t₀ rows used₀ moves₀) (going : GoingIn step n o k im₀ im t₀ t used₀ moves₀ used moves i) where
+    pub in-done : k ≤ i → Leads step n o k im₀ im t₀ t used₀ moves₀ (Holds used moves)
+    in-done l =
+        let j : i ≡ k = omega (arith, going .passed) in
+        record { answers = rw j at (sym (going .onward)); sound = going .ready; near = (omega (arith, going .few), omega (arith, going .moved)) }
 
     -- a part begins
-    pub going-begins : i < n → Begins 1 t rows used moves
-    going-begins l = record {
+    pub in-begins : i < k → Begins 1 t rows used moves
+    in-begins l = record {
       rows-are = begins .rows-are ∙ sym (capacity-same t₀ t (going .same));
       ready = going .ready;
-      room = record { few = omega (arith, begins .room .few, going .few); moved = omega (arith, begins .room .moved, going .moved) };
+      room = record { few = omega (arith, begins .room .few, going .few, going .begun); moved = omega (arith, begins .room .moved, going .moved, going .begun) };
     }
 
-    module _ (more : i < n) (im′ : List ℕ) (u : Slices) where
-      unrolled : settle (capacity t) (andThen (step i im) (λ (im′ : List ℕ). each step (n - (i + 1)) (i + 1) im′)) (rowsOf t used) moves ≡ settle (capacity t₀) (each step n 0 im₀) (rowsOf t₀ used₀) moves₀
+    module _ (more : i < k) (im′ : List ℕ) (u : Slices) where
+      unrolled : settle (capacity t) (andThen (step i im) (λ (im′ : List ℕ). each step (n - (i + 1)) (i + 1) im′)) (rowsOf t used) moves ≡ settle (capacity t₀) (each step (n - o) o im₀) (rowsOf t₀ used₀) moves₀
       unfolding each
       unrolled = let e : n - i ≡ suc (n - (i + 1)) = omega arith in rw e at (going .onward)
 
-      pub going-stop : (r : ElfError) → Settles (step i im) im′ t u 1 used moves (Refused r) → Settles (each step n 0 im₀) im′ t₀ u n used₀ moves₀ (Refused r)
-      going-stop r did = record { answers = sym (then-not (step i im) _ im′ t u 1 used moves r did) ∙ unrolled; sound = tt; near = tt }
+      pub in-stop : (r : ElfError) (im″ : List ℕ) → Settles (step i im) im′ t u 1 used moves (Refused r) → Leads step n o k im₀ im″ t₀ u used₀ moves₀ (Refused r)
+      in-stop r im″ did = record { answers = sym unrolled ∙ then-not (step i im) _ im′ t u 1 used moves r did; sound = tt; near = tt }
 
-      pub going-on : (used′ moves′ : ℕ) → SameLens t u → length im′ ≡ length im → Settles (step i im) im′ t u 1 used moves (Holds used′ moves′) → Going step n im₀ im′ t₀ u used₀ moves₀ used′ moves′ (i + 1)
-      going-on used′ moves′ lens len did = record {
+      pub in-on : (used′ moves′ : ℕ) → SameLens t u → length im′ ≡ length im → Settles (step i im) im′ t u 1 used moves (Holds used′ moves′) → GoingIn step n o k im₀ im′ t₀ u used₀ moves₀ used′ moves′ (i + 1)
+      in-on used′ moves′ lens len did = record {
         same = same-trans t₀ t u (going .same) lens;
         image-as = len ∙ going .image-as;
         ready = did .sound;
+        begun = omega (arith, going .begun);
         passed = omega arith;
-        few = omega (arith, going .few, did .near .0);
-        moved = omega (arith, going .moved, did .near .1);
+        few = omega (arith, going .few, did .near .0, going .begun);
+        moved = omega (arith, going .moved, did .near .1, going .begun);
         onward = sym (then-on (step i im) _ im′ t u 1 used moves used′ moves′ lens did) ∙ unrolled;
       }
 
-    -- parts that ask for nothing are passed over, up to number k
-    pub going-ahead : (k : ℕ) → i ≤ k → k ≤ n → each step (n - i) i im ≡ each step (n - k) k im → Going step n im₀ im t₀ t used₀ moves₀ used moves k
-    going-ahead k l h e = record {
+    -- parts that ask for nothing are passed over, up to number j
+    pub in-ahead : (j : ℕ) → i ≤ j → j ≤ k → each step (n - i) i im ≡ each step (n - j) j im → GoingIn step n o k im₀ im t₀ t used₀ moves₀ used moves j
+    in-ahead j l h e = record {
       same = going .same;
       image-as = going .image-as;
       ready = going .ready;
+      begun = omega (arith, going .begun);
       passed = h;
       few = omega (arith, going .few);
       moved = omega (arith, going .moved);
       onward = ap (λ (T : Trace). settle (capacity t) T (rowsOf t used) moves) (sym e) ∙ going .onward;
     }
+
+    -- a run of parts, up to number j
+    module _ (j : ℕ) (l : i ≤ j) (h : j ≤ k) (im′ : List ℕ) (u : Slices) where
+      pub in-begins-run : Begins (j - i) t rows used moves
+      in-begins-run = record {
+        rows-are = begins .rows-are ∙ sym (capacity-same t₀ t (going .same));
+        ready = going .ready;
+        room = record { few = omega (arith, begins .room .few, going .few, going .begun); moved = omega (arith, begins .room .moved, going .moved, going .begun) };
+      }
+
+      pub in-run : (used′ moves′ : ℕ) → SameLens t u → length im′ ≡ length im → Leads step n i j im im′ t u used moves (Holds used′ moves′) → GoingIn step n o k im₀ im′ t₀ u used₀ moves₀ used′ moves′ j
+      in-run used′ moves′ lens len did = record {
+        same = same-trans t₀ t u (going .same) lens;
+        image-as = len ∙ going .image-as;
+        ready = did .sound;
+        begun = omega (arith, going .begun);
+        passed = h;
+        few = omega (arith, going .few, did .near .0, going .begun);
+        moved = omega (arith, going .moved, did .near .1, going .begun);
+        onward = sym (did .answers) ∙ going .onward;
+      }
+
+      pub in-run-stop : (r : ElfError) (im″ : List ℕ) → Leads step n i j im im′ t u used moves (Refused r) → Leads step n o k im₀ im″ t₀ u used₀ moves₀ (Refused r)
+      in-run-stop r im″ did = record { answers = sym (going .onward) ∙ did .answers; sound = tt; near = tt }
+
+-- ---- all n parts
+
+-- what all lead to is what they settle to
+pub all-lead : (step : ℕ → List ℕ → Trace) (n : ℕ) (im₀ im : List ℕ) (t₀ t : Slices) (used moves : ℕ) (a : Outcome)
+    → Leads step n 0 n im₀ im t₀ t used moves a → Settles (each step n 0 im₀) im t₀ t n used moves a
+unfolding each settle
+all-lead step n im₀ im t₀ t used moves (Holds used′ moves′) did =
+    let z : n - 0 ≡ n = omega arith in
+    let e : n - n ≡ 0 = omega arith in
+    record { answers = sym (rw (z, e) at (did .answers)); sound = did .sound; near = rw z at (did .near) }
+all-lead step n im₀ im t₀ t used moves (Refused r) did =
+    let z : n - 0 ≡ n = omega arith in
+    record { answers = sym (rw z at (did .answers)); sound = tt; near = tt }
+
+pub all-begin : (n : ℕ) (t : Slices) (rows used moves : ℕ) → Begins n t rows used moves → Begins (n - 0) t rows used moves
+all-begin n t rows used moves b = let z : n - 0 ≡ n = omega arith in rw z b
+
+abbrev pub Going : (ℕ → List ℕ → Trace) → ℕ → List ℕ → List ℕ → Slices → Slices → ℕ → ℕ → ℕ → ℕ → ℕ → Type 0
+Going step n im₀ im t₀ t used₀ moves₀ used moves i = GoingIn step n 0 n im₀ im t₀ t used₀ moves₀ used moves i
+
+module _ (step : ℕ → List ℕ → Trace) (n : ℕ) where
+  pub going-start : (im : List ℕ) (t : Slices) (rows used moves : ℕ) → Begins n t rows used moves → Going step n im im t t used moves used moves 0
+  going-start im t rows used moves b = in-start step n 0 n (omega arith) im t rows used moves (omega arith) (all-begin n t rows used moves b)
+
+  module _ (im₀ im : List ℕ) (t₀ t : Slices) (rows used₀ moves₀ used moves i : ℕ) (begins : Begins n t₀ rows used₀ moves₀) (going : Going step n im₀ im t₀ t used₀ moves₀ used moves i) where
+    all : Begins (n - 0) t₀ rows used₀ moves₀
+    all = all-begin n t₀ rows used₀ moves₀ begins
+
+    pub going-done : n ≤ i → Settles (each step n 0 im₀) im t₀ t n used₀ moves₀ (Holds used moves)
+    going-done l = all-lead step n im₀ im t₀ t used₀ moves₀ (Holds used moves) (in-done step n 0 n (omega arith) im₀ im t₀ t rows used₀ moves₀ used moves i all going l)
+
+    pub going-begins : i < n → Begins 1 t rows used moves
+    going-begins = in-begins step n 0 n (omega arith) im₀ im t₀ t rows used₀ moves₀ used moves i all going
+
+    module _ (more : i < n) (im′ : List ℕ) (u : Slices) where
+      pub going-stop : (r : ElfError) → Settles (step i im) im′ t u 1 used moves (Refused r) → Settles (each step n 0 im₀) im′ t₀ u n used₀ moves₀ (Refused r)
+      going-stop r did = all-lead step n im₀ im′ t₀ u used₀ moves₀ (Refused r) (in-stop step n 0 n (omega arith) im₀ im t₀ t rows used₀ moves₀ used moves i all going more im′ u r im′ did)
+
+      pub going-on : (used′ moves′ : ℕ) → SameLens t u → length im′ ≡ length im → Settles (step i im) im′ t u 1 used moves (Holds used′ moves′) → Going step n im₀ im′ t₀ u used₀ moves₀ used′ moves′ (i + 1)
+      going-on = in-on step n 0 n (omega arith) im₀ im t₀ t rows used₀ moves₀ used moves i all going more im′ u

@@ -5,6 +5,8 @@ pub mod Performing
 pub mod Rowing
 pub mod Ascents
 pub mod Slots
+pub mod Ahead
+pub mod Targeting
 pub mod Symbols
 pub mod Forgetting
 pub mod Turns

@@ -93,10 +93,6 @@ begins-all file j t rows f r z =
       room = record { few = omega (arith, few); moved = omega (arith, few) };
     }
 
--- the image that is settled is the file's
-pub filled : (file builtins : List ℕ) (j : Job) (im im′ : List ℕ) (t u : Slices) (n : ℕ) (a : Outcome) → im ≡ file → Settles (jobTrace file builtins j im) im′ t u n 0 0 a → Settles (jobTrace file builtins j file) im′ t u n 0 0 a
-filled file builtins j im im′ t u n a e did = subst (λ (im : List ℕ). Settles (jobTrace file builtins j im) im′ t u n 0 0 a) e did
-
 -- ---- the image with everything behind its first n bytes cleared
 
 module _ (n : ℕ) (im z : List ℕ) (fits : n ≤ length im) (clear : z ≡ replicate (length (midOf n (length im - n) im)) 0) where

@@ -20,7 +20,7 @@ none-keyed : Keyed []
 unfolding keyIn
 none-keyed i = refl
 
-same-key : (t : List ℕ) (version2 : Bool) (name : FunctionName) (index : ℕ) → Keyed t → legacyKey t version2 name index ≡ legacyKey [] version2 name index
+pub same-key : (t : List ℕ) (version2 : Bool) (name : FunctionName) (index : ℕ) → Keyed t → legacyKey t version2 name index ≡ legacyKey [] version2 name index
 unfolding legacyKey
 same-key t version2 name index h = let e : keyIn t index ≡ keyIn [] index = h index ∙ sym (none-keyed index) in rw e refl
 

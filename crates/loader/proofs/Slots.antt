@@ -29,7 +29,7 @@ use Rattle.loader.specs.Deeds.{DeedFits, deedTrace}
 use Rattle.loader.specs.Trace.{andThen, each}
 use Rattle.loader.specs.Calls.{nextCall, callOf, callAt, textOf, slotCount, immediate, callRow, callBy, callDeed, slotTrace}
 use Rattle.loader.specs.Contracts.{InFile, Begins, Settles}
-use Rattle.loader.proofs.Going.{Going, going-ahead}
+use Rattle.loader.proofs.Going.{GoingIn, in-ahead}
 
 row-fits : (n at : ℕ) (r : Legacy) → at + 4 ≤ n → DeedFits n (callRow at r)
 row-fits n at (Free row) h = h
@@ -40,10 +40,10 @@ by-fits builtins j i n None h = tt
 by-fits builtins j i n Outside h = tt
 by-fits builtins j i n (To index) h = row-fits n (immediate j i) (rowFor builtins j OfIndex index) h
 
--- a slot's immediate lies in the image
-pub call-fits : (file builtins : List ℕ) (j : Job) (i n : ℕ) → InFile file j → i < slotCount j → length file ≤ n → DeedFits n (callDeed file builtins j i)
+-- a slot's immediate lies in an image of n bytes
+pub call-fits-in : (file builtins : List ℕ) (j : Job) (i n : ℕ) → immediate j i + 4 ≤ n → DeedFits n (callDeed file builtins j i)
 unfolding callDeed
-call-fits file builtins j i n inside h l = by-fits builtins j i n (callAt (textOf file j) (j .version2) i) (omega (arith, inside .text))
+call-fits-in file builtins j i n h = by-fits builtins j i n (callAt (textOf file j) (j .version2) i) h
 
 -- a slot that is there is one of the text's whole slots
 pub whole-slot : (text : List ℕ) (i : ℕ) (insn : Insn) → insnAt text i ≡ Holds insn → i < length text / 8
@@ -88,37 +88,41 @@ next-bounds file start (suc n) i = go (eqb (getD file (start + 8 * i) 0) 0x85) (
     go true h = (omega arith, omega arith)
     go false h = (omega (arith, h .0), omega (arith, h .1))
 
--- so what n slots ask for is what those from the next call on ask for
+-- so what slots ask for is what those from the next call on ask for
 module _ (file builtins : List ℕ) (j : Job) (inside : InFile file j) (im : List ℕ) where
   passed : (n i : ℕ) → callDeed file builtins j i ≡ Skip → each (slotTrace file builtins j) (suc n) i im ≡ each (slotTrace file builtins j) n (i + 1) im
   unfolding slotTrace deedTrace each andThen
   passed n i e = rw e refl
 
-  pub skipped : (n i : ℕ) → i + n ≤ slotCount j
-      → each (slotTrace file builtins j) n i im ≡ each (slotTrace file builtins j) (i + n - nextCall file (j .start) n i) (nextCall file (j .start) n i) im
+  -- those from the next call on, among the first n of n + m
+  pub skipped : (n m i : ℕ) → i + n + m ≤ slotCount j
+      → each (slotTrace file builtins j) (n + m) i im ≡ each (slotTrace file builtins j) (i + n + m - nextCall file (j .start) n i) (nextCall file (j .start) n i) im
   unfolding nextCall _if_else_
-  skipped zero i h = let e : i + 0 - i ≡ 0 = omega arith in rw e refl
-  skipped (suc n) i h = go (eqb (getD file (j .start + 8 * i) 0) 0x85) refl (λ k. skipped n (i + 1) k)
+  skipped zero m i h = let e : i + 0 + m - i ≡ 0 + m = omega arith in rw e refl
+  skipped (suc n) m i h = go (eqb (getD file (j .start + 8 * i) 0) 0x85) refl (λ k. skipped n m (i + 1) k)
     where
       go : (b : Bool) → eqb (getD file (j .start + 8 * i) 0) 0x85 ≡ b
-          → (i + 1 + n ≤ slotCount j → each (slotTrace file builtins j) n (i + 1) im ≡ each (slotTrace file builtins j) (i + 1 + n - nextCall file (j .start) n (i + 1)) (nextCall file (j .start) n (i + 1)) im)
-          → each (slotTrace file builtins j) (suc n) i im ≡ each (slotTrace file builtins j) (i + suc n - (i if b else nextCall file (j .start) n (i + 1))) (i if b else nextCall file (j .start) n (i + 1)) im
-      go true e rec = let k : i + suc n - i ≡ suc n = omega arith in rw k refl
+          → (i + 1 + n + m ≤ slotCount j → each (slotTrace file builtins j) (n + m) (i + 1) im ≡ each (slotTrace file builtins j) (i + 1 + n + m - nextCall file (j .start) n (i + 1)) (nextCall file (j .start) n (i + 1)) im)
+          → each (slotTrace file builtins j) (suc n + m) i im ≡ each (slotTrace file builtins j) (i + suc n + m - (i if b else nextCall file (j .start) n (i + 1))) (i if b else nextCall file (j .start) n (i + 1)) im
+      go true e rec = let k : i + suc n + m - i ≡ suc n + m = omega arith in rw k refl
       go false e rec =
-          let k : i + suc n ≡ i + 1 + n = omega arith in
-          passed n i (no-call file builtins j inside i (omega arith) (eqb-false _ _ e)) ∙ rec (omega arith) ∙ rw k refl
+          let k : i + suc n + m ≡ i + 1 + n + m = omega arith in
+          let q : suc n + m ≡ suc (n + m) = omega arith in
+          rw q (passed (n + m) i (no-call file builtins j inside i (omega arith) (eqb-false _ _ e)) ∙ rec (omega arith) ∙ rw k refl)
 
--- a loop over the slots goes on at the next call
+-- a loop over the slots up to number to goes on at the next call
 pub calls-ahead : (file builtins : List ℕ) (j : Job) → InFile file j
+    → (o to : ℕ) → to ≤ slotCount j
     → (im₀ im : List ℕ) (t₀ t : Slices) (rows used₀ moves₀ used moves i k : ℕ)
-    → Begins (slotCount j) t₀ rows used₀ moves₀
-    → Going (slotTrace file builtins j) (slotCount j) im₀ im t₀ t used₀ moves₀ used moves i
-    → k ≡ nextCall file (j .start) (slotCount j - i) i
-    → Going (slotTrace file builtins j) (slotCount j) im₀ im t₀ t used₀ moves₀ used moves k
-calls-ahead file builtins j inside im₀ im t₀ t rows used₀ moves₀ used moves i k b g e =
-    let h : i ≤ slotCount j = g .passed in
+    → Begins (to - o) t₀ rows used₀ moves₀
+    → GoingIn (slotTrace file builtins j) (slotCount j) o to im₀ im t₀ t used₀ moves₀ used moves i
+    → k ≡ nextCall file (j .start) (to - i) i
+    → GoingIn (slotTrace file builtins j) (slotCount j) o to im₀ im t₀ t used₀ moves₀ used moves k
+calls-ahead file builtins j inside o to l im₀ im t₀ t rows used₀ moves₀ used moves i k b g e =
+    let h : i ≤ to = g .passed in
     let n = slotCount j in
-    let at : i + (n - i) ≡ n = omega (arith, h) in
-    let bounds = next-bounds file (j .start) (n - i) i in
-    let on = skipped file builtins j inside im (n - i) i (omega (arith, h)) in
-    going-ahead (slotTrace file builtins j) n im₀ im t₀ t rows used₀ moves₀ used moves i b g k (omega (arith, bounds .0, e)) (omega (arith, bounds .1, e, h)) (on ∙ rw (at, e) refl)
+    let at : to - i + (n - to) ≡ n - i = omega (arith, h) in
+    let up : i + (to - i) + (n - to) ≡ n = omega (arith, h) in
+    let bounds = next-bounds file (j .start) (to - i) i in
+    let on = skipped file builtins j inside im (to - i) (n - to) i (omega (arith, up)) in
+    in-ahead (slotTrace file builtins j) n o to l im₀ im t₀ t rows used₀ moves₀ used moves i b g k (omega (arith, bounds .0, e)) (omega (arith, bounds .1, e, h)) (rw (at, up, ← e) at on)

@@ -13,6 +13,7 @@ pub mod Deeds
 pub mod Entry
 pub mod Contracts
 pub mod Calls
+pub mod CallLoop
 pub mod Relocations
 pub mod Labels
 pub mod RelocationExamples

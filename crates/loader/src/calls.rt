@@ -1,22 +1,28 @@
 // Local calls: each slot of the text that calls another slot, read in the file before any relocation.
-use crate::deeds::Deed;
 use crate::deeds::Outcome;
-use crate::deeds::perform;
+use crate::deeds::enter_alike;
+use crate::deeds::store_u32;
 use crate::error::ElfError;
-use crate::functions::row_for;
+use crate::read_only::copy_bytes;
 use crate::validate::Job;
 use ebpf::CALL_IMM;
 use ebpf::Insn;
 use ebpf::Slot;
 use ebpf::get_insn;
 use program::FunctionName;
-use program::Legacy;
+use program::Row;
+use program::is_taken;
+use program::kept_name;
+use program::legacy_key;
 ghost use mathlib.Core.Path.{_≡_};
-ghost use Prim.Native.Nat.{_+_, _-_, _*_, _/_, _≤_, _<_, _^_};
-ghost use lib.ListN.{length, take, drop};
-ghost use Rattle.program.specs.Table.{slices};
-ghost use Rattle.loader.specs.Functions.{Keyed};
-ghost use Rattle.loader.specs.Calls.{inside, target, callOf, callAt, callRow, callDeed, slotCount, slotTrace, callsTrace, nextCall};
+ghost use Prim.Native.Nat.{_+_, _-_, _*_, _/_, _%_, _≤_, _<_, _^_, min};
+ghost use lib.Dec.{eqb};
+ghost use lib.ListN.{length, take, drop, getD, set};
+ghost use Rattle.program.specs.declared.FunctionName.the-variants.{OfIndex};
+ghost use Rattle.program.specs.Table.{slices, Alike};
+ghost use Rattle.loader.specs.Functions.{Keyed, rowFor};
+ghost use Rattle.loader.specs.Calls.{inside, target, callOf, callAt, slotCount, slotTrace, callsTrace, nextCall};
+ghost use Rattle.loader.specs.CallLoop.{ahead, targetKey, targetRow, CallsHeld, StillHeld, StillAlike, Targets, Leads};
 ghost use Rattle.loader.specs.Contracts.{InFile, Begins, Settles};
 
 // What a slot calls.
@@ -78,26 +84,6 @@ fn call_at(text: &[u8], version2: bool, i: usize) -> Call
     }
 }
 
-// What a load does about slot number `i` of the job's text.
-fn call_deed(file: &[u8], builtins: &[u32], table: &[u32], job: Job, i: usize) -> Deed
-    requires { ⌜ InFile (now file) job × Keyed (now table) × (i < slotCount job) ⌝ }
-    ensures { λ r. ⌜ r ≡ callDeed (now (file .entry)) (now (builtins .entry)) job i ⌝ }
-{
-    let start = job.start;
-    let end = start + job.length;
-    match call_at(&file[start..end], job.version2, i) {
-        Call::None => Deed::Skip,
-        Call::Outside => Deed::Refuse(ElfError::RelativeJumpOutOfBounds { slot: i as u64 }),
-        Call::To(index) => {
-            let at = start + 8 * i + 4;
-            match row_for(table, builtins, job, FunctionName::OfIndex, index) {
-                Legacy::Free(row) => Deed::Register { row, at },
-                Legacy::Taken(key) => Deed::Refuse(ElfError::SymbolHashCollision { key }),
-            }
-        }
-    }
-}
-
 // The first slot from `from` on, of `count`, with a call's opcode; `count` where none has it. Most
 // slots call nothing, and this looks at one byte of them.
 fn next_call(file: &[u8], start: usize, from: usize, count: usize) -> usize
@@ -114,7 +100,192 @@ fn next_call(file: &[u8], start: usize, from: usize, count: usize) -> usize
     at
 }
 
-// Every slot in turn, up to the first refusal.
+// How many targets of calls are kept in mind, and how many slots are copied at a time.
+const SEEN: usize = 1024;
+
+const COPIED: usize = 512;
+
+// Whether a call's target was registered before, as far as that is in mind. Most calls repeat a
+// target, and then the table need not be searched.
+fn is_seen(seen: &[u32], index: u32) -> bool
+    requires { ⌜ (1024 ≤ length (now seen)) × (index < 2 ^ 24) ⌝ }
+    ensures { λ r. ⌜ r ≡ eqb (getD (now (seen .entry)) (index % 1024) 0) (index + 1) ⌝ }
+{
+    let at = index as usize % SEEN;
+    seen[at] == index + 1
+}
+
+fn see(seen: &mut [u32], index: u32)
+    requires { ⌜ (1024 ≤ length (now seen)) × (index < 2 ^ 24) ⌝ }
+    ensures { λ _. ⌜ now (seen .exit) ≡ set (now (seen .entry)) (index % 1024) (index + 1) ⌝ }
+{
+    let at = index as usize % SEEN;
+    seen[at] = index + 1;
+}
+
+// A target is registered, under its key.
+fn register_target(
+    keys: &mut [u32],
+    indices: &mut [u32],
+    kinds: &mut [u32],
+    starts: &mut [u32],
+    lengths: &mut [u32],
+    builtins: &[u32],
+    job: Job,
+    rows: u64,
+    used: usize,
+    moves: u64,
+    key: u32,
+    index: u32,
+) -> Outcome
+    requires { ⌜ (key ≡ targetKey job index) × Begins 1 (slices (now keys) (now indices) (now kinds) (now starts) (now lengths)) rows used moves × Alike (slices (now keys) (now indices) (now kinds) (now starts) (now lengths)) used (targetRow job) ⌝ }
+    ensures { λ r. ⌜ Targets (rowFor (now (builtins .entry)) job OfIndex index) (slices (now (keys .entry)) (now (indices .entry)) (now (kinds .entry)) (now (starts .entry)) (now (lengths .entry))) (slices (now (keys .exit)) (now (indices .exit)) (now (kinds .exit)) (now (starts .exit)) (now (lengths .exit))) used moves r × StillAlike (targetRow job) (slices (now (keys .exit)) (now (indices .exit)) (now (kinds .exit)) (now (starts .exit)) (now (lengths .exit))) r ⌝ }
+{
+    if is_taken(builtins, job.version2, job.check_collision, key) {
+        return Outcome::Refused(ElfError::SymbolHashCollision { key });
+    }
+    let name = kept_name(job.labels, FunctionName::OfIndex);
+    let row = Row {
+        key,
+        index,
+        kind: name.kind,
+        start: name.start,
+        length: name.length,
+    };
+    enter_alike(
+        keys,
+        indices,
+        kinds,
+        starts,
+        lengths,
+        rows,
+        used,
+        moves,
+        row,
+    )
+}
+
+// A slot of the job's text: the key of what it calls is written, and the target registered.
+fn call_step(
+    image: &mut [u8],
+    keys: &mut [u32],
+    indices: &mut [u32],
+    kinds: &mut [u32],
+    starts: &mut [u32],
+    lengths: &mut [u32],
+    seen: &mut [u32],
+    file: &[u8],
+    builtins: &[u32],
+    table: &[u32],
+    job: Job,
+    rows: u64,
+    used: usize,
+    moves: u64,
+    i: usize,
+) -> Outcome
+    requires { ⌜ InFile (now file) job × Keyed (now table) × (length (now image) ≡ length (now file)) × (i < slotCount job) × Begins 1 (slices (now keys) (now indices) (now kinds) (now starts) (now lengths)) rows used moves × CallsHeld (now builtins) job (now seen) (slices (now keys) (now indices) (now kinds) (now starts) (now lengths)) used ⌝ }
+    ensures { λ r. ⌜ Settles (slotTrace (now (file .entry)) (now (builtins .entry)) job i (now (image .entry))) (now (image .exit)) (slices (now (keys .entry)) (now (indices .entry)) (now (kinds .entry)) (now (starts .entry)) (now (lengths .entry))) (slices (now (keys .exit)) (now (indices .exit)) (now (kinds .exit)) (now (starts .exit)) (now (lengths .exit))) 1 used moves r × StillHeld (now (builtins .entry)) job (now (seen .exit)) (slices (now (keys .exit)) (now (indices .exit)) (now (kinds .exit)) (now (starts .exit)) (now (lengths .exit))) r ⌝ }
+{
+    let start = job.start;
+    let end = start + job.length;
+    match call_at(&file[start..end], job.version2, i) {
+        Call::None => Outcome::Holds(used, moves),
+        Call::Outside => Outcome::Refused(ElfError::RelativeJumpOutOfBounds { slot: i as u64 }),
+        Call::To(index) => {
+            let key = legacy_key(table, job.version2, FunctionName::OfIndex, index);
+            store_u32(image, start + 8 * i + 4, key);
+            if is_seen(seen, index) {
+                return Outcome::Holds(used, moves);
+            }
+            see(seen, index);
+            register_target(
+                keys,
+                indices,
+                kinds,
+                starts,
+                lengths,
+                builtins,
+                job,
+                rows,
+                used,
+                moves,
+                key,
+                index,
+            )
+        }
+    }
+}
+
+// The slots from number `from` up to `to`, whose bytes are in the image, in turn, up to the first
+// refusal.
+fn register_slots(
+    image: &mut [u8],
+    keys: &mut [u32],
+    indices: &mut [u32],
+    kinds: &mut [u32],
+    starts: &mut [u32],
+    lengths: &mut [u32],
+    seen: &mut [u32],
+    file: &[u8],
+    builtins: &[u32],
+    table: &[u32],
+    job: Job,
+    rows: u64,
+    held: usize,
+    moved: u64,
+    from: usize,
+    to: usize,
+) -> Outcome
+    requires { ⌜ InFile (now file) job × Keyed (now table) × (length (now image) ≡ length (now file)) × (from ≤ to) × (to ≤ slotCount job) × Begins (to - from) (slices (now keys) (now indices) (now kinds) (now starts) (now lengths)) rows held moved × CallsHeld (now builtins) job (now seen) (slices (now keys) (now indices) (now kinds) (now starts) (now lengths)) held ⌝ }
+    ensures { λ r. ⌜ Leads (slotTrace (now (file .entry)) (now (builtins .entry)) job) (slotCount job) from to (ahead (job .start + 8 * to) (now (image .entry)) (now (file .entry))) (ahead (job .start + 8 * to) (now (image .exit)) (now (file .entry))) (slices (now (keys .entry)) (now (indices .entry)) (now (kinds .entry)) (now (starts .entry)) (now (lengths .entry))) (slices (now (keys .exit)) (now (indices .exit)) (now (kinds .exit)) (now (starts .exit)) (now (lengths .exit))) held moved r × StillHeld (now (builtins .entry)) job (now (seen .exit)) (slices (now (keys .exit)) (now (indices .exit)) (now (kinds .exit)) (now (starts .exit)) (now (lengths .exit))) r ⌝ }
+{
+    let start = job.start;
+    let mut used = held;
+    let mut moves = moved;
+    let mut i = next_call(file, start, from, to);
+    while i < to {
+        match call_step(
+            image,
+            keys,
+            indices,
+            kinds,
+            starts,
+            lengths,
+            seen,
+            file,
+            builtins,
+            table,
+            job,
+            rows,
+            used,
+            moves,
+            i,
+        ) {
+            Outcome::Refused(r) => return Outcome::Refused(r),
+            Outcome::Holds(u, m) => {
+                used = u;
+                moves = m;
+                i = next_call(file, start, i + 1, to);
+            }
+        }
+    }
+    Outcome::Holds(used, moves)
+}
+
+// Where the run of slots from number `i` on ends.
+fn run_end(i: usize, count: usize) -> usize
+    requires { ⌜ i < count ⌝ }
+    ensures { λ r. ⌜ r ≡ i + min 512 (count - i) ⌝ }
+{
+    let left = count - i;
+    if left < COPIED {
+        return count;
+    }
+    i + COPIED
+}
+
+// The file's bytes go into the image, and the calls of all slots are registered in turn, up to the
+// first refusal: a run of slots is copied and then looked at, while its bytes are near.
 pub(crate) fn register_calls(
     image: &mut [u8],
     keys: &mut [u32],
@@ -127,38 +298,48 @@ pub(crate) fn register_calls(
     table: &[u32],
     job: Job,
     rows: u64,
-    held: usize,
-    moved: u64,
 ) -> Outcome
-    requires { ⌜ InFile (now file) job × Keyed (now table) × (length (now image) ≡ length (now file)) × Begins (slotCount job) (slices (now keys) (now indices) (now kinds) (now starts) (now lengths)) rows held moved ⌝ }
-    ensures { λ r. ⌜ Settles (callsTrace (now (file .entry)) (now (builtins .entry)) job (now (image .entry))) (now (image .exit)) (slices (now (keys .entry)) (now (indices .entry)) (now (kinds .entry)) (now (starts .entry)) (now (lengths .entry))) (slices (now (keys .exit)) (now (indices .exit)) (now (kinds .exit)) (now (starts .exit)) (now (lengths .exit))) (slotCount job) held moved r ⌝ }
+    requires { ⌜ InFile (now file) job × Keyed (now table) × (length (now image) ≡ length (now file)) × Begins (slotCount job) (slices (now keys) (now indices) (now kinds) (now starts) (now lengths)) rows 0 0 ⌝ }
+    ensures { λ r. ⌜ Settles (callsTrace (now (file .entry)) (now (builtins .entry)) job (now (file .entry))) (now (image .exit)) (slices (now (keys .entry)) (now (indices .entry)) (now (kinds .entry)) (now (starts .entry)) (now (lengths .entry))) (slices (now (keys .exit)) (now (indices .exit)) (now (kinds .exit)) (now (starts .exit)) (now (lengths .exit))) (slotCount job) 0 0 r ⌝ }
 {
     let start = job.start;
     let count = job.length / 8;
-    let mut used = held;
-    let mut moves = moved;
-    let mut i = next_call(file, start, 0, count);
+    let end = start + 8 * count;
+    let mut seen = [0u32; SEEN];
+    copy_bytes(image, file, 0, 0, start);
+    let mut used = 0;
+    let mut moves = 0;
+    let mut i = 0;
     while i < count {
-        let deed = call_deed(file, builtins, table, job, i);
-        match perform(
+        let to = run_end(i, count);
+        let at = start + 8 * i;
+        copy_bytes(image, file, at, at, 8 * (to - i));
+        match register_slots(
             image,
             keys,
             indices,
             kinds,
             starts,
             lengths,
+            &mut seen,
+            file,
+            builtins,
+            table,
+            job,
             rows,
             used,
             moves,
-            deed,
+            i,
+            to,
         ) {
             Outcome::Refused(r) => return Outcome::Refused(r),
             Outcome::Holds(u, m) => {
                 used = u;
                 moves = m;
-                i = next_call(file, start, i + 1, count);
+                i = to;
             }
         }
     }
+    copy_bytes(image, file, end, end, file.len() - end);
     Outcome::Holds(used, moves)
 }

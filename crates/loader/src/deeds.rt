@@ -6,10 +6,11 @@ use program::Row;
 ghost use mathlib.Core.Path.{_≡_};
 ghost use Prim.Native.Nat.{_+_, _/_, _%_, _≤_, _<_, _^_};
 ghost use lib.ListN.{length};
-ghost use Rattle.program.specs.Table.{slices};
+ghost use Rattle.program.specs.Table.{slices, Alike};
 ghost use Rattle.program.specs.Runs.{movesOf};
 ghost use Rattle.loader.specs.Bytes.{put};
 ghost use Rattle.loader.specs.Deeds.{DeedFits, written, entryOf, deedTrace};
+ghost use Rattle.loader.specs.CallLoop.{StillAlike};
 ghost use Rattle.loader.specs.Contracts.{enteredBy, finishedBy, Begins, Enters, Settles};
 
 pub enum Deed {
@@ -155,6 +156,26 @@ pub(crate) fn enter(
 {
     let key = row.key;
     let answer = program::register_function(keys, indices, kinds, starts, lengths, used, row);
+    entered(answer, used, moves, key, rows)
+}
+
+// Registers one row, of the name that every row used has.
+pub(crate) fn enter_alike(
+    keys: &mut [u32],
+    indices: &mut [u32],
+    kinds: &mut [u32],
+    starts: &mut [u32],
+    lengths: &mut [u32],
+    rows: u64,
+    used: usize,
+    moves: u64,
+    row: Row,
+) -> Outcome
+    requires { ⌜ Begins 1 (slices (now keys) (now indices) (now kinds) (now starts) (now lengths)) rows used moves × Alike (slices (now keys) (now indices) (now kinds) (now starts) (now lengths)) used row ⌝ }
+    ensures { λ r. ⌜ Enters row (slices (now (keys .entry)) (now (indices .entry)) (now (kinds .entry)) (now (starts .entry)) (now (lengths .entry))) (slices (now (keys .exit)) (now (indices .exit)) (now (kinds .exit)) (now (starts .exit)) (now (lengths .exit))) used moves r × StillAlike row (slices (now (keys .exit)) (now (indices .exit)) (now (kinds .exit)) (now (starts .exit)) (now (lengths .exit))) r ⌝ }
+{
+    let key = row.key;
+    let answer = program::register_alike(keys, indices, kinds, starts, lengths, used, row);
     entered(answer, used, moves, key, rows)
 }
 

@@ -1,4 +1,4 @@
-// The lent slices cleared, the file copied, and the parts of a load one after another.
+// The lent slices cleared, and the parts of a load one after another.
 use crate::deeds::Outcome;
 use crate::parts::calls_and_relocations;
 use crate::parts::labels_and_entry;
@@ -34,19 +34,6 @@ fn clear_words(s: &mut [u32])
     let mut i = 0;
     while i < s.len() {
         s[i] = 0;
-        i += 1;
-    }
-}
-
-// The file's bytes, into as many.
-fn copy_file(s: &mut [u8], file: &[u8])
-    requires { ⌜ length (now s) ≡ length (now file) ⌝ }
-    ensures { λ _. ⌜ now (s .exit) ≡ now (file .entry) ⌝ }
-{
-    let mut i = 0;
-    while i < s.len() {
-        let b = file[i];
-        s[i] = b;
         i += 1;
     }
 }
@@ -107,11 +94,9 @@ pub(crate) fn all_parts(
     table: &[u32],
     job: Job,
     rows: u64,
-    used: usize,
-    moves: u64,
 ) -> Outcome
-    requires { ⌜ InFile (now file) job × Keyed (now table) × (length (now image) ≡ length (now file)) × Begins (allCount (now file) job) (slices (now keys) (now indices) (now kinds) (now starts) (now lengths)) rows used moves ⌝ }
-    ensures { λ r. ⌜ Settles (jobTrace (now (file .entry)) (now (builtins .entry)) job (now (image .entry))) (now (image .exit)) (slices (now (keys .entry)) (now (indices .entry)) (now (kinds .entry)) (now (starts .entry)) (now (lengths .entry))) (slices (now (keys .exit)) (now (indices .exit)) (now (kinds .exit)) (now (starts .exit)) (now (lengths .exit))) (allCount (now (file .entry)) job) used moves r ⌝ }
+    requires { ⌜ InFile (now file) job × Keyed (now table) × (length (now image) ≡ length (now file)) × Begins (allCount (now file) job) (slices (now keys) (now indices) (now kinds) (now starts) (now lengths)) rows 0 0 ⌝ }
+    ensures { λ r. ⌜ Settles (jobTrace (now (file .entry)) (now (builtins .entry)) job (now (file .entry))) (now (image .exit)) (slices (now (keys .entry)) (now (indices .entry)) (now (kinds .entry)) (now (starts .entry)) (now (lengths .entry))) (slices (now (keys .exit)) (now (indices .exit)) (now (kinds .exit)) (now (starts .exit)) (now (lengths .exit))) (allCount (now (file .entry)) job) 0 0 r ⌝ }
 {
     match calls_and_relocations(
         image,
@@ -125,8 +110,6 @@ pub(crate) fn all_parts(
         table,
         job,
         rows,
-        used,
-        moves,
     ) {
         Outcome::Refused(r) => Outcome::Refused(r),
         Outcome::Holds(u, m) => {
@@ -149,41 +132,6 @@ pub(crate) fn all_parts(
             after_placing(a, placing)
         }
     }
-}
-
-// The image of a file that passed the checks, in as many bytes, and the table.
-pub(crate) fn fill(
-    image: &mut [u8],
-    keys: &mut [u32],
-    indices: &mut [u32],
-    kinds: &mut [u32],
-    starts: &mut [u32],
-    lengths: &mut [u32],
-    file: &[u8],
-    builtins: &[u32],
-    table: &[u32],
-    job: Job,
-    rows: u64,
-) -> Outcome
-    requires { ⌜ InFile (now file) job × Keyed (now table) × (length (now image) ≡ length (now file)) × (rows ≡ capacity (slices (now keys) (now indices) (now kinds) (now starts) (now lengths))) × ((slices (now keys) (now indices) (now kinds) (now starts) (now lengths)) ≡ lay (slices (now keys) (now indices) (now kinds) (now starts) (now lengths)) []) ⌝ }
-    ensures { λ r. ⌜ Settles (jobTrace (now (file .entry)) (now (builtins .entry)) job (now (file .entry))) (now (image .exit)) (slices (now (keys .entry)) (now (indices .entry)) (now (kinds .entry)) (now (starts .entry)) (now (lengths .entry))) (slices (now (keys .exit)) (now (indices .exit)) (now (kinds .exit)) (now (starts .exit)) (now (lengths .exit))) (allCount (now (file .entry)) job) 0 0 r ⌝ }
-{
-    copy_file(image, file);
-    all_parts(
-        image,
-        keys,
-        indices,
-        kinds,
-        starts,
-        lengths,
-        file,
-        builtins,
-        table,
-        job,
-        rows,
-        0,
-        0,
-    )
 }
 
 // The read-only sections' bytes, where they are copied.
@@ -229,7 +177,7 @@ pub(crate) fn fill_all(
 {
     let layout = job.layout;
     let placing = job.placing;
-    match fill(
+    match all_parts(
         image,
         keys,
         indices,

@@ -29,11 +29,9 @@ pub(crate) fn calls_and_relocations(
     table: &[u32],
     job: Job,
     rows: u64,
-    used: usize,
-    moves: u64,
 ) -> Outcome
-    requires { ⌜ InFile (now file) job × Keyed (now table) × (length (now image) ≡ length (now file)) × Begins (slotCount job + job .layout .«dynamic_relocations» .count) (slices (now keys) (now indices) (now kinds) (now starts) (now lengths)) rows used moves ⌝ }
-    ensures { λ r. ⌜ Settles (writingTrace (now (file .entry)) (now (builtins .entry)) job (now (image .entry))) (now (image .exit)) (slices (now (keys .entry)) (now (indices .entry)) (now (kinds .entry)) (now (starts .entry)) (now (lengths .entry))) (slices (now (keys .exit)) (now (indices .exit)) (now (kinds .exit)) (now (starts .exit)) (now (lengths .exit))) (slotCount job + job .layout .«dynamic_relocations» .count) used moves r ⌝ }
+    requires { ⌜ InFile (now file) job × Keyed (now table) × (length (now image) ≡ length (now file)) × Begins (slotCount job + job .layout .«dynamic_relocations» .count) (slices (now keys) (now indices) (now kinds) (now starts) (now lengths)) rows 0 0 ⌝ }
+    ensures { λ r. ⌜ Settles (writingTrace (now (file .entry)) (now (builtins .entry)) job (now (file .entry))) (now (image .exit)) (slices (now (keys .entry)) (now (indices .entry)) (now (kinds .entry)) (now (starts .entry)) (now (lengths .entry))) (slices (now (keys .exit)) (now (indices .exit)) (now (kinds .exit)) (now (starts .exit)) (now (lengths .exit))) (slotCount job + job .layout .«dynamic_relocations» .count) 0 0 r ⌝ }
 {
     match register_calls(
         image,
@@ -47,8 +45,6 @@ pub(crate) fn calls_and_relocations(
         table,
         job,
         rows,
-        used,
-        moves,
     ) {
         Outcome::Refused(r) => Outcome::Refused(r),
         Outcome::Holds(u, m) => apply_relocations(

@@ -278,7 +278,7 @@ pub(crate) fn place_gathered(
 }
 
 // The bytes of `from` from `start` on, `n` of them, go to `at`.
-fn copy_bytes(to: &mut [u8], from: &[u8], at: usize, start: usize, n: usize)
+pub(crate) fn copy_bytes(to: &mut [u8], from: &[u8], at: usize, start: usize, n: usize)
     requires { ⌜ (at + n ≤ length (now to)) × (start + n ≤ length (now from)) ⌝ }
     ensures { λ _. ⌜ now (to .exit) ≡ paste (now (to .entry)) at (drop start (now (from .entry))) n ⌝ }
 {

@@ -104,7 +104,7 @@ pub fn is_builtin(builtins: &[u32], key: u32) -> bool
 }
 
 // Whether a built-in has the key already: asked in version 1 with the check on only.
-fn is_taken(builtins: &[u32], version2: bool, check: bool, key: u32) -> bool
+pub fn is_taken(builtins: &[u32], version2: bool, check: bool, key: u32) -> bool
     ensures { λ r. ⌜ r ≡ isTaken (now (builtins .entry)) version2 check key ⌝ }
 {
     if version2 {

@@ -9,6 +9,7 @@ mod search;
 
 pub use columns::rows_lent;
 pub use hashed_legacy::is_builtin;
+pub use hashed_legacy::is_taken;
 pub use hashed_legacy::kept_name;
 pub use hashed_legacy::legacy_key;
 pub use hashed_legacy::legacy_row;

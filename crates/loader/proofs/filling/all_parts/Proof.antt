@@ -35,7 +35,7 @@ U₂ p = let l = p .labels-and-entry .last in slices (l .1 .0) (l .1 .1 .0) (l .
 
 -- the two pairs, and how many registrations each may make
 abbrev first : tie.Start → Trace
-first s = writingTrace (now (s .args .file)) (now (s .args .builtins)) (s .args .job) (s .args .image .now)
+first s = writingTrace (now (s .args .file)) (now (s .args .builtins)) (s .args .job) (now (s .args .file))
 
 abbrev second : tie.Start → List ℕ → Trace
 second s im = namingTrace (now (s .args .file)) (now (s .args .builtins)) (s .args .job) im
@@ -50,7 +50,7 @@ lens : (p : tie.After-calls-and-relocations) → SameLens (T (st p)) (U p)
 lens p = let k = p .calls-and-relocations .kept in record { keys-as = k .1 .0; indices-as = k .1 .1 .0; kinds-as = k .1 .1 .1 .0; starts-as = k .1 .1 .1 .1 .0; lengths-as = k .1 .1 .1 .1 .1 .0 }
 
 abbrev Did : tie.After-calls-and-relocations → Outcome → Type 0
-Did p a = let s = st p in Settles (first s) (image p) (T s) (U p) (n s) (s .args .used) (s .args .moves) a
+Did p a = let s = st p in Settles (first s) (image p) (T s) (U p) (n s) 0 0 a
 
 did : (p : tie.After-calls-and-relocations) (b : Outcome) → p .calls-and-relocations .result ≡ b → Did p b
 did p b e = subst (Did p) e (p .calls-and-relocations .ensures)
@@ -58,20 +58,20 @@ did p b e = subst (Did p) e (p .calls-and-relocations .ensures)
 calls-and-relocations-requires : tie.Need-calls-and-relocations-requires
 calls-and-relocations-requires c κs =
     let s = c .before .before .before .before .before .before .before .before .before .before .before .before .before .before .before in
-    (s .pre .0, s .pre .1, s .pre .2, begins-fewer (n s) (m s) (T s) (s .args .rows) (s .args .used) (s .args .moves) (s .pre .3))
+    (s .pre .0, s .pre .1, s .pre .2, begins-fewer (n s) (m s) (T s) (s .args .rows) 0 0 (s .pre .3))
 
 labels-and-entry-requires : tie.Need-labels-and-entry-requires
 labels-and-entry-requires c κs =
     let p = c .before .before .before .before .before .before .before .before .before .before .before .before .before .before .before .before .before .before .before .before .before in
     let s = st p in
     let g = c .before .before .before .before .before .before .before .u .given in
-    (s .pre .0, s .pre .1, p .calls-and-relocations .kept .0 ∙ s .pre .2, begins-then (first s) (second s) (image p) (image p) (T s) (U p) (U p) (n s) (m s) (s .args .used) (s .args .moves) (g .0 .0) (g .0 .1 .0) (lens p) (did p _ (g .1)) (s .args .rows) (s .pre .3))
+    (s .pre .0, s .pre .1, p .calls-and-relocations .kept .0 ∙ s .pre .2, begins-then (first s) (second s) (image p) (image p) (T s) (U p) (U p) (n s) (m s) 0 0 (g .0 .0) (g .0 .1 .0) (lens p) (did p _ (g .1)) (s .args .rows) (s .pre .3))
 
 returns : tie.Need-returns
 returns c =
     let p = c .before .before .before .before .before .before .before .before .before .before .before .before .before .before .before in
     let s = st p in
-    parts-stop (now (s .args .file)) (now (s .args .builtins)) (s .args .job) (s .args .image .now) (image p) (T s) (U p) (n s) (m s) (s .args .used) (s .args .moves) _ (did p _ (c .before .r .given .1))
+    parts-stop (now (s .args .file)) (now (s .args .builtins)) (s .args .job) (now (s .args .file)) (image p) (T s) (U p) (n s) (m s) 0 0 _ (did p _ (c .before .r .given .1))
 
 returns-2 : tie.Need-returns-2
 returns-2 c =
@@ -80,7 +80,7 @@ returns-2 c =
     let p = c .before .before .before .before .before .before .before .before .before .before .before .before .before .before .before .before .before .before .before .before .before .before .before .before .before .before .before .before .before .before .before .before .before .before .before in
     let s = st p in
     let g = c .before .before .before .before .before .before .before .before .before .before .before .before .before .before .before .before .before .before .before .before .before .u .given in
-    parts-all (now (s .args .file)) (now (s .args .builtins)) (s .args .job) (s .args .image .now) (image p) (T s) (U p) (n s) (m s) (s .args .used) (s .args .moves) (q .labels-and-entry .last .0) (U₂ q) (g .0 .0) (g .0 .1 .0) (q .labels-and-entry .result) (d .after-placing .result) (lens p) (did p _ (g .1)) (q .labels-and-entry .ensures) (d .after-placing .ensures)
+    parts-all (now (s .args .file)) (now (s .args .builtins)) (s .args .job) (now (s .args .file)) (image p) (T s) (U p) (n s) (m s) 0 0 (q .labels-and-entry .last .0) (U₂ q) (g .0 .0) (g .0 .1 .0) (q .labels-and-entry .result) (d .after-placing .result) (lens p) (did p _ (g .1)) (q .labels-and-entry .ensures) (d .after-placing .ensures)
 
 pub all-parts-spec : {M : Type 1} → statement M
 all-parts-spec =

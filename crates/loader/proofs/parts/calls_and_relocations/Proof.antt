@@ -33,7 +33,7 @@ U₂ p = let l = p .apply-relocations .last in slices (l .1 .0) (l .1 .1 .0) (l 
 
 -- the two parts, and how many registrations each may make
 abbrev first : tie.Start → Trace
-first s = callsTrace (now (s .args .file)) (now (s .args .builtins)) (s .args .job) (s .args .image .now)
+first s = callsTrace (now (s .args .file)) (now (s .args .builtins)) (s .args .job) (now (s .args .file))
 
 abbrev second : tie.Start → List ℕ → Trace
 second s im = relocationsTrace (now (s .args .file)) (now (s .args .builtins)) (s .args .job) im
@@ -48,7 +48,7 @@ lens : (p : tie.After-register-calls) → SameLens (T (st p)) (U p)
 lens p = let k = p .register-calls .kept in record { keys-as = k .1 .0; indices-as = k .1 .1 .0; kinds-as = k .1 .1 .1 .0; starts-as = k .1 .1 .1 .1 .0; lengths-as = k .1 .1 .1 .1 .1 .0 }
 
 abbrev Did : tie.After-register-calls → Outcome → Type 0
-Did p a = let s = st p in Settles (first s) (image p) (T s) (U p) (n s) (s .args .used) (s .args .moves) a
+Did p a = let s = st p in Settles (first s) (image p) (T s) (U p) (n s) 0 0 a
 
 did : (p : tie.After-register-calls) (b : Outcome) → p .register-calls .result ≡ b → Did p b
 did p b e = subst (Did p) e (p .register-calls .ensures)
@@ -56,20 +56,20 @@ did p b e = subst (Did p) e (p .register-calls .ensures)
 register-calls-requires : tie.Need-register-calls-requires
 register-calls-requires c κs =
     let s = c .before .before .before .before .before .before .before .before .before .before .before .before .before .before .before in
-    (s .pre .0, s .pre .1, s .pre .2, begins-fewer (n s) (m s) (T s) (s .args .rows) (s .args .used) (s .args .moves) (s .pre .3))
+    (s .pre .0, s .pre .1, s .pre .2, begins-fewer (n s) (m s) (T s) (s .args .rows) 0 0 (s .pre .3))
 
 apply-relocations-requires : tie.Need-apply-relocations-requires
 apply-relocations-requires c κs =
     let p = c .before .before .before .before .before .before .before .before .before .before .before .before .before .before .before .before .before .before .before .before .before in
     let s = st p in
     let g = c .before .before .before .before .before .before .before .u .given in
-    (s .pre .0, s .pre .1, p .register-calls .kept .0 ∙ s .pre .2, begins-then (first s) (second s) (image p) (image p) (T s) (U p) (U p) (n s) (m s) (s .args .used) (s .args .moves) (g .0 .0) (g .0 .1 .0) (lens p) (did p _ (g .1)) (s .args .rows) (s .pre .3))
+    (s .pre .0, s .pre .1, p .register-calls .kept .0 ∙ s .pre .2, begins-then (first s) (second s) (image p) (image p) (T s) (U p) (U p) (n s) (m s) 0 0 (g .0 .0) (g .0 .1 .0) (lens p) (did p _ (g .1)) (s .args .rows) (s .pre .3))
 
 returns : tie.Need-returns
 returns c =
     let p = c .before .before .before .before .before .before .before .before .before .before .before .before .before .before .before in
     let s = st p in
-    settles-stop (first s) (second s) (image p) (image p) (T s) (U p) (U p) (n s) _ (s .args .used) (s .args .moves) _ (did p _ (c .before .r .given .1))
+    settles-stop (first s) (second s) (image p) (image p) (T s) (U p) (U p) (n s) _ 0 0 _ (did p _ (c .before .r .given .1))
 
 returns-2 : tie.Need-returns-2
 returns-2 c =
@@ -77,7 +77,7 @@ returns-2 c =
     let p = c .before .before .before .before .before .before .before .before .before .before .before .before .before .before .before .before .before .before .before .before .before .before .before .before .before .before .before .before .before .before .before .before .before .before in
     let s = st p in
     let g = c .before .before .before .before .before .before .before .before .before .before .before .before .before .before .before .before .before .before .before .before .u .given in
-    settles-then (first s) (second s) (image p) (q .apply-relocations .last .0) (T s) (U p) (U₂ q) (n s) (m s) (s .args .used) (s .args .moves) (g .0 .0) (g .0 .1 .0) (lens p) (did p _ (g .1)) (q .apply-relocations .result) (q .apply-relocations .ensures)
+    settles-then (first s) (second s) (image p) (q .apply-relocations .last .0) (T s) (U p) (U₂ q) (n s) (m s) 0 0 (g .0 .0) (g .0 .1 .0) (lens p) (did p _ (g .1)) (q .apply-relocations .result) (q .apply-relocations .ensures)
 
 pub calls-and-relocations-spec : {M : Type 1} → statement M
 calls-and-relocations-spec =
