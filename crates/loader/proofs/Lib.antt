@@ -5,6 +5,7 @@ pub mod Performing
 pub mod Rowing
 pub mod Ascents
 pub mod Slots
+pub mod Eights
 pub mod Ahead
 pub mod Targeting
 pub mod Symbols

@@ -1,7 +1,7 @@
 -- Local calls.
 use Prim.Native.Nat.{ℕ, zero, suc, _+_, _-_, _*_, _/_, _≤_, _<_}
 use native.Mathlib.Omega.{arith}
-use mathlib.Core.Path.{_≡_, refl}
+use mathlib.Core.Path.{_≡_, refl, _∙_}
 use mathlib.Core.Bool.{Bool, true, false, _&&_, not}
 use mathlib.Core.List.{List}
 use lib.ListN.{length, take, drop, getD}
@@ -29,7 +29,7 @@ use Rattle.loader.specs.Deeds.{deedTrace}
 unfoldable pub inside : ℕ → ℕ → Call
 inside count to = To to if ltb to count else Outside
 
--- own index + 1 + the signed immediate, whose bits from 2 ^ 31 on count from 2 ^ 32 down
+-- own index + 1 + the signed immediate: n from 2 ^ 31 on stands for n − 2 ^ 32
 unfoldable pub target : ℕ → ℕ → ℕ → Call
 target count i imm =
     inside count (i + 1 + imm) if ltb imm 0x8000_0000 else
@@ -90,6 +90,12 @@ unfoldable pub nextCall : List ℕ → ℕ → ℕ → ℕ → ℕ
 nextCall file start zero i = i
 nextCall file start (suc n) i = i if eqb (getD file (start + 8 * i) 0) 0x85 else nextCall file start n (i + 1)
 
+-- the slots before number r, of those from `from` on, hold no call
+pub record PassesTo (file : List ℕ) (start from count r : ℕ) : Type 0 where
+  pub begun : from ≤ r
+  pub within : r ≤ count
+  pub same : nextCall file start (count - r) r ≡ nextCall file start (count - from) from
+
 -- as a loop meets it
 module _ (file : List ℕ) (start i : ℕ) where
   pub call-here : (n : ℕ) → 0 < n → getD file (start + 8 * i) 0 ≡ 0x85 → nextCall file start n i ≡ i
@@ -105,3 +111,34 @@ module _ (file : List ℕ) (start i : ℕ) where
   unfolding nextCall
   call-none zero h = refl
   call-none (suc n) h = absurd (omega arith)
+
+-- the search goes on from what it found among the first n
+pub next-again : (file : List ℕ) (start n m i : ℕ) → nextCall file start (n + m) i ≡ nextCall file start (i + n + m - nextCall file start n i) (nextCall file start n i)
+unfolding nextCall _if_else_
+next-again file start zero m i = let e : i + 0 + m - i ≡ 0 + m = omega arith in rw e refl
+next-again file start (suc n) m i = go (eqb (getD file (start + 8 * i) 0) 0x85) refl (next-again file start n m (i + 1))
+  where
+    go : (b : Bool) → eqb (getD file (start + 8 * i) 0) 0x85 ≡ b
+        → nextCall file start (n + m) (i + 1) ≡ nextCall file start (i + 1 + n + m - nextCall file start n (i + 1)) (nextCall file start n (i + 1))
+        → nextCall file start (suc n + m) i ≡ nextCall file start (i + suc n + m - (i if b else nextCall file start n (i + 1))) (i if b else nextCall file start n (i + 1))
+    go true e rec = let k : i + suc n + m - i ≡ suc n + m = omega arith in rw k refl
+    go false e rec =
+        let k : i + suc n + m ≡ i + 1 + n + m = omega arith in
+        let q : suc n + m ≡ suc (n + m) = omega arith in
+        rw (q, e, k) rec
+
+-- it stops among the first n, or goes on behind them
+pub next-first : (file : List ℕ) (start n m i : ℕ) → nextCall file start n i < i + n → nextCall file start (n + m) i ≡ nextCall file start n i
+unfolding nextCall _if_else_
+next-first file start zero m i h = absurd (omega arith)
+next-first file start (suc n) m i h = go (eqb (getD file (start + 8 * i) 0) 0x85) refl h (next-first file start n m (i + 1))
+  where
+    go : (b : Bool) → eqb (getD file (start + 8 * i) 0) 0x85 ≡ b
+        → (i if b else nextCall file start n (i + 1)) < i + suc n
+        → (nextCall file start n (i + 1) < i + 1 + n → nextCall file start (n + m) (i + 1) ≡ nextCall file start n (i + 1))
+        → nextCall file start (suc n + m) i ≡ (i if b else nextCall file start n (i + 1))
+    go true e h rec = let q : suc n + m ≡ suc (n + m) = omega arith in rw (q, e) refl
+    go false e h rec = let q : suc n + m ≡ suc (n + m) = omega arith in rw (q, e) (rec (omega arith))
+
+pub next-behind : (file : List ℕ) (start n m i : ℕ) → nextCall file start n i ≡ i + n → nextCall file start (n + m) i ≡ nextCall file start m (i + n)
+next-behind file start n m i e = next-again file start n m i ∙ (let k : i + n + m - (i + n) ≡ m = omega arith in rw (e, k) refl)

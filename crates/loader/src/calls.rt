@@ -21,7 +21,7 @@ ghost use lib.ListN.{length, take, drop, getD, set};
 ghost use Rattle.program.specs.declared.FunctionName.the-variants.{OfIndex};
 ghost use Rattle.program.specs.Table.{slices, Alike};
 ghost use Rattle.loader.specs.Functions.{Keyed, rowFor};
-ghost use Rattle.loader.specs.Calls.{inside, target, callOf, callAt, slotCount, slotTrace, callsTrace, nextCall};
+ghost use Rattle.loader.specs.Calls.{inside, target, callOf, callAt, slotCount, slotTrace, callsTrace, nextCall, PassesTo};
 ghost use Rattle.loader.specs.CallLoop.{ahead, targetKey, targetRow, CallsHeld, StillHeld, StillAlike, Targets, Leads};
 ghost use Rattle.loader.specs.Contracts.{InFile, Begins, Settles};
 
@@ -84,13 +84,68 @@ fn call_at(text: &[u8], version2: bool, i: usize) -> Call
     }
 }
 
-// The first slot from `from` on, of `count`, with a call's opcode; `count` where none has it. Most
-// slots call nothing, and this looks at one byte of them.
-fn next_call(file: &[u8], start: usize, from: usize, count: usize) -> usize
-    requires { ⌜ (start + 8 * count ≤ length (now file)) × (from ≤ count) ⌝ }
-    ensures { λ r. ⌜ r ≡ nextCall (now (file .entry)) start (count - from) from ⌝ }
+// The first of two slots from number `at` on with a call's opcode; the one behind them where none has
+// it. Most slots call nothing, and this looks at one byte of each.
+fn among_two(file: &[u8], start: usize, at: usize) -> usize
+    requires { ⌜ (start + 8 * at + 16 ≤ length (now file)) × (length (now file) ≤ 2 ^ 24) ⌝ }
+    ensures { λ r. ⌜ r ≡ nextCall (now (file .entry)) start 2 at ⌝ }
+{
+    let place = start + 8 * at;
+    if file[place] == CALL_IMM {
+        return at;
+    }
+    if file[place + 8] == CALL_IMM {
+        return at + 1;
+    }
+    at + 2
+}
+
+// The same of four, and of eight: a call is met with no other test than its own.
+fn among_four(file: &[u8], start: usize, at: usize) -> usize
+    requires { ⌜ (start + 8 * at + 32 ≤ length (now file)) × (length (now file) ≤ 2 ^ 24) ⌝ }
+    ensures { λ r. ⌜ r ≡ nextCall (now (file .entry)) start 4 at ⌝ }
+{
+    let first = among_two(file, start, at);
+    if first < at + 2 {
+        return first;
+    }
+    among_two(file, start, at + 2)
+}
+
+fn among_eight(file: &[u8], start: usize, at: usize) -> usize
+    requires { ⌜ (start + 8 * at + 64 ≤ length (now file)) × (length (now file) ≤ 2 ^ 24) ⌝ }
+    ensures { λ r. ⌜ r ≡ nextCall (now (file .entry)) start 8 at ⌝ }
+{
+    let first = among_four(file, start, at);
+    if first < at + 4 {
+        return first;
+    }
+    among_four(file, start, at + 4)
+}
+
+// Slots from `from` on, of `count`, passed over by eights: up to a call's opcode, or to the last seven
+// at most.
+fn pass_eights(file: &[u8], start: usize, from: usize, count: usize) -> usize
+    requires { ⌜ (start + 8 * count ≤ length (now file)) × (length (now file) ≤ 2 ^ 24) × (from ≤ count) ⌝ }
+    ensures { λ r. ⌜ PassesTo (now (file .entry)) start from count r ⌝ }
 {
     let mut at = from;
+    while 8 <= count - at {
+        let to = among_eight(file, start, at);
+        if to < at + 8 {
+            return to;
+        }
+        at = to;
+    }
+    at
+}
+
+// The first slot from `from` on, of `count`, with a call's opcode; `count` where none has it.
+fn next_call(file: &[u8], start: usize, from: usize, count: usize) -> usize
+    requires { ⌜ (start + 8 * count ≤ length (now file)) × (length (now file) ≤ 2 ^ 24) × (from ≤ count) ⌝ }
+    ensures { λ r. ⌜ r ≡ nextCall (now (file .entry)) start (count - from) from ⌝ }
+{
+    let mut at = pass_eights(file, start, from, count);
     while at < count {
         if file[start + 8 * at] == CALL_IMM {
             return at;

@@ -18,19 +18,19 @@ abbrev μ-loop : tie.MeasureT-loop
 returns : tie.Need-returns Inv-loop μ-loop
 returns c =
     let l = c .before .before .before in
-    let a = l .before .args in
+    let a = l .before .before .before .args in
     sym (call-here (now (a .file)) (a .start) (l .loop .at) (a .count - l .loop .at) (omega arith) (c .if1 .taken)) ∙ l .loop .inv .2
 
 loop-again : tie.Need-loop-again Inv-loop μ-loop
 loop-again c =
     let l = c .before .before .before in
-    let a = l .before .args in
+    let a = l .before .before .before .args in
     (omega arith, omega arith, sym (call-later (now (a .file)) (a .start) (l .loop .at) (a .count - l .loop .at) (a .count - (l .loop .at + 1)) (omega arith) (c .if1 .left)) ∙ l .loop .inv .2)
 
 returns-2 : tie.Need-returns-2 Inv-loop μ-loop
 returns-2 c =
     let l = c .before in
-    let a = l .before .args in
+    let a = l .before .before .before .args in
     sym (call-none (now (a .file)) (a .start) (l .loop .at) (a .count - l .loop .at) (omega arith)) ∙ l .loop .inv .2
 
 pub next-call-spec : {M : Type 1} → statement M
@@ -39,7 +39,8 @@ next-call-spec =
     (tie.spec
     Inv-loop
     μ-loop
-    (λ c. (omega arith, omega arith, refl))
+    (search needs)
+    (λ c. let p = c .pass-eights .ensures in (p .begun, p .within, p .same))
     (search needs)
     (search needs)
     (search needs)
