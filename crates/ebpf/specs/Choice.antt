@@ -13,7 +13,7 @@ module _ {A : Type 0} where
   x if true else y = x
   x if false else y = y
 
-  -- `search choices` goes down a row by these two
+  -- `search choices` goes through a row of choices by these two
   pub yes : (b : Bool) (x y : A) → b ≡ true → x ≡ (x if b else y)
   unfolding _if_else_
   yes b x y e = rw e
@@ -22,7 +22,7 @@ module _ {A : Type 0} where
   unfolding _if_else_
   no-go b x y z e p = rw e p
 
-  -- what a row tells whose answer is not that of its first choice
+  -- what a row of choices says where its answer is not that of its first choice
   pub not-first : (b : Bool) (x y z : A) → (x ≡ z → ⊥) → (x if b else y) ≡ z → b ≡ false
   unfolding _if_else_
   not-first true x y z h e = absurd (h e)

@@ -22,6 +22,6 @@ slotAt s at =
       imm = le 4 s (at + 4);
     }
 
--- the slot number pc, where the text has that many whole slots
+-- the slot number pc; `Past` where the text has no more than pc whole slots
 unfoldable pub insnAt : List ℕ → ℕ → Slot
 insnAt s pc = Past if leb (length s / 8) pc else Holds (slotAt s (8 * pc))

@@ -51,12 +51,12 @@ unfolding le
 le-past zero s at h = refl
 le-past (suc k) s at h = rw (List·getD-eq-default s 0 h, le-past k s (at + 1) (omega arith))
 
--- the bytes of a number give the number back
 shifted : (k : ℕ) (a : ℕ) (s : List ℕ) (at : ℕ) → le k (a ∷ s) (suc at) ≡ le k s at
 unfolding le
 shifted zero a s at = refl
 shifted (suc k) a s at = rw (suc-add, shifted k a s (at + 1))
 
+-- the bytes of a number give the number back
 pub le-bytes : (k n : ℕ) → n < 256 ^ k → le k (bytesOf k n) 0 ≡ n
 unfolding le bytesOf
 le-bytes zero n h = omega arith

@@ -99,7 +99,7 @@ dynamicValues s n at = valuesFrom s n at (replicate 35 0)
 
 -- ---- what they lead to
 
--- where the relocations at an address start in the file
+-- the file offset of the section that was found
 unfoldable pub sectionOffset : List ℕ → Found → Mapped
 sectionOffset s (At at) = Maps (sectionHeader s at .«sh_offset»)
 sectionOffset s Nothing = Unmapped
@@ -113,6 +113,7 @@ orSection Unmapped other = other
 abbrev pub sectionWithAddr : List ℕ → Tables → ℕ → Found
 sectionWithAddr s t vaddr = firstWith s 64 16 true vaddr (t .shnum) (t .shoff)
 
+-- where the relocations at an address start in the file
 abbrev pub relocationOffset : List ℕ → Tables → ℕ → Mapped
 relocationOffset s t vaddr = orSection (headerForVaddr s vaddr (t .phnum) (t .phoff)) (sectionOffset s (sectionWithAddr s t vaddr))
 

@@ -68,7 +68,7 @@ pub header-sections : (s : List ℕ) → headerCheck s ≡ Pass → e-shstrndx s
 unfolding headerCheck headerRight
 header-sections s e = ltb-true _ _ (and-right (headerFixed s) _ (not-false (headerRight s) (not-first _ _ _ _ (apart _) (row-rest _ _ _ _ (apart _) e))))
 
--- tables that pass lie in the file, and start past the file header or are empty
+-- tables that pass lie in the file
 pub tables-within : (len phoff phnum shoff shnum : ℕ) → tablesCheck len phoff phnum shoff shnum ≡ Pass → (phoff + phnum * 56 ≤ len) × (shoff + shnum * 64 ≤ len)
 unfolding tablesCheck
 tables-within len phoff phnum shoff shnum e =

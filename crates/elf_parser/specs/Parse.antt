@@ -33,7 +33,7 @@ use Rattle.elf_parser.specs.Dynamic.{dynamicOf}
 abbrev pub rangesOf : Elf64Ehdr → Ranges
 rangesOf h = record { phoff = h .«e_phoff»; phend = h .«e_phoff» + h .«e_phnum» * 56; shoff = h .«e_shoff»; shend = h .«e_shoff» + h .«e_shnum» * 64 }
 
--- the first section header is blank
+-- the first section header has the type SHT_NULL; nothing else of it is looked at
 unfoldable pub firstCheck : List ℕ → ℕ → Check
 firstCheck s shoff = Refused InvalidSectionHeader if not (eqb (sectionHeader s shoff .«sh_type») SHT-NULL) else Pass
 

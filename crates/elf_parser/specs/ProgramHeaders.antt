@@ -17,7 +17,7 @@ use Rattle.elf_parser.specs.declared.program_headers.Mapped.the-variants
 use Rattle.elf_parser.specs.Loops.{Turn, goes, ends, over}
 use Rattle.elf_parser.specs.Types.{programHeader, PT-LOAD}
 
--- a step of a loop of checks, and the check that the whole loop is
+-- a check as one turn of a loop, and a loop of checks as one check
 abbrev pub turnOf : Step → Turn ElfParserError ℕ
 turnOf (Next n) = goes n
 turnOf (Stop r) = ends r

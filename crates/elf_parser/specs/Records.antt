@@ -90,7 +90,7 @@ sliced len offset size width =
 abbrev pub no-entries : Entries
 no-entries = record { offset = 0; count = 0 }
 
--- the symbol table that a section header of that type describes
+-- the symbol table that a section header describes; a type other than SHT_SYMTAB and SHT_DYNSYM is 3
 unfoldable pub symbolTableIn : ℕ → Elf64Shdr → Sliced
 symbolTableIn len h =
     NoSlice InvalidSectionHeader if not (eqb (h .«sh_type») SHT-SYMTAB) && not (eqb (h .«sh_type») SHT-DYNSYM) else

@@ -1,4 +1,4 @@
--- What the exported functions answer: a number, 0 where nothing was refused, and 15 words behind it.
+-- What the exported functions answer: a number, 0 or why there is nothing, and 15 words behind it.
 use Prim.Native.Nat.{ℕ, zero, suc, _/_, _%_}
 use mathlib.Core.Path.{_≡_}
 use mathlib.Core.Bool.{Bool, true, false}

@@ -8,7 +8,7 @@ use Rattle.ebpf.specs.Choice.{_if_else_}
 abbrev pub sumUpTo : ℕ → ℕ → ℕ
 sumUpTo a b = min (a + b) 0xffff_ffff_ffff_ffff
 
--- where the program starts in the machine, and where the stack does
+-- where the program starts in the virtual machine's addresses, and where the stack does
 abbrev pub MM-PROGRAM-START : ℕ
 MM-PROGRAM-START = 0x1_0000_0000
 

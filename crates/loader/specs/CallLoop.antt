@@ -34,7 +34,7 @@ targetRow j = rowOf 0 0 (keptName (j .labels) OfIndex)
 abbrev pub Known : List ℕ → Job → List Row → ℕ → Type 0
 Known builtins j rs v = (row : Row) × (rowFor builtins j OfIndex v ≡ Free row) × Repeats row rs
 
--- each target in mind, kept as its successor, is known
+-- a place of `seen` holds 0, or a target plus 1; each such target is known
 abbrev pub Seen : List ℕ → Job → List Row → List ℕ → Type 0
 Seen builtins j rs seen = (k v : ℕ) → getD seen k 0 ≡ suc v → Known builtins j rs v
 

@@ -1,4 +1,4 @@
--- What the functions of this crate ask and promise.
+-- What the inner functions of this crate ask and promise; the public ones ask nothing.
 use Prim.Native.Nat.{ℕ, _+_, _-_, _*_, _≤_, _<_, _^_}
 use mathlib.Core.Path.{_≡_}
 use mathlib.Core.List.{List}
@@ -33,12 +33,12 @@ abbrev pub outcome : Outcome → List ℕ → Slices → Settled
 outcome (Holds used moves) im t = accepted im (rowsOf t used) moves
 outcome (Refused r) im t = refused r
 
--- a table that is held is a table
+-- where the load goes on, the used rows ascend and the rest is zero
 abbrev pub Sound : Outcome → Slices → Type 0
 Sound (Holds used moves) t = Ready t used
 Sound (Refused r) t = Unit {0}
 
--- no sum wraps: at most n rows more, each with fewer than 2 ^ 26 moves
+-- no sum wraps: at most n rows more, each with at most 2 ^ 26 moves
 abbrev pub Near : ℕ → ℕ → ℕ → Outcome → Type 0
 Near n used moves (Holds used′ moves′) = (used′ ≤ used + n) × (moves′ ≤ moves + n * 2 ^ 26)
 Near n used moves (Refused r) = Unit {0}

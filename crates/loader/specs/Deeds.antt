@@ -1,4 +1,4 @@
--- What a part of a load does, as a trace.
+-- A deed is what one slot, relocation, symbol or the entry asks for: bytes to write, a row to register, or a refusal. Its trace.
 use Prim.Native.Nat.{ℕ, _+_, _/_, _%_, _^_, _≤_}
 use mathlib.Core.Path.{_≡_, refl, _∙_}
 use mathlib.Core.Bool.{Bool, true, false}

@@ -202,7 +202,7 @@ onReached Repeat more = more
 onReached Collision more = []
 onReached Full more = []
 
--- of a trace, in a table of n rows that holds `rows`
+-- of a trace, in a table of n rows that holds `rows`. One that is refused for a built-in's key is no registration of the trace
 unfoldable pub reached : ℕ → Trace → List Row → List Row
 reached n (done im) rows = []
 reached n (stop r) rows = []
@@ -251,7 +251,7 @@ pub record Demand3 (file builtins : List ℕ) (c : Config) (n m : ℕ) (t : Slic
   pub others : OnAccepted a (prepared file builtins c n m) (λ j used. Others file builtins j (lookupIn t′ used))
   pub bytes : OnAccepted a (prepared file builtins c n m) (λ j used. Bytes file j im′)
   pub injective : Injective
-  -- with the built-in check off, refused loads too
+  -- of accepted and of refused loads, where the collision check is off
   pub collision : c .«external_internal_function_hash_collision» ≡ false
       → ((key : ℕ) × (a ≡ Refuses (SymbolHashCollision key))) ↔ Clash (reachedEarly file builtins (capacity t) (prepared file builtins c n m))
   pub full : c .«external_internal_function_hash_collision» ≡ false

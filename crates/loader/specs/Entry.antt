@@ -36,7 +36,8 @@ abbrev pub forgetTrace : Bool → List ℕ → Trace
 forgetTrace true im = done im
 forgetTrace false im = forget (murmur3 entrypoint) (done im)
 
--- THE ENTRY'S PART OF A LOAD. A remainder refuses before anything is forgotten, which comes to the same.
+-- THE ENTRY'S PART OF A LOAD. In the Rust a remainder refuses before the removal, here after it: a refusal leaves only zeros, so no answer
+-- differs.
 abbrev pub entryTrace : List ℕ → Job → List ℕ → Trace
 entryTrace builtins j im = andThen (forgetTrace (j .version2) im) (λ (im′ : List ℕ). deedTrace (entryDeed builtins j) im′)
 

@@ -17,11 +17,11 @@ use Rattle.loader.specs.Addresses.{sumUpTo}
 abbrev pub Keyed : List ℕ → Type 0
 Keyed table = (i : ℕ) → keyIn table i ≡ indexKey i
 
--- the row, with keys that no table is asked for
+-- the row; its key is worked out, the table of keys being empty
 unfoldable pub rowFor : List ℕ → Job → FunctionName → ℕ → Legacy
 rowFor builtins j name index = legacyRow [] builtins (j .version2) (j .«check_collision») (j .labels) name index
 
--- the text entrypoint
+-- the bytes of the name entrypoint
 abbrev pub entrypoint : List ℕ
 entrypoint = 101 ∷ 110 ∷ 116 ∷ 114 ∷ 121 ∷ 112 ∷ 111 ∷ 105 ∷ 110 ∷ 116 ∷ []
 

@@ -28,7 +28,7 @@ use Rattle.elf_parser.specs.declared.layout.Layout.{Layout}
 use Rattle.elf_parser.specs.Types.{fileHeader}
 use Rattle.loader.specs.ReadOnly.{copiedFrom}
 
--- the registrations that a job may make, at most: calls and relocations, labels and the entry's two
+-- the registrations that a job may make, at most: calls and relocations, labels, and the entry's removal and registration
 abbrev pub allCount : List ℕ → Job → ℕ
 allCount file j = (slotCount j + j .layout .«dynamic_relocations» .count) + (labelSymbols file j .count + 2)
 
@@ -48,7 +48,7 @@ pub record Cleared (im ro : List ℕ) (t : Slices) (im′ ro′ : List ℕ) (t�
   pub readonly : ro′ ≡ replicate (length ro) 0
   pub table : t′ ≡ lay t []
 
--- the read-only bytes after a load with this image: the sections copied over `ro` where they are owned, else `ro`
+-- the read-only bytes after a load with this image: the sections copied over `ro` where they are copied (the Rust's `Owned`), else `ro`
 abbrev pub placedBytes : List ℕ → Layout → Placing → List ℕ → List ℕ → List ℕ
 placedBytes file l (Owned offset lowest n) im ro = copiedFrom im file l lowest (fileHeader file .«e_shnum») 0 ro
 placedBytes file l (Borrowed offset start n) im ro = ro
@@ -94,7 +94,7 @@ pub data Loading : Type 0 where
   holds : Accepted → List ℕ → List ℕ → List Row → Loading
   refuses : ElfError → Loading
 
--- by the placing, where the trace came to an end: it has stopped where the placing refuses. The read-only bytes stay in the image, and
+-- after the last registration, by where the read-only sections go; where that refuses, the trace has stopped. The read-only bytes stay in the image, and
 -- the buffer is zero; or they are copied over n zeros at the buffer's front, with zeros behind
 abbrev pub heldBy : List ℕ → Job → ℕ → Placing → List ℕ → List Row → ℕ → Loading
 heldBy file j m (Borrowed offset start n) im rows moves =
@@ -145,7 +145,7 @@ pub record Loaded (x : Loading) (im ro : List ℕ) (t : Slices) (im′ ro′ : L
   pub answers : a ≡ answerOf x
   pub demand-1 : WholeOrZeros x im ro t im′ ro′ t′
 
--- the same, but that a refusal leaves anything
+-- the same, but after a refusal the lent slices may hold anything
 abbrev pub Tried : Loading → List ℕ → List ℕ → Slices → List ℕ → List ℕ → Slices → Load → Type 0
 Tried x im ro t im′ ro′ t′ (Accepts a) = Loaded x im ro t im′ ro′ t′ (Accepts a)
 Tried x im ro t im′ ro′ t′ (Refuses r) = x ≡ refuses r

@@ -78,7 +78,7 @@ pub not-borrowed : (version2 : Bool) (x : Extent) (a b n : ℕ) → borrowed ver
 unfolding borrowed
 not-borrowed version2 x a b n e = row-cases _ _ _ _ _ (λ t q. no-owned _ _ _ _ q) (λ t q. let z : _≡_ {A = ℕ} 0 1 = cc in omega arith) e
 
--- the bytes copied run from an address below all sections to the highest, and are not more than the file's
+-- the bytes copied run from an address that no section lies below to the highest, and are not more than the file's
 pub record Runs (len lowest n : ℕ) (x : Extent) : Type 0 where
   pub low : lowest ≤ x .lowest
   pub long : n ≡ x .highest - lowest

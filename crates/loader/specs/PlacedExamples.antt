@@ -43,7 +43,7 @@ too-long : placed 0x20 false true false apart ≡ Refused ValueOutOfBounds
 unfolding placed borrowed owned canBorrow fromStart grown gives invalidBy _if_else_
 too-long = refl
 
--- version 2's text may end at the stack, and in version 1 a section may start there
+-- version 2's text may end at the stack
 at-stack : endOf true 0x1_ffff_fff0 0x10 ≡ 0x2_0000_0000
 unfolding endOf machineAddr _if_else_
 at-stack = refl

@@ -175,7 +175,7 @@ builtinCall builtins reject-broken len at r start n hash =
     Refuse ValueOutOfBounds if ltb len (at + 4) else
     Key at hash
 
--- STT_FUNC, and defined
+-- STT_FUNC, and its value is not 0
 abbrev pub isFunction : Elf64Sym → Bool
 isFunction y = eqb (y .«st_info» % 16) 2 && not (eqb (y .«st_value») 0)
 

@@ -58,7 +58,7 @@ dot-data-rel-ro = 46 ∷ 100 ∷ 97 ∷ 116 ∷ 97 ∷ 46 ∷ 114 ∷ 101 ∷ 10
 abbrev pub dot-eh-frame : List ℕ
 dot-eh-frame = 46 ∷ 101 ∷ 104 ∷ 95 ∷ 102 ∷ 114 ∷ 97 ∷ 109 ∷ 101 ∷ []
 
--- .bss, and .data with SHF_ALLOC and SHF_WRITE, but for .data.rel
+-- a name that starts with .bss; or, with SHF_ALLOC and SHF_WRITE, with .data but not with .data.rel
 unfoldable pub unsupported : List ℕ → ℕ → Bool
 unsupported name flags = startsWith name dot-bss || (eqb (flags % 4) 3 && (startsWith name dot-data && not (startsWith name dot-data-rel)))
 

@@ -29,7 +29,7 @@ three = slices (10 ∷ 20 ∷ 30 ∷ []) (1 ∷ 2 ∷ 3 ∷ 0 ∷ []) (3 ∷ 3 �
 abbrev one : Slices
 one = slices (30 ∷ 0 ∷ 0 ∷ []) (3 ∷ 0 ∷ 0 ∷ 0 ∷ []) (3 ∷ 0 ∷ 0 ∷ 0 ∷ []) (0 ∷ 0 ∷ 0 ∷ []) (0 ∷ 0 ∷ 0 ∷ [])
 
--- the same keys in no order, 5 twice
+-- keys in no order, 5 twice
 abbrev mixed : Slices
 mixed = slices (5 ∷ 9 ∷ 5 ∷ []) (1 ∷ 2 ∷ 3 ∷ []) (3 ∷ 3 ∷ 3 ∷ []) (0 ∷ 0 ∷ 0 ∷ []) (0 ∷ 0 ∷ 0 ∷ [])
 

@@ -14,7 +14,7 @@ use Rattle.program.specs.declared.Registered.the-variants.{Inserted, Rep
 use Rattle.program.specs.declared.Removed.{Removed}
 use Rattle.program.specs.declared.Removed.the-variants.{Gone, Absent}
 
--- what rows are ordered by
+-- rows are ordered by their key, which is called their rank here
 unfoldable pub rank : Row → ℕ
 rank r = r .key
 

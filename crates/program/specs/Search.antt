@@ -10,7 +10,7 @@ use Rattle.ebpf.specs.Choice.{_if_else_}
 abbrev pub middle : ℕ → ℕ → ℕ
 middle lo hi = lo + (hi - lo) / 2
 
--- the search by halves for k, between the places lo and hi, in at most that many turns
+-- the search by halves (binary search) for k, between the places lo and hi, in at most that many turns
 unfoldable pub between : ℕ → ℕ → List ℕ → ℕ → ℕ → ℕ
 between zero k xs lo hi = lo
 between (suc turns) k xs lo hi =
@@ -19,7 +19,7 @@ between (suc turns) k xs lo hi =
 unfoldable pub halves : ℕ → List ℕ → ℕ
 halves k xs = between (length xs) k xs 0 (length xs)
 
--- whether the search by halves finds k
+-- whether the search by halves finds k: on an ascending list, whether k is in it (`among-member` in proofs/Halves.antt)
 unfoldable pub isAmong : ℕ → List ℕ → Bool
 isAmong k xs = false if leb (length xs) (halves k xs) else eqb (getD xs (halves k xs) 0) k
 

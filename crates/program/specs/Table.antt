@@ -33,7 +33,7 @@ least a b c d e = min a (min b (min c (min d e)))
 unfoldable pub capacity : Slices → ℕ
 capacity t = least (length (t .keys)) (length (t .indices)) (length (t .kinds)) (length (t .starts)) (length (t .lengths))
 
--- n is the least of five numbers; the bounds follow, and `omega` reads them with no case split
+-- n is the least of five numbers; the bounds, which follow, stand beside it for the proofs
 pub record Least (n a b c d e : ℕ) : Type 0 where
   pub is : n ≡ least a b c d e
   pub in-a : n ≤ a
