@@ -1,5 +1,6 @@
 #!/bin/sh
-# Runs target/bin/loadlist on each example and compares what it prints with the .txt beside it.
+# Runs target/bin/loadlist on each example and compares what it prints with the .txt beside it; then
+# on 16,385 zero bytes, one more than it reads, which are `too long`.
 # `rt check loadlist` makes the program. Status 1 if anything differs, 2 without the program.
 here=$(cd "$(dirname "$0")" && pwd)
 loadlist=$here/../target/bin/loadlist
@@ -18,4 +19,12 @@ for file in "$here"/*.so; do
         status=1
     fi
 done
+printed=$(head -c 16385 /dev/zero | "$loadlist")
+if [ "$printed" = "too long" ]; then
+    echo "same: 16,385 bytes"
+else
+    echo "DIFFERS: 16,385 bytes"
+    echo "$printed"
+    status=1
+fi
 exit $status

@@ -1,6 +1,6 @@
-//! Document 01's worked examples that are run, not proved: each with the answer that was worked out
-//! by hand, the port's and the true Rust's. Where an example has a limit, the neighbour on its other
-//! side is beside it. And published hashes.
+//! Document 01's worked examples, also those that specs/Worked.antt proves: each with the answer that
+//! was worked out by hand, the port's and the true Rust's. Where an example has a limit, the neighbour
+//! on its other side is beside it. And published hashes.
 
 use crate::{
     cases::Case,
@@ -13,13 +13,28 @@ use std::fmt;
 /// The input of crates/loadlist, which is the version 2 example.
 const LOADLIST: &[u8] = include_bytes!("../../../crates/loadlist/stdin");
 
-/// What loadlist prints.
+/// What loadlist prints, and what the load wrote.
 #[derive(Clone, Debug, PartialEq, Eq)]
 enum Told {
     /// Number, value, name start, name length.
     Refused([u64; 4]),
-    /// Version, entry, keys, moves; and key, index, name kind of each row.
-    Accepted([u64; 4], Vec<[u32; 3]>),
+    /// Version, entry, keys, moves; key, index, name kind of each row; and the image's words that are
+    /// not the file's, with their places.
+    Accepted([u64; 4], Vec<[u32; 3]>, Vec<(u32, usize)>),
+}
+
+/// The words of `image` that are not the file's.
+fn written(image: &[u8], file: &[u8]) -> Vec<(u32, usize)> {
+    let words = image.chunks_exact(4).zip(file.chunks_exact(4)).enumerate();
+    words
+        .filter(|(_, (word, before))| word != before)
+        .map(|(k, (word, _))| (u32::from_le_bytes(word.try_into().unwrap()), 4 * k))
+        .collect()
+}
+
+fn told_written(words: &[(u32, usize)]) -> String {
+    let each = words.iter().map(|(word, at)| format!(", {word} at {at}"));
+    each.collect()
 }
 
 impl fmt::Display for Told {
@@ -27,10 +42,11 @@ impl fmt::Display for Told {
         let numbers = |numbers: &[u64; 4]| numbers.map(|n| n.to_string()).join(" ");
         match self {
             Told::Refused(r) => write!(f, "refused {}", numbers(r)),
-            Told::Accepted(a, rows) => {
+            Told::Accepted(a, rows, words) => {
                 write!(f, "accepted {}", numbers(a))?;
                 rows.iter()
-                    .try_for_each(|[key, index, kind]| write!(f, " | {key} {index} {kind}"))
+                    .try_for_each(|[key, index, kind]| write!(f, " | {key} {index} {kind}"))?;
+                write!(f, "{}", told_written(words))
             }
         }
     }
@@ -38,10 +54,14 @@ impl fmt::Display for Told {
 
 impl Told {
     /// As far as the Rust can tell it: no moves, names in place of their kinds and places.
-    fn without_added(&self) -> String {
+    fn without_added(&self, file: &[u8]) -> String {
         match self {
-            Told::Refused([number, value, ..]) => format!("refused {number} {value}"),
-            Told::Accepted([version, entry, keys, _], rows) => {
+            Told::Refused([number, value, _, 0]) => format!("refused {number} {value}"),
+            Told::Refused([number, value, start, length]) => {
+                let name = &file[*start as usize..(start + length) as usize];
+                format!("refused {number} {value} {}", name.escape_ascii())
+            }
+            Told::Accepted([version, entry, keys, _], rows, words) => {
                 let mut text = format!("accepted {version} {entry} {keys}");
                 for [key, index, kind] in rows {
                     let name = match kind {
@@ -51,7 +71,7 @@ impl Told {
                     };
                     text += &format!(" | {key} {index} {name}");
                 }
-                text
+                text + &told_written(words)
             }
         }
     }
@@ -77,7 +97,7 @@ fn rust(case: &Case) -> String {
                 let name = String::from_utf8_lossy(&row.name);
                 text += &format!(" | {} {} {name}", row.key, row.index);
             }
-            text
+            text + &told_written(&written(&a.image, &case.file))
         }
         other => format!("{other:?}"),
     }
@@ -105,10 +125,12 @@ fn port(case: &Case) -> Told {
     Told::Accepted(
         [a[4], a[5], a[6], a[7]],
         (0..a[6] as usize).map(row).collect(),
+        written(&image, &case.file),
     )
 }
 
-/// A file with these and no more: zero bytes as .text, program headers of zeros, a label, names.
+/// A file with these and no more: zero bytes as .text, program headers of zeros, an empty section, a
+/// relocation, a label, names.
 #[derive(Clone, Copy)]
 struct Small {
     version2: bool,
@@ -116,8 +138,14 @@ struct Small {
     /// None: at 0x100000000 in version 2, at its file offset in version 1.
     text_addr: Option<u64>,
     text_length: usize,
+    /// A slot that is not zeros, by its index.
+    slot: Option<(usize, u64)>,
     /// From the text's address on.
     entry: u64,
+    /// Name and file offset of an empty section ahead of the text.
+    empty: Option<(&'static str, u64)>,
+    /// The type of a relocation at the text's start, and the value of its symbol; in version 1.
+    relocation: Option<(u64, u64)>,
     /// The name of a function symbol at slot 1.
     label: Option<&'static str>,
     /// e_shstrndx; None: the section of names.
@@ -130,7 +158,10 @@ const PLAIN: Small = Small {
     program_headers: 0,
     text_addr: None,
     text_length: 16,
+    slot: None,
     entry: 0,
+    empty: None,
+    relocation: None,
     label: None,
     names: None,
 };
@@ -149,9 +180,27 @@ impl Small {
             true => PROGRAM_START,
             false => text_at as u64,
         });
+        let mut text = vec![0; self.text_length];
+        if let Some((index, slot)) = self.slot {
+            text[8 * index..8 * index + 8].copy_from_slice(&slot.to_le_bytes());
+        }
         // name, type, flags, address, alignment, contents
-        let text = vec![0; self.text_length];
         let mut sections = vec![(".text", 1u32, 6u64, text_addr, 8u64, text)];
+        if let Some((name, _)) = self.empty {
+            sections.insert(0, (name, 1, 0, 0, 1, Vec::new()));
+        }
+        if let Some((kind, value)) = self.relocation {
+            let symbols = (text_at + self.text_length) as u64;
+            let (relocations, dynamic) = (symbols + 24, symbols + 40);
+            let bytes_of = |words: &[u64]| words.iter().flat_map(|w| w.to_le_bytes()).collect();
+            let contents = bytes_of(&[0, value, 0]);
+            sections.push((".dynsym", 11, 2, symbols, 8, contents));
+            let contents = bytes_of(&[text_addr, kind]);
+            sections.push((".rel.dyn", 9, 2, relocations, 8, contents));
+            // DT_REL, DT_RELSZ, DT_RELENT, DT_SYMTAB
+            let contents = bytes_of(&[17, relocations, 18, 16, 19, 16, 6, symbols]);
+            sections.push((".dynamic", 6, 2, dynamic, 8, contents));
+        }
         if let Some(label) = self.label {
             let mut symbol = vec![1, 0, 0, 0, 0x12, 0, 1, 0];
             symbol.extend_from_slice(&(text_addr + 8).to_le_bytes());
@@ -171,13 +220,17 @@ impl Small {
         sections.last_mut().unwrap().5 = names;
 
         let mut headers = vec![0; 64];
-        for ((_, kind, flags, addr, align, contents), name) in sections.iter().zip(&name_at) {
+        for ((section, kind, flags, addr, align, contents), name) in sections.iter().zip(&name_at) {
             let mut header = [0; 64];
             header[..4].copy_from_slice(&name.to_le_bytes());
             header[4..8].copy_from_slice(&kind.to_le_bytes());
             header[8..16].copy_from_slice(&flags.to_le_bytes());
             header[16..24].copy_from_slice(&addr.to_le_bytes());
-            header[24..32].copy_from_slice(&(bytes.len() as u64).to_le_bytes());
+            let at = match self.empty {
+                Some((empty, at)) if empty == *section => at,
+                _ => bytes.len() as u64,
+            };
+            header[24..32].copy_from_slice(&at.to_le_bytes());
             header[32..40].copy_from_slice(&(contents.len() as u64).to_le_bytes());
             header[48..56].copy_from_slice(&align.to_le_bytes());
             headers.extend_from_slice(&header);
@@ -225,7 +278,7 @@ fn refused(number: u64, value: u64) -> Told {
 
 /// Entry 0, which alone has a row, and no moves.
 fn accepted(version: u64, key: u32) -> Told {
-    Told::Accepted([version, 0, 1, 0], vec![[key, 0, 2]])
+    Told::Accepted([version, 0, 1, 0], vec![[key, 0, 2]], Vec::new())
 }
 
 struct Example {
@@ -285,8 +338,43 @@ fn examples() -> Vec<Example> {
         names: Some(0),
         ..LEAST
     };
-    // MurmurHash3 of the name entrypoint
+    let named = |name| {
+        let empty = Some((name, 64));
+        Small { empty, ..PLAIN }.case()
+    };
+    let empty_at = |at| {
+        let empty = Some((".empty", at));
+        Small { empty, ..PLAIN }.case()
+    };
+    // slot 3 of 8 is a call with this source register and immediate
+    let call = |version2, source: u64, immediate: i32| {
+        Small {
+            version2,
+            text_length: 64,
+            slot: Some((3, 0x85 | source << 12 | (immediate as u32 as u64) << 32)),
+            ..PLAIN
+        }
+        .case()
+    };
+    // behind the header, slots 0 to 2 and half of slot 3
+    let immediate_at = 64 + 28;
+    // of this type, with a symbol of this value, over two halves of which the lower holds this
+    let relocation = |kind, symbol, low: u64| {
+        Small {
+            version2: false,
+            slot: Some((0, 0x18 | low << 32)),
+            relocation: Some((kind, symbol)),
+            ..PLAIN
+        }
+        .case()
+    };
+    // MurmurHash3 of the name entrypoint, and of the eight bytes of the indices 0 and 7
     let entrypoint = 0x71e3_cf81;
+    let (key_0, key_7) = (0x6385_2afc, 0xf7cc_5443);
+    // version 1, and the words that the relocation leaves behind
+    let halves = |words: &[(u32, usize)]| {
+        Told::Accepted([1, 0, 1, 0], vec![[entrypoint, 0, 2]], words.to_vec())
+    };
     let example = |what, case, expected| Example {
         what,
         case,
@@ -305,6 +393,117 @@ fn examples() -> Vec<Example> {
         example("loadlist, empty input", empty, refused(33, 0)),
         example("loadlist, its input", loadlist, accepted(2, 0)),
         example("the same, built here", PLAIN.case(), accepted(2, 0)),
+        example(
+            "section name of 15 bytes",
+            named(".fifteen_bytes."),
+            accepted(2, 0),
+        ),
+        example(
+            "section name of 16 bytes",
+            named(".sixteen_bytes__"),
+            // behind the header, the text and a zero byte
+            Told::Refused([4, 0, 81, 16]),
+        ),
+        example(
+            "version 2, slot 3 of 8 calls -4",
+            call(true, 1, -4),
+            // the entry's row is there already, and keeps its name
+            Told::Accepted([2, 0, 1, 0], vec![[0, 0, 3]], vec![(0, immediate_at)]),
+        ),
+        example(
+            "version 2, slot 3 of 8 calls -5",
+            call(true, 1, -5),
+            refused(23, 3),
+        ),
+        example(
+            "version 2, slot 3 of 8 calls 3",
+            call(true, 1, 3),
+            Told::Accepted(
+                [2, 0, 2, 1],
+                vec![[0, 0, 2], [7, 7, 3]],
+                vec![(7, immediate_at)],
+            ),
+        ),
+        example(
+            "version 2, slot 3 of 8 calls 4",
+            call(true, 1, 4),
+            refused(23, 3),
+        ),
+        example(
+            "version 2, slot 3 of 8 calls -1",
+            call(true, 1, -1),
+            accepted(2, 0),
+        ),
+        example(
+            "version 2, slot 3 of 8 calls 4 with source 0",
+            call(true, 0, 4),
+            accepted(2, 0),
+        ),
+        example(
+            "version 1, slot 3 of 8 calls -4",
+            call(false, 0, -4),
+            Told::Accepted(
+                [1, 0, 2, 0],
+                vec![[key_0, 0, 3], [entrypoint, 0, 2]],
+                vec![(key_0, immediate_at)],
+            ),
+        ),
+        example(
+            "version 1, slot 3 of 8 calls -5",
+            call(false, 0, -5),
+            refused(23, 3),
+        ),
+        example(
+            "version 1, slot 3 of 8 calls 3",
+            call(false, 0, 3),
+            Told::Accepted(
+                [1, 0, 2, 1],
+                vec![[entrypoint, 0, 2], [key_7, 7, 3]],
+                vec![(key_7, immediate_at)],
+            ),
+        ),
+        example(
+            "version 1, slot 3 of 8 calls 4",
+            call(false, 0, 4),
+            refused(23, 3),
+        ),
+        example(
+            "version 1, slot 3 of 8 calls -1",
+            call(false, 0, -1),
+            accepted(1, entrypoint),
+        ),
+        example(
+            "version 1, type 1, symbol 0x20, bytes 4",
+            relocation(1, 0x20, 4),
+            halves(&[(0x24, 68), (1, 76)]),
+        ),
+        example(
+            "version 1, type 1, symbol 0xfffffffb, bytes 4",
+            relocation(1, 0xffff_fffb, 4),
+            halves(&[(0xffff_ffff, 68), (1, 76)]),
+        ),
+        example(
+            "version 1, type 1, symbol 0xfffffffc, bytes 4",
+            relocation(1, 0xffff_fffc, 4),
+            halves(&[(0, 68), (1, 76)]),
+        ),
+        example(
+            "version 1, type 8 in text, both halves 0",
+            relocation(8, 0, 0),
+            refused(29, 0),
+        ),
+        example(
+            "version 1, type 8 in text, lower half 1",
+            relocation(8, 0, 1),
+            halves(&[(1, 76)]),
+        ),
+        example("version 1, type 0", relocation(0, 0x20, 4), refused(30, 0)),
+        example("version 1, type 2", relocation(2, 0x20, 4), refused(30, 2)),
+        example("empty section at 0", empty_at(0), accepted(2, 0)),
+        example("empty section at 1", empty_at(1), refused(7, 0)),
+        example("empty section at 10", empty_at(10), refused(7, 0)),
+        example("empty section at 63", empty_at(63), refused(7, 0)),
+        example("empty section at 64", empty_at(64), accepted(2, 0)),
         example(
             "version 2, 9 program headers",
             headers(true, 9),
@@ -401,7 +600,7 @@ pub fn run() -> usize {
     for e in examples() {
         let got = port(&e.case);
         let (rust, asked) = match e.asks_rust {
-            true => (rust(&e.case), e.expected.without_added()),
+            true => (rust(&e.case), e.expected.without_added(&e.case.file)),
             false => (
                 "has no such limit".to_string(),
                 "has no such limit".to_string(),
