@@ -126,7 +126,7 @@ fn among_eight(file: &[u8], start: usize, at: usize) -> usize
 // Slots from `from` on, of `count`, passed over by eights: up to a call's opcode, or to the last seven
 // at most.
 fn pass_eights(file: &[u8], start: usize, from: usize, count: usize) -> usize
-    requires { ⌜ (start + 8 * count ≤ length (now file)) × (length (now file) ≤ 2 ^ 24) × (from ≤ count) ⌝ }
+    requires { ⌜ (from ≤ count) × (start + 8 * count ≤ length (now file)) × (length (now file) ≤ 2 ^ 24) ⌝ }
     ensures { λ r. ⌜ PassesTo (now (file .entry)) start from count r ⌝ }
 {
     let mut at = from;
@@ -142,7 +142,7 @@ fn pass_eights(file: &[u8], start: usize, from: usize, count: usize) -> usize
 
 // The first slot from `from` on, of `count`, with a call's opcode; `count` where none has it.
 fn next_call(file: &[u8], start: usize, from: usize, count: usize) -> usize
-    requires { ⌜ (start + 8 * count ≤ length (now file)) × (length (now file) ≤ 2 ^ 24) × (from ≤ count) ⌝ }
+    requires { ⌜ (from ≤ count) × (start + 8 * count ≤ length (now file)) × (length (now file) ≤ 2 ^ 24) ⌝ }
     ensures { λ r. ⌜ r ≡ nextCall (now (file .entry)) start (count - from) from ⌝ }
 {
     let mut at = pass_eights(file, start, from, count);
@@ -155,13 +155,13 @@ fn next_call(file: &[u8], start: usize, from: usize, count: usize) -> usize
     at
 }
 
-// How many targets of calls are kept in mind, and how many slots are copied at a time.
+// How many targets of calls are remembered, and how many slots are copied at a time.
 const SEEN: usize = 1024;
 
 const COPIED: usize = 512;
 
-// Whether a call's target was registered before, as far as that is in mind. Most calls repeat a
-// target, and then the table need not be searched.
+// Whether a call's target is remembered as one that was registered. Most calls repeat a target, and
+// then the table need not be searched.
 fn is_seen(seen: &[u32], index: u32) -> bool
     requires { ⌜ (1024 ≤ length (now seen)) × (index < 2 ^ 24) ⌝ }
     ensures { λ r. ⌜ r ≡ eqb (getD (now (seen .entry)) (index % 1024) 0) (index + 1) ⌝ }
@@ -340,7 +340,7 @@ fn run_end(i: usize, count: usize) -> usize
 }
 
 // The file's bytes go into the image, and the calls of all slots are registered in turn, up to the
-// first refusal: a run of slots is copied and then looked at, while its bytes are near.
+// first refusal: a run of slots is copied and then looked at, while its bytes are in the cache.
 pub(crate) fn register_calls(
     image: &mut [u8],
     keys: &mut [u32],

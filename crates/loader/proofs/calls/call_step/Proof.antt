@@ -1,4 +1,4 @@
--- `loader::calls::call_step` meets its contract: by what the slot calls, and whether its target is in mind.
+-- `loader::calls::call_step` meets its contract: by what the slot calls, and whether its target is remembered.
 -- Assumes nothing.
 use denote.Ref.{now}
 use mathlib.Core.Path.{_≡_, sym, _∙_}

@@ -30,7 +30,7 @@ among-eight-requires : tie.Need-among-eight-requires Inv-loop μ-loop
 among-eight-requires c κs =
     let l = c .before in
     let s = l .before .before in
-    (omega (arith, c .loop-test .taken, l .loop .inv .within, s .pre .0), s .pre .1)
+    (omega (arith, c .loop-test .taken, l .loop .inv .within, s .pre .1), s .pre .2)
 
 pub pass-eights-spec : {M : Type 1} → statement M
 pass-eights-spec =
@@ -38,10 +38,10 @@ pass-eights-spec =
     (tie.spec
     Inv-loop
     μ-loop
-    (λ c. record { begun = omega arith; within = c .before .pre .2; same = refl })
+    (λ c. record { begun = omega arith; within = c .before .pre .0; same = refl })
     (λ c. c .loop .inv .within)
     among-eight-requires
-    (λ c. record { fits = omega (arith, more c, c .before .before .before .before .pre .0, c .before .before .before .before .pre .1) })
+    (λ c. record { fits = omega (arith, more c, c .before .before .before .before .pre .1, c .before .before .before .before .pre .2) })
     (λ c. on (c .before))
     (λ c. omega (arith, more (c .before), c .if1 .left))
     (λ c. on (c .before))

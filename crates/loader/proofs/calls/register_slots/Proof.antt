@@ -94,7 +94,7 @@ small i to n file start l h m k = record { fits = omega arith }
 next-call-requires : tie.Need-next-call-requires Inv-loop μ-loop
 next-call-requires c κs =
     let s = c .before .before .before .before .before .before .before .before .before .before in
-    (inside s, s .pre .0 .short, s .pre .3)
+    (s .pre .3, inside s, s .pre .0 .short)
 
 loop-holds : tie.Need-loop-holds Inv-loop μ-loop
 loop-holds c =
@@ -140,7 +140,7 @@ add-next-call c =
 next-call-requires-2 : tie.Need-next-call-requires-2 Inv-loop μ-loop
 next-call-requires-2 c κs =
     let p = c .before .before .before .before .before .before .before .before .before .before .before .before .before .before .before .before .before in
-    (inside (st (lp p)), st (lp p) .pre .0 .short, omega (arith, p .before .before .before .before .before .before .before .before .loop-test .taken))
+    (omega (arith, p .before .before .before .before .before .before .before .before .loop-test .taken), inside (st (lp p)), st (lp p) .pre .0 .short)
 
 loop-less : tie.Need-loop-less Inv-loop μ-loop
 loop-less c =
