@@ -166,7 +166,7 @@ dynamicOf s t = dynamicIn s t (dynamicTable s t)
 
 -- ---- laws
 
--- the search for an entry, as a loop that counts down meets it
+-- the search for an entry, in the form that the proof of a loop that counts down needs
 module _ (s : List ℕ) (width offset : ℕ) (wide : Bool) (value : ℕ) where
   pub first-here : (n at : ℕ) → 0 < n → field wide s (at + offset) ≡ value → firstWith s width offset wide value n at ≡ At at
   unfolding firstWith

@@ -12,7 +12,7 @@ use Rattle.elf_parser.specs.declared.error.Check.the-variants.{Pass, Ref
 abbrev pub plain : ℕ → Report
 plain n = record { number = n; value = 0; start = 0; length = 0 }
 
--- the numbers of document 01
+-- the numbers of the scope
 abbrev pub reportOf : ElfParserError → Report
 reportOf InvalidFileHeader = plain 1
 reportOf InvalidProgramHeader = plain 2

@@ -21,7 +21,7 @@ module _ {R A : Type 0} (step : ℕ → A → Turn R A) (w : ℕ) where
   over zero at x = goes x
   over (suc n) at x = step at x into over n (at + w)
 
-  -- as a loop that counts down meets it
+  -- in the form that the proof of a loop that counts down needs
   pub over-next : (n at : ℕ) (x y : A) → 0 < n → step at x ≡ goes y → over n at x ≡ over (n - 1) (at + w) y
   unfolding over _into_
   over-next zero at x y h e = absurd (omega arith)

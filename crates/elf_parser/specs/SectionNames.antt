@@ -113,7 +113,7 @@ same-short a b h = go (sameBytes a b) refl
     go true e = absurd (h (ap length (same-equal a b e)))
     go false e = refl
 
--- as a loop that compares from i on meets it
+-- in the form that the proof of a loop that compares from i on needs
 module _ (a b : List ℕ) where
   pub same-end : (i : ℕ) → i ≡ length a → i ≡ length b → sameBytes (drop i a) (drop i b) ≡ true
   unfolding sameBytes

@@ -8,7 +8,7 @@ ghost use mathlib.Core.Path.{_≡_};
 ghost use Rattle.elf_parser.specs.FileHeader.{headerRight, headerCheck, tablesCheck};
 
 // Whether the fields of the file header are those of a file that is read here. The tests are
-// joined by & and not by &&: a row of plain tests has no places where branches meet.
+// joined by & and not by &&: so they make no branches, and the proof has no cases.
 fn header_right(file: &[u8]) -> bool
     ensures { λ r. ⌜ r ≡ headerRight (now (file .entry)) ⌝ }
 {

@@ -19,7 +19,7 @@ const BUILTINS: usize = 64;
 const BUILTINS_SIZE: usize = 256;
 // The bytes of a case's numbers.
 const HEAD_SIZE: usize = 40;
-// More cases than any sample has: nothing says that an input ends.
+// More cases than any sample has: a loop needs a bound, and the input gives none.
 const MOST_CASES: usize = 100000;
 
 // The numbers of a case: the settings by their bits, and how long everything is.

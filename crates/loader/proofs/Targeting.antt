@@ -1,4 +1,4 @@
--- A call's target: its row, by its key and the name that every target has, and the targets in mind. Assumes nothing.
+-- A call's target: its row, by its key and the name that every target has, and the targets that are remembered. Assumes nothing.
 use mathlib.Core.Path.{_≡_, refl, sym, ap, _∙_, subst}
 use mathlib.Core.Bool.{Bool, true, false}
 use mathlib.Core.List.{List}
@@ -95,7 +95,7 @@ module _ (file builtins : List ℕ) (j : Job) (i : ℕ) (im : List ℕ) where
         → Settles (slotTrace file builtins j i im) im′ t u 1 used moves a
     settles-target im′ t u used moves a w did = rw (slot-target, ← w) (did im′)
 
--- ---- the targets in mind
+-- ---- the targets that are remembered
 
 module _ (builtins : List ℕ) (j : Job) where
   -- a target that is known: its registration would be a repeat
@@ -150,7 +150,7 @@ module _ (builtins : List ℕ) (j : Job) where
     held-after (Holds used′ moves′) did still = record { room = simp length-set (held .room); known = rows-known used′ moves′ did; alike = still }
     held-after (Refused r) did still = tt
 
--- nothing is in mind at the start, and there are no rows
+-- nothing is remembered at the start, and there are no rows
 pub none-held : (builtins : List ℕ) (j : Job) (t : Slices) (n : ℕ) → 1024 ≤ n → CallsHeld builtins j (replicate n 0) t 0
 none-held builtins j t n h = record {
   room = rw (length-replicate {A = ℕ} n 0) h;

@@ -38,7 +38,7 @@ Known builtins j rs v = (row : Row) × (rowFor builtins j OfIndex v ≡ Free row
 abbrev pub Seen : List ℕ → Job → List Row → List ℕ → Type 0
 Seen builtins j rs seen = (k v : ℕ) → getD seen k 0 ≡ suc v → Known builtins j rs v
 
--- what the loop keeps beside the table: the targets in mind, and that no row has a name of its own
+-- what the loop keeps beside the table: the targets that are remembered, and that no row has a name of its own
 pub record CallsHeld (builtins : List ℕ) (j : Job) (seen : List ℕ) (t : Slices) (used : ℕ) : Type 0 where
   pub room : 1024 ≤ length seen
   pub known : Seen builtins j (rowsOf t used) seen

@@ -96,7 +96,7 @@ pub record PassesTo (file : List ℕ) (start from count r : ℕ) : Type 0 where
   pub within : r ≤ count
   pub same : nextCall file start (count - r) r ≡ nextCall file start (count - from) from
 
--- as a loop meets it
+-- in the form that the loop's proof needs
 module _ (file : List ℕ) (start i : ℕ) where
   pub call-here : (n : ℕ) → 0 < n → getD file (start + 8 * i) 0 ≡ 0x85 → nextCall file start n i ≡ i
   unfolding nextCall _if_else_

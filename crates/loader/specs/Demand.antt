@@ -1,4 +1,4 @@
--- Demand 3: one claim about a whole load, in document 01's words.
+-- Demand 3: one claim about a whole load, in the scope's words.
 use Prim.Native.Nat.{ℕ, suc, _+_, _-_, _/_, _%_, _<_, _^_}
 use mathlib.Core.Path.{_≡_}
 use mathlib.Core.Bool.{Bool, true, false, _&&_, _||_, not}

@@ -1,4 +1,4 @@
--- The refusals of a load, in document 01's numbers.
+-- The refusals of a load, in the scope's numbers.
 use Prim.Native.Nat.{ℕ}
 use Rattle.elf_parser.specs.declared.error.ElfParserError.{ElfParserError}
 use Rattle.elf_parser.specs.declared.error.ElfParserError.the-variants.{InvalidFileHeader, InvalidProgramHeader, InvalidSectionHeader, StringTooLong, OutOfBounds, InvalidSize, Overlap, SectionNotInOrder, NoSectionNameStringTable, InvalidDynamicSectionTable, InvalidAlignment, NoStringTable, NoDynamicStringTable, NoSuchIndex}

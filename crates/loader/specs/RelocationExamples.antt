@@ -1,4 +1,4 @@
--- Examples on relocations and labels beside document 01's (`Worked`): each holds by computation.
+-- Examples on relocations and labels beside the scope's (`Worked`): each holds by computation.
 use Prim.Native.Nat.{ℕ, _+_, _*_, _^_}
 use mathlib.Core.Bool.{Bool, true, false}
 use mathlib.Core.List.{List, [], _∷_, _++_}

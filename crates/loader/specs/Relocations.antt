@@ -230,7 +230,7 @@ relocationsTrace s builtins j im = each (relocationTrace s builtins j) (j .layou
 
 -- ---- laws
 
--- the search for a header, as a loop meets it
+-- the search for a header, in the form that the loop's proof needs
 module _ (s : List ℕ) (l : Layout) (a i : ℕ) where
   pub first-here : (n : ℕ) → 0 < n → contains (headerAt s l i) a ≡ true → firstFrom s l a n i ≡ headerAt s l i
   unfolding firstFrom _if_else_

@@ -1,4 +1,4 @@
-// The parts of a load, joined two by two: a function over image and columns is dear to check, so each
+// The parts of a load, joined two by two: a function over image and columns takes long to check, so each
 // holds two calls over them and no more.
 use crate::calls::register_calls;
 use crate::deeds::Outcome;

@@ -1,7 +1,6 @@
 //! Writes the list of modules that are the given files, by path and unchanged.
 //! The folder is DOCS_SRC, solana_rbpf 0.8.5's src/ (taken from the folder of the
-//! comparison if relative); its default is where the project keeps the sources
-//! that it ports, beside the repository.
+//! comparison if relative). It must be set: the sources are not in this repository.
 use std::{env, fs, path::PathBuf};
 
 fn main() {
@@ -11,7 +10,7 @@ fn main() {
         .parent()
         .unwrap()
         .to_path_buf();
-    let wanted = env::var_os("DOCS_SRC").unwrap_or_else(|| "../../../shared/docs/src/src".into());
+    let wanted = env::var_os("DOCS_SRC").expect("DOCS_SRC is not set: solana_rbpf 0.8.5's src/");
     let folder = project
         .join(PathBuf::from(wanted))
         .canonicalize()

@@ -1,4 +1,4 @@
-//! Asks the proved functions and the true Rust the same, and says where they differ.
+//! Asks the proved functions and the Rust the same, and says where they differ.
 
 use crate::{
     cases::Case,

@@ -1,4 +1,4 @@
-//! What a load must answer and leave, in full: from the true Rust, and from document 01 where the
+//! What a load must answer and leave, in full: from the Rust, and from the scope where the
 //! Rust says nothing (40 to 43, moves, name kinds, places of names, the lent columns).
 
 use crate::{
@@ -66,7 +66,7 @@ fn agree(file: &[u8], rust: &outcome::Refused, stop: &Stop) -> bool {
 
 /// Err where the model and the Rust disagree: then the model is wrong.
 pub fn expected(case: &Case) -> Result<Expected, String> {
-    // what document 01 refuses before the Rust is asked
+    // what the scope refuses before the Rust is asked
     if case.file.len() > LONGEST {
         return Ok(refused(case, only(40), 0));
     }
@@ -122,7 +122,7 @@ pub fn expected(case: &Case) -> Result<Expected, String> {
                         return wrong("another text");
                     }
                 }
-                // document 01: version 1, lowest address 0x100000000
+                // the scope: version 1, lowest address 0x100000000
                 Text::Aborted => {
                     let lowest = a.ro.copied && a.ro.addr_offset == 0 && case.settings.optimize;
                     if m.version2 || m.text_addr != STACK_START || !lowest {
@@ -153,7 +153,7 @@ pub fn expected(case: &Case) -> Result<Expected, String> {
     };
     let n = rows as u64;
     if replayed.moves > n * (n - 1) / 2 + 2 * (n - 1) {
-        return wrong("more moves than document 01 allows");
+        return wrong("more moves than the scope allows");
     }
     let words = [
         0,

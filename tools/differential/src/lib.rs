@@ -1,7 +1,7 @@
-//! The proved functions and the true Rust, side by side. `outcome` has the true Rust's answers
-//! in document 01's numbers: solana_rbpf 0.8.5, compiled unchanged from DOCS_SRC. `port` calls
+//! The proved functions and the Rust, side by side. `outcome` has the Rust's answers
+//! in the scope's numbers: solana_rbpf 0.8.5, compiled unchanged from DOCS_SRC. `port` calls
 //! the proved functions. `cases` makes the inputs, `compare` asks both, and `loads` does for whole
-//! loads, whose answers `expected` has in full. `worked` has document 01's examples.
+//! loads, whose answers `expected` has in full. `worked` has the scope's examples.
 
 pub mod bench;
 pub mod cases;
@@ -18,7 +18,7 @@ pub mod worked;
 
 pub use outcome::{outcome, Outcome};
 
-/// The six settings, named as in document 01.
+/// The six settings, named as in the scope.
 #[derive(Clone, Copy, Debug, PartialEq, Eq)]
 pub struct Settings {
     /// `enable_symbol_and_section_labels`
@@ -36,7 +36,7 @@ pub struct Settings {
 }
 
 impl Settings {
-    /// All on, as in document 01's `loadlist`.
+    /// All on, as in the scope's `loadlist`.
     pub const ALL_ON: Settings = Settings {
         labels: true,
         reject_broken: true,
@@ -68,7 +68,7 @@ impl Settings {
     }
 }
 
-/// The name of a number of document 01.
+/// The name of a number of the scope.
 pub fn number_name(number: u32) -> &'static str {
     match number {
         1 => "InvalidFileHeader",

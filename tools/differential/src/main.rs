@@ -1,9 +1,9 @@
-//! differential CASES [SEED [FIRST]]: compares the proved functions with the true Rust: the readers
+//! differential CASES [SEED [FIRST]]: compares the proved functions with the Rust: the readers
 //!     and, where the library has it, the load.
 //! differential readers CASES [SEED [FIRST]], differential loads ..: one of them alone.
 //! differential rust CASES [SEED [FIRST]]: what is expected of a load, without the port: the true
-//!     Rust's answers, and the second telling of document 01 held against them.
-//! differential worked: document 01's worked examples and published hashes, against what was worked
+//!     Rust's answers, and the second implementation of the scope held against them.
+//! differential worked: the scope's worked examples and published hashes, against what was worked
 //!     out by hand.
 //! differential write CASE FILE [SEED]: the file of a case.
 //! differential FILE..: both answers to files, with all settings on and no built-ins.

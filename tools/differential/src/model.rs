@@ -1,7 +1,7 @@
-//! A second telling of a load's middle, from document 01: which functions are registered, in which
+//! A second implementation of a load's middle, from the scope: which functions are registered, in which
 //! order, with which names, and what the relocations write. The Rust keeps no record of the order,
 //! nor of moves and places of names, and has no limit of rows; those come from here. `expected`
-//! holds every outcome of this against the true Rust, so that the telling is tested itself.
+//! holds every outcome of this against the Rust, so that the telling is tested itself.
 //!
 //! Reading the file is the Rust's own `Elf64` and `validate`; placing the read-only sections is
 //! left to the Rust altogether.

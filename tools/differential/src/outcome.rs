@@ -1,4 +1,4 @@
-//! The true Rust's answer to a load, in document 01's terms.
+//! The Rust's answer to a load, in the scope's terms.
 
 use crate::Settings;
 use rbpf::{
@@ -16,7 +16,7 @@ use std::{
     sync::{Arc, Once},
 };
 
-/// A number of document 01 with its value. The name is the `String` that the
+/// A number of the scope with its value. The name is the `String` that the
 /// Rust carries, that is `String::from_utf8_lossy` of the bytes in the file.
 #[derive(Clone, Debug, PartialEq, Eq)]
 pub struct Refused {
@@ -125,7 +125,7 @@ pub fn parser_number(err: &ElfParserError) -> u32 {
         ElfParserError::NoStringTable => 12,
         ElfParserError::NoDynamicStringTable => 13,
         ElfParserError::InvalidString | ElfParserError::InvalidRelocationTable => {
-            unreachable!("document 01 has no number for {err:?}")
+            unreachable!("the scope has no number for {err:?}")
         }
     }
 }
@@ -163,7 +163,7 @@ pub fn load_refusal(err: ElfError) -> Refused {
         ElfError::UnknownSymbol(symbol) => (32, symbol as u64, None),
         ElfError::ValueOutOfBounds => (33, 0, None),
         ElfError::UnsupportedSBPFVersion => (34, 0, None),
-        other => unreachable!("document 01 says this is never reached: {other:?}"),
+        other => unreachable!("the scope says this is never reached: {other:?}"),
     };
     Refused {
         number,
@@ -203,12 +203,12 @@ pub fn load_once(file: &[u8], loader: &Arc<BuiltinProgram<TestContextObject>>) -
     Program::load(file, loader.clone()).is_ok()
 }
 
-/// The true Rust's hash.
+/// The Rust's hash.
 pub fn hash(name: &[u8]) -> u32 {
     ebpf::hash_symbol_name(name)
 }
 
-/// The true Rust's answer. `builtins` ascends strictly. `rows` only decides
+/// The Rust's answer. `builtins` ascends strictly. `rows` only decides
 /// between `Accepted` and `TableTooSmall`; where the Rust refuses, a table of
 /// fewer rows than the keys it had registered until then makes the port answer
 /// 43 earlier, which this function cannot see: lend enough rows.

@@ -1,5 +1,5 @@
 //! Document 01's worked examples, also those that specs/Worked.antt proves: each with the answer that
-//! was worked out by hand, the port's and the true Rust's. Where an example has a limit, the neighbour
+//! was worked out by hand, the port's and the Rust's. Where an example has a limit, the neighbour
 //! on its other side is beside it. And published hashes.
 
 use crate::{

@@ -1,6 +1,6 @@
 //! vectors FOLDER [CASES [SEED]]: writes a fixed sample of loads for a program that replays them
 //! without any Rust (`crates/load_vectors`). The file `stdin` has the cases, `stdout` a line for
-//! each, what the true Rust answers (and document 01 where the Rust says nothing).
+//! each, what the Rust answers (and the scope where the Rust says nothing).
 //!
 //! A case, all numbers 32 bits little-endian:
 //!
