@@ -1,8 +1,9 @@
-// Sums and differences that stop at the ends of 64 bits, and addresses in the machine.
+// Sums and differences that stop at the ends of 64 bits, a choice, and addresses in the machine.
 use ebpf::MM_PROGRAM_START;
 ghost use mathlib.Core.Path.{_≡_};
 ghost use Prim.Native.Nat.{_+_, _-_, min, max};
 ghost use lib.Dec.{ltb};
+ghost use Rattle.ebpf.specs.Choice.{_if_else_};
 ghost use Rattle.loader.specs.Addresses.{sumUpTo, machineAddr};
 
 // A sum of two numbers, or the largest number where it is past 64 bits.
@@ -41,6 +42,16 @@ pub(crate) fn greater(a: u64, b: u64) -> u64
         return b;
     }
     a
+}
+
+// `x` where `b` holds, else `y`.
+pub(crate) fn pick(b: bool, x: u64, y: u64) -> u64
+    ensures { λ r. ⌜ r ≡ (x if b else y) ⌝ }
+{
+    if b {
+        return x;
+    }
+    y
 }
 
 // Whether `b` bytes from `a` on end past `len`.

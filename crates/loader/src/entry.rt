@@ -7,6 +7,7 @@ use crate::error::ElfError;
 use crate::functions::row_for;
 use crate::labels::label_row;
 use crate::validate::Job;
+use program::ENTRYPOINT_KEY;
 use program::FunctionName;
 use program::Removed;
 ghost use mathlib.Core.Path.{_≡_};
@@ -16,9 +17,6 @@ ghost use Rattle.program.specs.Runs.{movesGone};
 ghost use Rattle.loader.specs.Functions.{Keyed};
 ghost use Rattle.loader.specs.Entry.{entryDeed, forgottenBy, entryTrace};
 ghost use Rattle.loader.specs.Contracts.{Begins, Forgets, Settles};
-
-// The hash of the name entrypoint.
-const ENTRYPOINT_KEY: u32 = 0x71e3cf81;
 
 // What a load does about the entry.
 pub(crate) fn entry_deed(builtins: &[u32], table: &[u32], job: Job) -> Deed

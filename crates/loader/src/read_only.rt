@@ -3,6 +3,7 @@ use crate::addresses::greater;
 use crate::addresses::lesser;
 use crate::addresses::machine_addr;
 use crate::addresses::past;
+use crate::addresses::pick;
 use crate::addresses::saturating_add;
 use crate::addresses::saturating_sub;
 use crate::error::ElfError;
@@ -19,7 +20,6 @@ ghost use mathlib.Core.Path.{_≡_};
 ghost use Prim.Native.Nat.{_+_, _≤_};
 ghost use lib.ListN.{length, drop};
 ghost use lib.Seq.{paste};
-ghost use Rattle.ebpf.specs.Choice.{_if_else_};
 ghost use Rattle.loader.specs.ReadOnly.{readOnly, gives, invalidBy, endOf, grown, taken, gatherNext, nothing, fromStart, canBorrow, borrowed, owned, placed, placingBy, copiedTo, copyStep, copiedFrom};
 
 pub enum Placing {
@@ -66,15 +66,6 @@ fn is_read_only(name: &[u8]) -> bool
     let rel = same_bytes(name, b".data.rel.ro");
     let frame = same_bytes(name, b".eh_frame");
     (text | rodata) | (rel | frame)
-}
-
-fn pick(b: bool, x: u64, y: u64) -> u64
-    ensures { λ r. ⌜ r ≡ (x if b else y) ⌝ }
-{
-    if b {
-        return x;
-    }
-    y
 }
 
 // Whether a section gives the constant.

@@ -1,5 +1,7 @@
 // What a relocation asks for: the place that it means, the bytes that it writes there, and the function
 // that it registers. Reads only; the caller registers and writes.
+use crate::addresses::past;
+use crate::addresses::pick;
 use crate::addresses::saturating_add;
 use crate::addresses::saturating_sub;
 use crate::deeds::Deed;
@@ -27,9 +29,8 @@ use program::Legacy;
 use program::is_builtin;
 ghost use mathlib.Core.Path.{_≡_};
 ghost use mathlib.Core.Bool.{_&&_};
-ghost use Prim.Native.Nat.{_+_, _-_, _≤_, _<_, _^_, min};
+ghost use Prim.Native.Nat.{_-_, _≤_, _<_, _^_, min};
 ghost use lib.Dec.{leb, ltb};
-ghost use Rattle.ebpf.specs.Choice.{_if_else_};
 ghost use Rattle.ebpf.specs.LittleEndian.{join};
 ghost use Rattle.elf_parser.specs.Records.{dynamicSymbolOf};
 ghost use Rattle.elf_parser.specs.Names.{dynamicSymbolName};
@@ -154,16 +155,6 @@ fn r_place(version2: bool, used: Used, r_offset: u64) -> Mapped
     }
 }
 
-// Whether `n` bytes at a place do not lie in `len` bytes.
-fn is_outside(len: u64, at: u64, n: u64) -> bool
-    ensures { λ r. ⌜ r ≡ ltb len (at + n) ⌝ }
-{
-    if 0xffff_ffff_ffff_ffff - at < n {
-        return true;
-    }
-    len < at + n
-}
-
 // Whether a place lies in the `length` bytes from `start` on.
 fn is_within(start: u64, length: u64, r: u64) -> bool
     ensures { λ b. ⌜ b ≡ within start length r ⌝ }
@@ -194,10 +185,10 @@ fn immediate_at(r: u64) -> u64
 fn halves_deed(len: u64, low: u64, high: u64, value: u64) -> Deed
     ensures { λ r. ⌜ r ≡ halvesDeed len low high value ⌝ }
 {
-    if is_outside(len, low, 4) {
+    if past(len, low, 4) {
         return Deed::Refuse(ElfError::ValueOutOfBounds);
     }
-    if is_outside(len, high, 4) {
+    if past(len, high, 4) {
         return Deed::Refuse(ElfError::ValueOutOfBounds);
     }
     Deed::Halves {
@@ -210,7 +201,7 @@ fn halves_deed(len: u64, low: u64, high: u64, value: u64) -> Deed
 fn word_deed(len: u64, at: u64, value: u64) -> Deed
     ensures { λ r. ⌜ r ≡ wordDeed len at value ⌝ }
 {
-    if is_outside(len, at, 8) {
+    if past(len, at, 8) {
         return Deed::Refuse(ElfError::ValueOutOfBounds);
     }
     Deed::Word {
@@ -227,15 +218,6 @@ fn address_deed(len: u64, split: bool, at: u64, value: u64) -> Deed
         return halves_deed(len, at, saturating_add(at, 8), value);
     }
     word_deed(len, at, value)
-}
-
-fn pick_place(split: bool, x: u64, y: u64) -> u64
-    ensures { λ r. ⌜ r ≡ (x if split else y) ⌝ }
-{
-    if split {
-        return x;
-    }
-    y
 }
 
 // Type 1 once its four bytes are read.
@@ -266,8 +248,8 @@ fn plan_64_64(file: &[u8], image: &[u8], layout: Layout, split: bool, r: u64, nu
     ensures { λ x. ⌜ x ≡ plan6464 (now (file .entry)) (now (image .entry)) layout split r number ⌝ }
 {
     let len = image.len() as u64;
-    let at = pick_place(split, immediate_at(r), r);
-    if is_outside(len, at, 4) {
+    let at = pick(split, immediate_at(r), r);
+    if past(len, at, 4) {
         return Deed::Refuse(ElfError::ValueOutOfBounds);
     }
     symbol_deed(
@@ -285,10 +267,10 @@ fn plan_64_64(file: &[u8], image: &[u8], layout: Layout, split: bool, r: u64, nu
 fn relative_text(len: u64, low: u64, high: u64, address: u64) -> Deed
     ensures { λ r. ⌜ r ≡ relativeText len low high address ⌝ }
 {
-    if is_outside(len, low, 4) {
+    if past(len, low, 4) {
         return Deed::Refuse(ElfError::ValueOutOfBounds);
     }
-    if is_outside(len, high, 4) {
+    if past(len, high, 4) {
         return Deed::Refuse(ElfError::ValueOutOfBounds);
     }
     if address == 0 {
@@ -354,7 +336,7 @@ fn register_deed(len: u64, at: u64, row: Legacy) -> Deed
     match row {
         Legacy::Taken(key) => Deed::Refuse(ElfError::SymbolHashCollision { key }),
         Legacy::Free(row) => {
-            if is_outside(len, at, 4) {
+            if past(len, at, 4) {
                 return Deed::RegisterOutside { row };
             }
             Deed::Register {
@@ -408,7 +390,7 @@ fn builtin_call(
             offset: r,
         });
     }
-    if is_outside(len, at, 4) {
+    if past(len, at, 4) {
         return Deed::Refuse(ElfError::ValueOutOfBounds);
     }
     Deed::Key {

@@ -58,7 +58,7 @@ fn outside_file(len: u64, sh_offset: u64, sh_size: u64) -> bool
     len < sh_offset + sh_size
 }
 
-fn pick(b: bool, x: u32, y: u32) -> u32
+fn pick_u32(b: bool, x: u32, y: u32) -> u32
     ensures { λ r. ⌜ r ≡ (x if b else y) ⌝ }
 {
     if b {
@@ -100,10 +100,10 @@ pub(crate) fn survey_next(len: u64, index: u32, h: Elf64Shdr, name: &[u8], v: Su
     let outside = outside_file(len, h.sh_offset, h.sh_size);
     let first = v.texts == 0;
     Survey {
-        texts: pick(is_text, v.texts + 1, v.texts),
-        text: pick(is_text & first, index, v.text),
+        texts: pick_u32(is_text, v.texts + 1, v.texts),
+        text: pick_u32(is_text & first, index, v.text),
         writable: v.writable | bad,
-        writable_name: pick(!v.writable & bad, h.sh_name, v.writable_name),
+        writable_name: pick_u32(!v.writable & bad, h.sh_name, v.writable_name),
         outside: v.outside | outside,
     }
 }

@@ -10,7 +10,7 @@ ghost use Rattle.program.specs.Search.{isAmong};
 ghost use Rattle.program.specs.HashedLegacy.{isEntrypoint, legacyKey, keptName, keptSymbol, isTaken, legacyRow};
 
 // The hash of the name entrypoint.
-const ENTRYPOINT_KEY: u32 = 0x71e3cf81;
+pub const ENTRYPOINT_KEY: u32 = 0x71e3cf81;
 
 fn is_entrypoint(name: FunctionName) -> bool
     ensures { λ r. ⌜ r ≡ isEntrypoint name ⌝ }

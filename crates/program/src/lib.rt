@@ -8,6 +8,7 @@ mod hashed_legacy;
 mod search;
 
 pub use columns::rows_lent;
+pub use hashed_legacy::ENTRYPOINT_KEY;
 pub use hashed_legacy::is_builtin;
 pub use hashed_legacy::is_taken;
 pub use hashed_legacy::kept_name;

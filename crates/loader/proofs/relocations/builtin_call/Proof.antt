@@ -14,5 +14,5 @@ builtin-call-spec =
     (search needs)
     (λ c. rw (← c .before .is-builtin .ensures) (search choices depth 8))
     (search needs)
-    (λ c. rw (← c .before .before .before .is-builtin .ensures, ← c .before .is-outside .ensures) (search choices depth 8))
-    (λ c. rw (← c .before .before .before .is-builtin .ensures, ← c .before .is-outside .ensures) (search choices depth 8)))
+    (λ c. rw (← c .before .before .before .is-builtin .ensures, ← c .before .past .ensures) (search choices depth 8))
+    (λ c. rw (← c .before .before .before .is-builtin .ensures, ← c .before .past .ensures) (search choices depth 8)))

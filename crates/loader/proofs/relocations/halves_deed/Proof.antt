@@ -12,7 +12,7 @@ halves-deed-spec =
     tie.close
     (tie.spec
     (search needs)
-    (λ c. rw (← c .before .is-outside .ensures) (search choices depth 8))
+    (λ c. rw (← c .before .past .ensures) (search choices depth 8))
     (search needs)
-    (λ c. rw (← c .before .before .before .is-outside .ensures, ← c .before .is-outside2 .ensures) (search choices depth 8))
-    (λ c. rw (← c .before .before .before .is-outside .ensures, ← c .before .is-outside2 .ensures) (search choices depth 8)))
+    (λ c. rw (← c .before .before .before .past .ensures, ← c .before .past2 .ensures) (search choices depth 8))
+    (λ c. rw (← c .before .before .before .past .ensures, ← c .before .past2 .ensures) (search choices depth 8)))

@@ -12,6 +12,6 @@ register-deed-spec =
     (search needs)
     (search needs)
     (search needs)
-    (λ c. rw (c .before .before .before .row2 .given .1, ← c .before .is-outside .ensures) (search choices depth 8))
+    (λ c. rw (c .before .before .before .row2 .given .1, ← c .before .past .ensures) (search choices depth 8))
     (λ c. rw (c .before .row .given .1))
-    (λ c. rw (c .before .before .before .row2 .given .1, ← c .before .is-outside .ensures) (search choices depth 8)))
+    (λ c. rw (c .before .before .before .row2 .given .1, ← c .before .past .ensures) (search choices depth 8)))

@@ -12,9 +12,9 @@ relative-text-spec =
     tie.close
     (tie.spec
     (search needs)
-    (λ c. rw (← c .before .is-outside .ensures) (search choices depth 8))
+    (λ c. rw (← c .before .past .ensures) (search choices depth 8))
     (search needs)
-    (λ c. rw (← c .before .before .before .is-outside .ensures, ← c .before .is-outside2 .ensures) (search choices depth 8))
-    (λ c. rw (← c .before .before .before .before .is-outside .ensures, ← c .before .before .is-outside2 .ensures) (search choices depth 8))
+    (λ c. rw (← c .before .before .before .past .ensures, ← c .before .past2 .ensures) (search choices depth 8))
+    (λ c. rw (← c .before .before .before .before .past .ensures, ← c .before .before .past2 .ensures) (search choices depth 8))
     (search needs)
-    (λ c. rw (← c .before .before .before .before .before .is-outside .ensures, ← c .before .before .before .is-outside2 .ensures, ← c .program-address .ensures) (search choices depth 8)))
+    (λ c. rw (← c .before .before .before .before .before .past .ensures, ← c .before .before .before .past2 .ensures, ← c .program-address .ensures) (search choices depth 8)))

@@ -12,5 +12,5 @@ word-deed-spec =
     tie.close
     (tie.spec
     (search needs)
-    (λ c. rw (← c .before .is-outside .ensures) (search choices depth 8))
-    (λ c. rw (← c .before .is-outside .ensures) (search choices depth 8)))
+    (λ c. rw (← c .before .past .ensures) (search choices depth 8))
+    (λ c. rw (← c .before .past .ensures) (search choices depth 8)))

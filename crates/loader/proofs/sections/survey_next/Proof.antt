@@ -16,4 +16,4 @@ survey-next-spec =
     (search needs)
     (search needs)
     (search needs)
-    (λ c. rw (c .before .pick3 .ensures, c .before .before .before .before .pick2 .ensures, c .before .before .before .before .before .pick .ensures, c .before .before .before .before .before .before .before .before .outside-file .ensures, c .before .before .before .before .before .before .before .before .before .is-unsupported .ensures, c .before .before .before .before .before .before .before .before .before .before .same-bytes .ensures)))
+    (λ c. rw (c .before .pick-u323 .ensures, c .before .before .before .before .pick-u322 .ensures, c .before .before .before .before .before .pick-u32 .ensures, c .before .before .before .before .before .before .before .before .outside-file .ensures, c .before .before .before .before .before .before .before .before .before .is-unsupported .ensures, c .before .before .before .before .before .before .before .before .before .before .same-bytes .ensures)))

@@ -1,8 +1,8 @@
--- `loader::read_only::pick` meets its contract: a choice.
+-- `loader::addresses::pick` meets its contract: a choice.
 -- Assumes nothing.
 use Rattle.ebpf.specs.Choice.{choices}
-use Rattle.loader.proofs.read_only.pick.Statement.{statement}
-use Rattle.loader.proofs.read_only.pick.Tie as tie
+use Rattle.loader.proofs.addresses.pick.Statement.{statement}
+use Rattle.loader.proofs.addresses.pick.Tie as tie
 
 pub pick-spec : {M : Type 1} → statement M
 pick-spec =
