@@ -1,6 +1,6 @@
 -- The key of an index, from its two words. Assumes nothing.
 use mathlib.Core.Path.{_≡_, _∙_, ap₂}
-use Prim.Native.Nat.{ℕ, _+_, _*_, _/_, _%_, _^_, _<_}
+use Prim.Native.Nat.{ℕ, _/_, _%_, _^_, _<_}
 use native.Mathlib.Omega.{arith}
 use Rattle.ebpf.specs.LittleEndian.{bytesOf}
 use Rattle.ebpf.specs.Murmur3.{body, murmur3, block}

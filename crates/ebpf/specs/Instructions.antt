@@ -1,7 +1,6 @@
 -- Instruction slots of a text: 8 bytes each.
 use Prim.Native.Nat.{ℕ, _+_, _*_, _/_, _%_}
-use mathlib.Core.List.{List, [], _∷_}
-use mathlib.Core.Path.{_≡_, refl}
+use mathlib.Core.List.{List}
 use lib.ListN.{length}
 use lib.Dec.{leb}
 use Rattle.ebpf.specs.Choice.{_if_else_}

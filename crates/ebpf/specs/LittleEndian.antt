@@ -1,10 +1,10 @@
 -- Little-endian numbers in a list of bytes, and the laws that callers cite.
-use Prim.Native.Nat.{ℕ, zero, suc, _+_, _*_, _/_, _%_, _^_, _<_, _≤_}
+use Prim.Native.Nat.{ℕ, zero, suc, _+_, _*_, _/_, _%_, _^_, _≤_}
 use mathlib.Core.List.{List, [], _∷_}
 use mathlib.Core.Path.{_≡_, refl}
 use lib.ListN.{length, getD, List·getD-eq-default}
 use native.Mathlib.Omega.{arith}
-use native.Mathlib.Nat.{pow-suc, pow-succ', mul-assoc, zero-add, add-zero, one-mul, suc-add}
+use native.Mathlib.Nat.{pow-succ', mul-assoc, zero-add, add-zero, one-mul, suc-add}
 
 -- the number whose k bytes stand at `at` in s, the lowest first; past the end of s stand zeros
 unfoldable pub le : ℕ → List ℕ → ℕ → ℕ
@@ -20,21 +20,9 @@ unfoldable pub bytesOf : ℕ → ℕ → List ℕ
 bytesOf zero n = []
 bytesOf (suc k) n = n % 256 ∷ bytesOf k (n / 256)
 
--- each element of s is a byte
-abbrev pub Bytes : List ℕ → Type 0
-Bytes s = (i : ℕ) → getD s i 0 < 256
-
 pub le-byte : (s : List ℕ) (at : ℕ) → le 1 s at ≡ getD s at 0
 unfolding le
 le-byte s at = omega arith
-
--- a number of k bytes is below 256 ^ k
-pub le-bound : (k : ℕ) (s : List ℕ) (at : ℕ) → Bytes s → le k s at < 256 ^ k
-unfolding le
-le-bound zero s at b = omega arith
-le-bound (suc k) s at b =
-    let h : le k s (at + 1) < 256 ^ k = le-bound k s (at + 1) b in
-    omega (arith, b at, pow-suc 256 k)
 
 -- a number of j + k bytes is one of j bytes and above it one of k
 pub le-join : (j k : ℕ) (s : List ℕ) (at : ℕ) → le (j + k) s at ≡ join j (le j s at) (le k s (at + j))
@@ -50,16 +38,3 @@ pub le-past : (k : ℕ) (s : List ℕ) (at : ℕ) → length s ≤ at → le k s
 unfolding le
 le-past zero s at h = refl
 le-past (suc k) s at h = rw (List·getD-eq-default s 0 h, le-past k s (at + 1) (omega arith))
-
-shifted : (k : ℕ) (a : ℕ) (s : List ℕ) (at : ℕ) → le k (a ∷ s) (suc at) ≡ le k s at
-unfolding le
-shifted zero a s at = refl
-shifted (suc k) a s at = rw (suc-add, shifted k a s (at + 1))
-
--- the bytes of a number give the number back
-pub le-bytes : (k n : ℕ) → n < 256 ^ k → le k (bytesOf k n) 0 ≡ n
-unfolding le bytesOf
-le-bytes zero n h = omega arith
-le-bytes (suc k) n h =
-    let small : n / 256 < 256 ^ k = omega (arith, pow-suc 256 k) in
-    rw (shifted k (n % 256) (bytesOf k (n / 256)) 0, le-bytes k (n / 256) small) (omega arith)

@@ -14,7 +14,6 @@ use Rattle.elf_parser.specs.declared.error.ElfParserError.{ElfParserErro
 use Rattle.elf_parser.specs.declared.error.ElfParserError.the-variants.{OutOfBounds, InvalidDynamicSectionTable}
 use Rattle.elf_parser.specs.declared.program_headers.Mapped.{Mapped}
 use Rattle.elf_parser.specs.declared.program_headers.Mapped.the-variants.{At as Maps, Nothing as Unmapped, Refused as NoMap}
-use Rattle.elf_parser.specs.declared.records.Entries.{Entries}
 use Rattle.elf_parser.specs.declared.records.Sliced.{Sliced}
 use Rattle.elf_parser.specs.declared.records.Sliced.the-variants.{At as Slice, Refused as NoSlice}
 use Rattle.elf_parser.specs.declared.dynamic.Tables.{Tables}

@@ -1,17 +1,16 @@
 -- Document 01's worked examples on names, tables and sections, and a few beside them: each holds by computation.
-use Prim.Native.Nat.{ℕ}
-use mathlib.Core.List.{List, [], _∷_, _++_}
+use mathlib.Core.List.{[], _∷_, _++_}
 use mathlib.Core.Path.{_≡_, refl}
 use lib.ListN.{replicate}
 use Rattle.ebpf.specs.Choice.{_if_else_}
 use Rattle.ebpf.specs.LittleEndian.{le}
-use Rattle.elf_parser.specs.declared.error.ElfParserError.the-variants.{InvalidFileHeader, StringTooLong, OutOfBounds, Overlap, SectionNotInOrder, NoSectionNameStringTable, InvalidAlignment, InvalidSize, NoSuchIndex}
+use Rattle.elf_parser.specs.declared.error.ElfParserError.the-variants.{InvalidFileHeader, StringTooLong, OutOfBounds, Overlap, SectionNotInOrder, NoSectionNameStringTable, InvalidAlignment, InvalidSize}
 use Rattle.elf_parser.specs.declared.error.Check.the-variants.{Pass, Refused}
 use Rattle.elf_parser.specs.declared.types.Elf64Ehdr.{Elf64Ehdr}
 use Rattle.elf_parser.specs.declared.types.Elf64Shdr.{Elf64Shdr}
 use Rattle.elf_parser.specs.declared.parts.Place.the-variants.{At, Refused as NoPlace}
 use Rattle.elf_parser.specs.declared.layout.Parsed.the-variants.{Refused as NoFile}
-use Rattle.elf_parser.specs.declared.records.Sliced.the-variants.{At as Slice, Refused as NoSlice}
+use Rattle.elf_parser.specs.declared.records.Sliced.the-variants.{Refused as NoSlice}
 use Rattle.elf_parser.specs.declared.section_headers.Ranges.{Ranges}
 use Rattle.elf_parser.specs.FileHeader.{headerCheck, headerRight, headerFixed, tablesCheck}
 use Rattle.elf_parser.specs.SectionHeaders.{sectionCheck}

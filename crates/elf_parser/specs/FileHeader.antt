@@ -55,15 +55,11 @@ tablesCheck len phoff phnum shoff shnum =
     Refused InvalidAlignment if ltb 0 (shoff % 8) else
     Pass
 
--- a header that passes is whole, and its name table is one of its sections
-pub header-long : (s : List ℕ) → headerCheck s ≡ Pass → 64 ≤ length s
-unfolding headerCheck
-header-long s e = ltb-false _ _ (not-first _ _ _ _ (apart _) e)
-
 and-right : (a b : Bool) → (a && b) ≡ true → b ≡ true
 and-right true b e = e
 and-right false b e = cc
 
+-- the name table of a header that passes is one of its sections
 pub header-sections : (s : List ℕ) → headerCheck s ≡ Pass → e-shstrndx s < e-shnum s
 unfolding headerCheck headerRight
 header-sections s e = ltb-true _ _ (and-right (headerFixed s) _ (not-false (headerRight s) (not-first _ _ _ _ (apart _) (row-rest _ _ _ _ (apart _) e))))

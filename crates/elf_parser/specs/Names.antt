@@ -7,7 +7,7 @@ use Rattle.ebpf.specs.Choice.{_if_else_}
 use Rattle.elf_parser.specs.declared.error.ElfParserError.{ElfParserError}
 use Rattle.elf_parser.specs.declared.error.ElfParserError.the-variants.{OutOfBounds, NoSectionNameStringTable, NoStringTable, NoDynamicStringTable}
 use Rattle.elf_parser.specs.declared.parts.Place.{Place}
-use Rattle.elf_parser.specs.declared.parts.Place.the-variants.{At, Refused}
+use Rattle.elf_parser.specs.declared.parts.Place.the-variants.{Refused}
 use Rattle.elf_parser.specs.declared.layout.Layout.{Layout}
 use Rattle.elf_parser.specs.Types.{sectionHeader}
 use Rattle.elf_parser.specs.Strings.{stringIn}

@@ -19,7 +19,6 @@ use Rattle.elf_parser.specs.declared.section_names.Naming.the-variants.{
 use Rattle.elf_parser.specs.declared.dynamic.Tables.{Tables}
 use Rattle.elf_parser.specs.declared.dynamic.Linking.{Linking}
 use Rattle.elf_parser.specs.declared.dynamic.Linking.the-variants.{Found as Links, Refused as NoLinks}
-use Rattle.elf_parser.specs.declared.layout.Layout.{Layout}
 use Rattle.elf_parser.specs.declared.layout.Parsed.{Parsed}
 use Rattle.elf_parser.specs.declared.layout.Parsed.the-variants.{File, Refused as NoFile}
 use Rattle.elf_parser.specs.Errors.{_then_, pass-first, pass-rest}

@@ -1,6 +1,5 @@
 -- The sections that are found by their names.
-use Prim.Native.Nat.{ℕ, zero, suc, _+_, _≤_, _<_}
-use native.Mathlib.Omega.{arith}
+use Prim.Native.Nat.{ℕ, _+_, _<_}
 use native.Mathlib.Numerals.{add-one}
 use mathlib.Core.Path.{_≡_, refl, ap}
 use mathlib.Core.Bool.{Bool, true, false, _&&_, not}
@@ -90,7 +89,7 @@ and-right : (a b : Bool) → (a && b) ≡ true → b ≡ true
 and-right true b e = e
 and-right false b e = cc
 
--- the test is equality
+-- lists that pass the test are equal
 pub same-equal : (a b : List ℕ) → sameBytes a b ≡ true → a ≡ b
 unfolding sameBytes
 same-equal [] [] e = refl
@@ -100,11 +99,6 @@ same-equal (x ∷ xs) (y ∷ ys) e =
     let h : x ≡ y = eqb-true x y (and-left (eqb x y) (sameBytes xs ys) e) in
     let t : xs ≡ ys = same-equal xs ys (and-right (eqb x y) (sameBytes xs ys) e) in
     rw (h, t)
-
-pub equal-same : (a : List ℕ) → sameBytes a a ≡ true
-unfolding sameBytes
-equal-same [] = refl
-equal-same (x ∷ xs) = rw (eq-eqb x x refl) (equal-same xs)
 
 pub same-short : (a b : List ℕ) → (length a ≡ length b → ⊥) → sameBytes a b ≡ false
 same-short a b h = go (sameBytes a b) refl

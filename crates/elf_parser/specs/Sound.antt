@@ -4,14 +4,14 @@ use native.Mathlib.Omega.{arith}
 use native.Mathlib.Nat.{mul-zero, add-zero, mul-suc}
 use mathlib.Core.Bool.{Bool, true, false, not}
 use mathlib.Core.List.{List}
-use mathlib.Core.Path.{_≡_, refl, sym, ap, subst, _∙_}
+use mathlib.Core.Path.{_≡_, refl, sym, subst}
 use lib.ListN.{length}
-use lib.Dec.{eqb, ltb, leb}
-use borrow.Author.Tests.{ltb-false, eqb-true, eqb-false, not-false, le-ltb, lt-leb, ne-eqb}
-use Rattle.ebpf.specs.Choice.{_if_else_, yes, no-go, not-first, row-rest, eq-not, pastWord}
+use lib.Dec.{eqb, ltb}
+use borrow.Author.Tests.{ltb-false, eqb-true, eqb-false, not-false}
+use Rattle.ebpf.specs.Choice.{_if_else_, not-first, row-rest, eq-not, pastWord}
 use Rattle.ebpf.specs.LittleEndian.{le}
 use Rattle.elf_parser.specs.declared.error.ElfParserError.{ElfParserError}
-use Rattle.elf_parser.specs.declared.error.ElfParserError.the-variants.{NoSectionNameStringTable, OutOfBounds, InvalidProgramHeader}
+use Rattle.elf_parser.specs.declared.error.ElfParserError.the-variants.{OutOfBounds, InvalidProgramHeader}
 use Rattle.elf_parser.specs.declared.error.Check.{Check}
 use Rattle.elf_parser.specs.declared.error.Check.the-variants.{Pass, Refused}
 use Rattle.elf_parser.specs.declared.types.Elf64Ehdr.{Elf64Ehdr}
@@ -19,7 +19,6 @@ use Rattle.elf_parser.specs.declared.types.Elf64Phdr.{Elf64Phdr}
 use Rattle.elf_parser.specs.declared.types.Elf64Shdr.{Elf64Shdr}
 use Rattle.elf_parser.specs.declared.parts.Place.{Place}
 use Rattle.elf_parser.specs.declared.parts.Place.the-variants.{At, Refused as NoPlace}
-use Rattle.elf_parser.specs.declared.program_headers.Step.{Step}
 use Rattle.elf_parser.specs.declared.program_headers.Step.the-variants.{Next, Refused as Stop}
 use Rattle.elf_parser.specs.declared.section_headers.Ranges.{Ranges}
 use Rattle.elf_parser.specs.declared.section_names.Named.{Named}
@@ -29,18 +28,16 @@ use Rattle.elf_parser.specs.declared.dynamic.Linked.{Linked}
 use Rattle.elf_parser.specs.declared.dynamic.Linking.{Linking}
 use Rattle.elf_parser.specs.declared.dynamic.Linking.the-variants.{Found as Links, Refused as NoLinks}
 use Rattle.elf_parser.specs.declared.layout.Layout.{Layout}
-use Rattle.elf_parser.specs.declared.layout.Parsed.{Parsed}
 use Rattle.elf_parser.specs.declared.layout.Parsed.the-variants.{File, Refused as NoFile}
 use Rattle.elf_parser.specs.Errors.{apart, pass-first, pass-rest}
 use Rattle.elf_parser.specs.Loops.{Turn, goes, ends, _into_, over}
 use Rattle.elf_parser.specs.Types.{fileHeader, programHeader, sectionHeader, PT-LOAD, SHT-STRTAB, SHT-NOBITS}
 use Rattle.elf_parser.specs.ProgramHeaders.{turnOf, checkOf, loadStep}
-use Rattle.elf_parser.specs.SectionHeaders.{sectionCheck, section-within, leaves, sectionStep, sectionsCheck}
+use Rattle.elf_parser.specs.SectionHeaders.{sectionCheck, section-within, leaves, sectionStep}
 use Rattle.elf_parser.specs.Strings.{stringIn, stringCheck, searchEnd, gives, terminated}
-use Rattle.elf_parser.specs.SectionNames.{named, nameStep, namingTurn, namingBy, none-named, namesOf}
-use Rattle.elf_parser.specs.Names.{nameBy, sectionName}
+use Rattle.elf_parser.specs.SectionNames.{named, namingTurn, namingBy, namesOf}
 use Rattle.elf_parser.specs.Dynamic.{dynamicOf, LinkedInside, linked-inside}
-use Rattle.elf_parser.specs.Parse.{rangesOf, tablesOf, fileCheck, layoutOf, linkedLayout, namedBy, namedLayout, parsedBy, parsed, Room, room}
+use Rattle.elf_parser.specs.Parse.{rangesOf, tablesOf, fileCheck, layoutOf, namedBy, namedLayout, parsedBy, parsed, Room, room}
 
 -- ---- a loop that went through went through at each entry
 
@@ -296,15 +293,3 @@ sound-steps s l x k e = subst (Sound s) (sym whole) sound-whole
 
 pub sound : (s : List ℕ) (l : Layout) → parsed s ≡ File l → Sound s l
 sound s l e = let x = parse-steps s l e in sound-steps s l x l (x .layout)
-
--- a section's name, asked for by its number, is found
-pub section-named : (s : List ℕ) (l : Layout) → Sound s l → (i : ℕ) → i < l .«section_headers» .count → Given (sectionName s l (le 4 s (l .«section_headers» .offset + 64 * i)))
-unfolding nameBy
-section-named s l x i h =
-    let v = x .named-in i h in
-    record {
-      start = v .start;
-      size = v .size;
-      given =
-          sym (no-go _ _ _ _ (ne-eqb _ _ (x .names-present)) (no-go _ _ _ _ (le-ltb (length s) (l .shstrtab + 64) (x .names-header)) (sym (v .given))));
-    }

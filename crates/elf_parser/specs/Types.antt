@@ -1,5 +1,5 @@
 -- The records of an ELF-64 file, with the gABI's field names, places and sizes.
-use Prim.Native.Nat.{ℕ, _+_, _/_, _%_, _^_}
+use Prim.Native.Nat.{ℕ, _+_}
 use mathlib.Core.List.{List}
 use Rattle.ebpf.specs.LittleEndian.{le}
 use Rattle.elf_parser.specs.declared.types.Elf64Ehdr.{Elf64Ehdr}
@@ -108,13 +108,6 @@ sym s at = record { «st_name» = le 4 s at; «st_info» = le 1 s (at + 4); «st
 -- Elf64_Rel, 16 bytes
 unfoldable pub rel : List ℕ → ℕ → Elf64Rel
 rel s at = record { «r_offset» = le 8 s at; «r_info» = le 8 s (at + 8) }
-
--- the parts of r_info: the type in the low 32 bits, the symbol's number above
-abbrev pub r-type : Elf64Rel → ℕ
-r-type r = r .«r_info» % 2 ^ 32
-
-abbrev pub r-sym : Elf64Rel → ℕ
-r-sym r = r .«r_info» / 2 ^ 32
 
 -- Elf64_Dyn, 16 bytes
 abbrev pub d-tag : List ℕ → ℕ → ℕ

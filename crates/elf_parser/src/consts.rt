@@ -3,8 +3,6 @@ pub const SECTION_NAME_LENGTH_MAXIMUM: u32 = 16;
 
 pub const SYMBOL_NAME_LENGTH_MAXIMUM: u32 = 64;
 
-pub const ELFOSABI_NONE: u8 = 0;
-
 pub const EM_BPF: u16 = 247;
 
 pub const EM_SBPF: u16 = 263;
@@ -27,10 +25,6 @@ pub const SHT_NOBITS: u32 = 8;
 
 pub const SHT_DYNSYM: u32 = 11;
 
-pub const SHF_WRITE: u64 = 1;
-
-pub const SHF_ALLOC: u64 = 2;
-
 pub const DT_NULL: u64 = 0;
 
 pub const DT_SYMTAB: usize = 6;
@@ -42,5 +36,3 @@ pub const DT_RELSZ: usize = 18;
 pub const DT_RELENT: usize = 19;
 
 pub const DT_NUM: usize = 35;
-
-pub const STT_FUNC: u8 = 2;

@@ -19,7 +19,7 @@ use crate::types::file_header;
 use crate::types::shdr_at;
 use ebpf::little_endian::read_u32;
 ghost use mathlib.Core.Path.{_≡_};
-ghost use Prim.Native.Nat.{_+_, _*_, _≤_};
+ghost use Prim.Native.Nat.{_+_, _*_};
 ghost use lib.ListN.{length};
 ghost use Rattle.elf_parser.specs.Parse.{Room, fileCheck, linkedLayout, namedLayout, parsed};
 

@@ -35,10 +35,7 @@ ahead-more im file p k e h =
     ∙ append-assoc (take p im) (take k (drop p file)) (drop (p + k) file)
     ∙ ap (λ (x : List ℕ). take p im ++ x) (ap (λ (x : List ℕ). take k (drop p file) ++ x) (sym (drop-drop k p file)) ∙ take-append-drop k (drop p file))
 
--- nothing copied, and everything
-pub ahead-none : (im file : List ℕ) → ahead 0 im file ≡ file
-ahead-none im file = refl
-
+-- all that is left
 pub ahead-all : (im file : List ℕ) (p : ℕ) → length im ≡ length file → p ≤ length file → paste im p (drop p file) (length file - p) ≡ ahead p im file
 ahead-all im file p e h =
     let all : take (length file - p) (drop p file) ≡ drop p file = take-all (length file - p) (drop p file) (simp length-drop (omega arith)) in

@@ -111,9 +111,6 @@ module _ (file builtins : List ℕ) (j : Job) (cap : ℕ) (im′ : List ℕ) (ro
 -- ---- the table of a load
 
 module _ (file builtins : List ℕ) (j : Job) (cap : ℕ) (im′ : List ℕ) (rows : List Row) (moves : ℕ) (e : settle cap (jobTrace file builtins j file) [] 0 ≡ accepted im′ rows moves) where
-  pub rows-ascend : Ascending rows
-  rows-ascend = settle-ascends cap im′ rows moves (jobTrace file builtins j file) [] 0 tt e
-
   pub rows-room : length rows ≤ cap
   rows-room = settle-room cap im′ rows moves (jobTrace file builtins j file) [] 0 zero-le e
 

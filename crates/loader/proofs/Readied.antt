@@ -1,6 +1,6 @@
 -- What the checks ahead of a load leave: the job's numbers lie in the file, the file in the buffers, and the built-ins ascend.
 -- Assumes nothing.
-use Prim.Native.Nat.{ℕ, zero, suc, _+_, _*_, _≤_, _<_, _^_}
+use Prim.Native.Nat.{ℕ, zero, suc, _+_, _≤_, _<_, _^_}
 use native.Mathlib.Omega.{arith}
 use mathlib.Core.Path.{_≡_, refl, subst}
 use mathlib.Core.Bool.{Bool, true, false, _&&_, not}
@@ -16,9 +16,8 @@ use Rattle.elf_parser.specs.declared.layout.Parsed.{Parsed}
 use Rattle.elf_parser.specs.declared.layout.Parsed.the-variants.{File, Refused as NoFile}
 use Rattle.elf_parser.specs.Types.{fileHeader, SHT-NOBITS}
 use Rattle.elf_parser.specs.SectionNames.{sameBytes}
-use Rattle.elf_parser.specs.declared.dynamic.Linking.the-variants.{Found as Links}
-use Rattle.elf_parser.specs.Parse.{layoutOf, parsed}
-use Rattle.elf_parser.specs.Sound.{Steps, parse-steps, sound}
+use Rattle.elf_parser.specs.Parse.{parsed}
+use Rattle.elf_parser.specs.Sound.{sound}
 use Rattle.loader.specs.declared.error.ElfError.{ElfError}
 use Rattle.loader.specs.declared.error.ElfError.the-variants.{BuiltinsNotAscending}
 use Rattle.loader.specs.declared.sections.Survey.{Survey}
@@ -127,18 +126,6 @@ text-passes version2 reject-broken e-entry h e =
     let e2 = row-rest _ _ _ _ (not-passed _) e in
     let below : e-entry < sumUpTo (h .«sh_addr») (h .«sh_size») = leb-false _ _ (not-first _ _ _ _ (not-passed _) e2) in
     omega (arith, below)
-
--- ---- the sections that are surveyed are all that the layout has
-
-steps-count : (s : List ℕ) (l : Layout) (x : Steps s l) (k : Layout)
-    → File k ≡ layoutOf (fileHeader s) (fileHeader s .«e_shoff» + fileHeader s .«e_shstrndx» * 64) (x .found) (Links (x .linked))
-    → k .«section_headers» .count ≡ fileHeader s .«e_shnum»
-steps-count s l x k e =
-    let p : k .«section_headers» ≡ record { offset = fileHeader s .«e_shoff»; count = fileHeader s .«e_shnum» } = cc in
-    rw p
-
-pub same-count : (s : List ℕ) (l : Layout) → parsed s ≡ File l → l .«section_headers» .count ≡ fileHeader s .«e_shnum»
-same-count s l e = let x = parse-steps s l e in steps-count s l x l (x .layout)
 
 -- ---- the job
 

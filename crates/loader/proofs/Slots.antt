@@ -1,5 +1,5 @@
 -- A slot's deed, by what it calls, and where it writes. Assumes nothing.
-use mathlib.Core.Path.{_≡_, refl, sym, ap, subst, _∙_}
+use mathlib.Core.Path.{_≡_, refl, sym, ap, _∙_}
 use mathlib.Core.List.{List}
 use Prim.Native.Nat.{ℕ, zero, suc, _+_, _-_, _*_, _/_, _≤_, _<_}
 use native.Mathlib.Omega.{arith}
@@ -15,20 +15,18 @@ use Rattle.ebpf.specs.declared.Insn.{Insn}
 use Rattle.ebpf.specs.declared.Slot.the-variants.{Holds}
 use Rattle.program.specs.Table.{Slices}
 use Rattle.program.proofs.Cases.{zero-one}
-use Rattle.loader.specs.declared.deeds.Outcome.{Outcome}
 use Rattle.program.specs.declared.Legacy.{Legacy}
 use Rattle.program.specs.declared.Legacy.the-variants.{Free, Taken}
 use Rattle.program.specs.declared.FunctionName.the-variants.{OfIndex}
 use Rattle.loader.specs.declared.calls.Call.{Call}
 use Rattle.loader.specs.declared.calls.Call.the-variants.{None, To, Outside}
-use Rattle.loader.specs.declared.deeds.Deed.{Deed}
 use Rattle.loader.specs.declared.deeds.Deed.the-variants.{Skip}
 use Rattle.loader.specs.declared.validate.Job.{Job}
 use Rattle.loader.specs.Functions.{rowFor}
 use Rattle.loader.specs.Deeds.{DeedFits, deedTrace}
 use Rattle.loader.specs.Trace.{andThen, each}
 use Rattle.loader.specs.Calls.{nextCall, callOf, callAt, textOf, slotCount, immediate, callRow, callBy, callDeed, slotTrace}
-use Rattle.loader.specs.Contracts.{InFile, Begins, Settles}
+use Rattle.loader.specs.Contracts.{InFile, Begins}
 use Rattle.loader.proofs.Going.{GoingIn, in-ahead}
 
 row-fits : (n at : ℕ) (r : Legacy) → at + 4 ≤ n → DeedFits n (callRow at r)
@@ -49,14 +47,6 @@ call-fits-in file builtins j i n h = by-fits builtins j i n (callAt (textOf file
 pub whole-slot : (text : List ℕ) (i : ℕ) (insn : Insn) → insnAt text i ≡ Holds insn → i < length text / 8
 unfolding insnAt
 whole-slot text i insn e = leb-false _ _ (not-first _ _ _ _ (λ p. zero-one (cc)) e)
-
--- carrying a slot's deed out is settling the slot
-pub slot-settles : (file builtins : List ℕ) (j : Job) (i : ℕ) (im im′ : List ℕ) (t u : Slices) (used moves : ℕ) (a : Outcome) {d : Deed}
-    → d ≡ callDeed file builtins j i
-    → Settles (deedTrace d im) im′ t u 1 used moves a
-    → Settles (slotTrace file builtins j i im) im′ t u 1 used moves a
-unfolding slotTrace
-slot-settles file builtins j i im im′ t u used moves a e did = subst (λ (d : Deed). Settles (deedTrace d im) im′ t u 1 used moves a) e did
 
 -- ---- a slot whose opcode is not a call's is passed over
 

@@ -27,7 +27,7 @@ use Rattle.loader.specs.declared.read_only.Gathering.the-variants.{Next,
 use Rattle.loader.specs.declared.read_only.Placing.the-variants.{Owned, Refused}
 use Rattle.loader.specs.Addresses.{sumUpTo, machineAddr, MM-PROGRAM-START, MM-STACK-START}
 use Rattle.loader.specs.Sections.{sectionAt, nameOf}
-use Rattle.loader.specs.ReadOnly.{readOnly, endOf, grown, taken, takenAt, gatherStep, nothing, gatherTurn, gatherBy, gathered, fromStart, borrowed, owned, placed, placingBy, placing, copiedTo, copiedAt, copyStep, copiedFrom}
+use Rattle.loader.specs.ReadOnly.{readOnly, endOf, grown, taken, takenAt, gatherStep, nothing, gatherTurn, gatherBy, gathered, fromStart, borrowed, owned, placed, placingBy, placing, copiedTo, copiedAt, copyStep}
 
 -- a row by its first test
 module _ {A : Type 0} where
@@ -63,11 +63,6 @@ module _ (image s : List ℕ) (l : Layout) (lowest : ℕ) where
     where
       go : (z : List ℕ) → copyStep image s l lowest i ro ≡ z → length z ≡ length ro
       go z e = row-cases _ _ _ _ _ (λ b q. ap length (sym q)) (λ b q. ap length (sym q) ∙ at-length ro image (sectionAt s l i .«sh_addr» - lowest) (sectionPlaceOf s l i)) e
-
-  pub copied-length : (n i : ℕ) (ro : List ℕ) → length (copiedFrom image s l lowest n i ro) ≡ length ro
-  unfolding copiedFrom
-  copied-length zero i ro = refl
-  copied-length (suc n) i ro = copied-length n (i + 1) (copyStep image s l lowest i ro) ∙ step-length i ro
 
 -- ---- what `Owned` says
 

@@ -1,6 +1,5 @@
 // The row that a function is registered as.
 use crate::validate::Job;
-use elf_parser::Place;
 use elf_parser::same_bytes;
 use program::FunctionName;
 use program::Legacy;

@@ -7,7 +7,6 @@ use crate::error::ElfError;
 use ebpf::MM_PROGRAM_START;
 ghost use mathlib.Core.Path.{_≡_};
 ghost use lib.ListN.{length};
-ghost use Rattle.ebpf.specs.Choice.{_if_else_};
 ghost use Rattle.loader.specs.GetBytes.{textPlace, roPlace, lentFor, roOf, textPlaceOf, partOf};
 
 // A place in the lent bytes.

@@ -29,7 +29,7 @@ use program::Legacy;
 use program::is_builtin;
 ghost use mathlib.Core.Path.{_≡_};
 ghost use mathlib.Core.Bool.{_&&_};
-ghost use Prim.Native.Nat.{_-_, _≤_, _<_, _^_, min};
+ghost use Prim.Native.Nat.{_≤_, _<_, _^_};
 ghost use lib.Dec.{leb, ltb};
 ghost use Rattle.ebpf.specs.LittleEndian.{join};
 ghost use Rattle.elf_parser.specs.Records.{dynamicSymbolOf};

@@ -6,8 +6,7 @@ use elf_parser::section_header;
 use elf_parser::types::Elf64Shdr;
 ghost use mathlib.Core.Path.{_≡_};
 ghost use Prim.Native.Nat.{_≤_, _<_};
-ghost use lib.ListN.{length};
-ghost use Rattle.ebpf.specs.Choice.{_if_else_, pastWord};
+ghost use Rattle.ebpf.specs.Choice.{_if_else_};
 ghost use Rattle.loader.specs.Sections.{sectionAt, startsWith, unsupported, outsideFile, no-survey, surveyNamed};
 
 // The section number `index`; a blank one where there is none.

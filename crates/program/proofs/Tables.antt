@@ -3,7 +3,7 @@
 use mathlib.Core.Path.{_≡_, refl, sym, ap, subst, _∙_}
 use mathlib.Core.Bool.{Bool}
 use mathlib.Core.List.{List, [], _∷_, _++_, map}
-use Prim.Native.Nat.{ℕ, suc, _+_, _-_, _≤_, _<_, min, zero-le}
+use Prim.Native.Nat.{ℕ, suc, _-_, _≤_, _<_, min, zero-le}
 use native.Mathlib.Omega.{arith}
 use lib.ListN.{length, take, drop, getD, replicate}
 use borrow.Author.Tests.{lt-ltb, le-ltb, eq-eqb, ne-eqb}
@@ -20,7 +20,7 @@ use Rattle.program.proofs.Halves.{halves-place}
 use Rattle.program.proofs.Laying.{zero-row, within-room, length-column, length-rows, ranks-rows, row-at, rows-lay, capacity-lay, opened-lay, closed-lay}
 use Rattle.program.proofs.Steps.{by-holds, by-registeredAt}
 use Rattle.program.proofs.Rows.{placeOf, find-here, find-missing, insert-here, above-missing, remove-here, above-held, remove-missing}
-use Rattle.program.proofs.Laws.{registered-ascending, registered-room, kept-rows, more-rows, remove-ascending, length-remove, gone-iff, absent-iff, above-less}
+use Rattle.program.proofs.Laws.{registered-ascending, registered-room, remove-ascending, length-remove, gone-iff, absent-iff, above-less}
 
 -- ---- slices of the same lengths
 
@@ -114,11 +114,6 @@ module _ (t : Slices) (used : ℕ) (ready : Ready t used) where
   pub counted-ready : counted t used ≡ used
   unfolding counted
   counted-ready = let r = ready .room in omega arith
-
-  -- a lookup in a table is among its rows
-  pub lookup-ready : (k : ℕ) → lookupIn t used k ≡ find k (rowsOf t used)
-  unfolding lookupIn
-  lookup-ready k = rw counted-ready
 
   -- the place that the search comes to is the rows' own
   place-ready : (k : ℕ) → placeIn t used k ≡ placeOf k (rowsOf t used)
@@ -235,9 +230,6 @@ module _ (t u : Slices) (used : ℕ) (row : Row) (a : Registered) (ready : Ready
   room′ : length rows′ ≤ capacity t
   room′ = registered-room (capacity t) row (rowsOf t used) (rw (length-rows t used) (ready .room))
 
-  pub same-after : SameLens t u
-  same-after = rw (did .leaves) (same-lay t rows′ room′)
-
   pub ready-after : Ready u (length rows′)
   ready-after = rw (did .leaves) (ready-lay t rows′ room′ (registered-ascending (capacity t) row (rowsOf t used) (ready .rising)))
 
@@ -248,30 +240,6 @@ module _ (t u : Slices) (used : ℕ) (row : Row) (a : Registered) (ready : Ready
 pub record IsTable (u : Slices) (n : ℕ) (rows : List Row) : Type 0 where
   pub ready : Ready u n
   pub rows-are : rowsOf u n ≡ rows
-
--- a lookup there
-pub lookup-table : (u : Slices) (n : ℕ) (rows : List Row) (k : ℕ) → IsTable u n rows → lookupIn u n k ≡ find k rows
-lookup-table u n rows k t = lookup-ready u n (t .ready) k ∙ ap (find k) (t .rows-are)
-
-module _ (t u : Slices) (used : ℕ) (row : Row) (ready : Ready t used) where
-  -- a row more, and as many moves as rows at most
-  pub after-inserted : (m : ℕ) → Registration t u used row (Inserted m) → IsTable u (used + 1) (registered (capacity t) row (rowsOf t used)) × (m ≤ used)
-  after-inserted m did =
-      let more = more-rows (capacity t) row (rowsOf t used) m (sym (did .answers)) in
-      let e : length (registered (capacity t) row (rowsOf t used)) ≡ used + 1 = omega (arith, more .0, length-rows t used) in (
-        record {
-          ready = rw (← e) (ready-after t u used row (Inserted m) ready did);
-          rows-are = rw (← e) (rows-after t u used row (Inserted m) ready did);
-        },
-        omega (arith, more .1, length-rows t used),
-      )
-
-  -- any other answer leaves everything as it was
-  pub after-kept : (a : Registered) → Registration t u used row a → ((m : ℕ) → a ≡ Inserted m → ⊥) → u ≡ t
-  after-kept a did h =
-      did .leaves
-      ∙ ap (lay t) (kept-rows (capacity t) row (rowsOf t used) (λ m e. h m (did .answers ∙ e)))
-      ∙ sym (ready .laid)
 
 -- ---- what a removal of a table leaves
 

@@ -1,8 +1,6 @@
 -- `ebpf::little_endian::read_u8` meets its contract: past the end 0, else the byte.
 -- Assumes nothing.
-use mathlib.Core.Path.{sym}
 use borrow.Author.Needs.{needs}
-use Rattle.ebpf.specs.LittleEndian.{le}
 use Rattle.ebpf.proofs.Reading.{past, byte}
 use Rattle.ebpf.proofs.little_endian.read_u8.Statement.{statement}
 use Rattle.ebpf.proofs.little_endian.read_u8.Tie as tie

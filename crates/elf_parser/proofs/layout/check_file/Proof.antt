@@ -1,14 +1,13 @@
 -- `elf_parser::layout::check_file` meets its contract: one check after another.
 -- Assumes nothing.
-use mathlib.Core.Path.{_≡_, sym, ap, _∙_}
+use mathlib.Core.Path.{_≡_, sym, _∙_}
 use native.Mathlib.Omega.{arith}
 use Prim.Native.Nat.{_+_, _*_, _≤_, _<_}
 use denote.Ref.{now}
 use lib.ListN.{length}
 use Rattle.elf_parser.specs.declared.error.Check.the-variants.{Pass}
 use Rattle.elf_parser.specs.Errors.{then-stop, then-go}
-use Rattle.elf_parser.specs.FileHeader.{headerCheck, tables-within, header-sections}
-use Rattle.elf_parser.specs.Types.{fileHeader}
+use Rattle.elf_parser.specs.FileHeader.{headerCheck, tables-within}
 use Rattle.elf_parser.specs.Parse.{fileCheck, first-refused, first-passes, some-section}
 use borrow.Author.Needs.{needs}
 use Rattle.elf_parser.proofs.layout.check_file.Statement.{statement}

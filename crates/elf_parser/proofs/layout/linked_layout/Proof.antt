@@ -1,6 +1,5 @@
 -- `elf_parser::layout::linked_layout` meets its contract: by what the dynamic table leads to.
 -- Assumes nothing.
-use mathlib.Core.Path.{_≡_, sym, ap, _∙_}
 use borrow.Author.Needs.{needs}
 use Rattle.elf_parser.proofs.layout.linked_layout.Statement.{statement}
 use Rattle.elf_parser.proofs.layout.linked_layout.Tie as tie

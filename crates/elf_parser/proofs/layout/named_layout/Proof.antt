@@ -1,8 +1,7 @@
 -- `elf_parser::layout::named_layout` meets its contract: the name table, the names, then the dynamic part.
 -- Assumes nothing.
 use Rattle.ebpf.specs.Choice.{choices}
-use mathlib.Core.Path.{_≡_, sym, ap, _∙_}
-use Rattle.elf_parser.specs.Parse.{namedLayout, namedBy}
+use Rattle.elf_parser.specs.Parse.{namedLayout}
 use borrow.Author.Needs.{needs}
 use Rattle.elf_parser.proofs.layout.named_layout.Statement.{statement}
 use Rattle.elf_parser.proofs.layout.named_layout.Tie as tie

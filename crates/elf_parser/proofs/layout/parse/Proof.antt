@@ -1,6 +1,6 @@
 -- `elf_parser::layout::parse` meets its contract: the checks, then the layout.
 -- Assumes nothing.
-use mathlib.Core.Path.{_≡_, sym, ap, _∙_}
+use mathlib.Core.Path.{_≡_, sym, _∙_}
 use Rattle.elf_parser.specs.declared.error.Check.the-variants.{Pass}
 use Rattle.elf_parser.specs.Parse.{parsed, room}
 use borrow.Author.Needs.{needs}

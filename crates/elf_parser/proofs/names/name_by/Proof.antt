@@ -1,12 +1,8 @@
 -- `elf_parser::names::name_by` meets its contract: a row of choices.
 -- Assumes nothing.
 use Rattle.ebpf.specs.Choice.{choices}
-use mathlib.Core.Path.{_≡_, sym, ap, _∙_}
-use native.Mathlib.Omega.{arith}
+use mathlib.Core.Path.{sym, _∙_}
 use borrow.Author.Tests.{ltb-false}
-use Prim.Native.Nat.{_+_}
-use denote.Ref.{now}
-use lib.ListN.{length}
 use Rattle.elf_parser.specs.Names.{nameBy}
 use borrow.Author.Needs.{needs}
 use Rattle.elf_parser.proofs.names.name_by.Statement.{statement}

@@ -1,6 +1,5 @@
 -- `elf_parser::parts::part_of` meets its contract: inside the file its bytes, else none.
 -- Assumes nothing.
-use mathlib.Core.Path.{_≡_, sym, ap, _∙_}
 use native.Mathlib.Omega.{arith}
 use native.Mathlib.Nat.{add-sub-cancel-left}
 use Rattle.elf_parser.proofs.Orders.{bytes-none, bytes-in}

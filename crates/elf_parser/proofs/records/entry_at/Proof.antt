@@ -4,7 +4,7 @@ use Rattle.ebpf.specs.Choice.{choices}
 use native.Mathlib.Omega.{arith}
 use Prim.Native.Nat.{_+_, _*_}
 use borrow.Author.Tests.{ltb-false}
-use mathlib.Core.Path.{_≡_, sym, ap, _∙_}
+use mathlib.Core.Path.{sym, _∙_}
 use Rattle.elf_parser.specs.Records.{entryAt}
 use Rattle.elf_parser.proofs.Orders.{few}
 use borrow.Author.Needs.{needs}

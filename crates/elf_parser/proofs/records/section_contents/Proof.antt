@@ -1,6 +1,5 @@
 -- `elf_parser::records::section_contents` meets its contract: the part at the place.
 -- Assumes nothing.
-use mathlib.Core.Path.{_≡_, sym, ap, _∙_}
 use borrow.Author.Needs.{needs}
 use Rattle.elf_parser.proofs.records.section_contents.Statement.{statement}
 use Rattle.elf_parser.proofs.records.section_contents.Tie as tie

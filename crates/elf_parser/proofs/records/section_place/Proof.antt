@@ -1,7 +1,5 @@
 -- `elf_parser::records::section_place` meets its contract: by the header.
 -- Assumes nothing.
-use mathlib.Core.Path.{_≡_, sym, ap, _∙_}
-use Rattle.elf_parser.specs.Records.{placeBy}
 use borrow.Author.Needs.{needs}
 use Rattle.elf_parser.proofs.records.section_place.Statement.{statement}
 use Rattle.elf_parser.proofs.records.section_place.Tie as tie

@@ -1,7 +1,7 @@
 -- `elf_parser::records::symbol` meets its contract: the entry, if there is one, is read at its place.
 -- Assumes nothing.
-use mathlib.Core.Path.{_≡_, sym, ap, _∙_}
-use Rattle.elf_parser.specs.Records.{symBy, entry-within}
+use mathlib.Core.Path.{sym, _∙_}
+use Rattle.elf_parser.specs.Records.{entry-within}
 use borrow.Author.Needs.{needs}
 use Rattle.elf_parser.proofs.records.symbol.Statement.{statement}
 use Rattle.elf_parser.proofs.records.symbol.Tie as tie

@@ -1,7 +1,7 @@
 -- `elf_parser::records::symbol_table` meets its contract: a row of choices.
 -- Assumes nothing.
 use Rattle.ebpf.specs.Choice.{choices}
-use mathlib.Core.Path.{_≡_, sym, ap, _∙_}
+use mathlib.Core.Path.{sym, _∙_}
 use borrow.Author.Tests.{ltb-false}
 use Rattle.elf_parser.specs.Records.{symbolTableOf}
 use borrow.Author.Needs.{needs}

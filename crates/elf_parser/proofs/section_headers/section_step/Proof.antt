@@ -1,7 +1,7 @@
 -- `elf_parser::section_headers::section_step` meets its contract: the header is read, then checked.
 -- Assumes nothing.
 use Rattle.ebpf.specs.Choice.{choices}
-use mathlib.Core.Path.{_≡_, sym, ap, _∙_}
+use mathlib.Core.Path.{_≡_, sym, _∙_}
 use native.Mathlib.Omega.{arith}
 use Rattle.elf_parser.specs.declared.error.Check.the-variants.{Pass, Refused}
 use Rattle.elf_parser.specs.SectionHeaders.{sectionStep, leaves, section-within}

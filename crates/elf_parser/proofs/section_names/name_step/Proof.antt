@@ -1,6 +1,5 @@
 -- `elf_parser::section_names::name_step` meets its contract: by the place of the name.
 -- Assumes nothing.
-use mathlib.Core.Path.{_≡_, sym, ap, _∙_}
 use Rattle.elf_parser.specs.SectionNames.{named, named-at}
 use borrow.Author.Needs.{needs}
 use Rattle.elf_parser.proofs.section_names.name_step.Statement.{statement}

@@ -1,7 +1,7 @@
 -- `elf_parser::section_names::place_role` meets its contract, role by role.
 -- Assumes nothing.
 use Rattle.ebpf.specs.Choice.{choices}
-use mathlib.Core.Path.{_≡_, sym, ap, _∙_}
+use mathlib.Core.Path.{_≡_}
 use Rattle.elf_parser.specs.declared.section_names.Role.the-variants.{SymbolTable, SymbolNames, DynamicSymbolNames, Other}
 use Rattle.elf_parser.specs.SectionNames.{placed}
 use borrow.Author.Needs.{needs}

@@ -1,7 +1,7 @@
 -- `elf_parser::section_names::role_of` meets its contract: a row of choices.
 -- Assumes nothing.
 use Rattle.ebpf.specs.Choice.{choices}
-use mathlib.Core.Path.{_≡_, sym, ap, _∙_}
+use mathlib.Core.Path.{sym, _∙_}
 use Rattle.elf_parser.specs.SectionNames.{roleOf}
 use borrow.Author.Needs.{needs}
 use Rattle.elf_parser.proofs.section_names.role_of.Statement.{statement}

@@ -2,7 +2,7 @@
 -- Assumes nothing.
 use borrow.Author.Tests.{lt-ltb, le-ltb}
 use native.Mathlib.Omega.{arith}
-use mathlib.Core.Path.{_≡_, sym, ap, _∙_}
+use mathlib.Core.Path.{_≡_, sym, _∙_}
 use denote.Ref.{now}
 use lib.ListN.{length}
 use Rattle.elf_parser.specs.declared.error.Check.the-variants.{Pass, Refused}

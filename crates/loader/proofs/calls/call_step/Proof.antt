@@ -4,7 +4,6 @@ use denote.Ref.{now}
 use mathlib.Core.Path.{_≡_, sym, _∙_}
 use native.Mathlib.Nat.{add-sub-cancel-left}
 use native.Mathlib.Omega.{arith}
-use mathlib.Core.List.{List}
 use Prim.Native.Nat.{ℕ, _^_, _<_}
 use borrow.Author.Tests.{eqb-true}
 use Rattle.program.specs.Table.{Slices, slices, rowsOf}

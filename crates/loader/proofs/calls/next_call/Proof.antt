@@ -1,7 +1,7 @@
 -- `loader::calls::next_call` meets its contract. The loop's invariant: the search from here finds what the whole search finds.
 -- Assumes nothing.
 use native.Mathlib.Omega.{arith}
-use mathlib.Core.Path.{_≡_, refl, sym, _∙_}
+use mathlib.Core.Path.{_≡_, sym, _∙_}
 use Prim.Native.Nat.{_+_, _-_, _≤_}
 use denote.Ref.{now}
 use Rattle.loader.specs.Calls.{nextCall, call-here, call-later, call-none}

@@ -6,7 +6,6 @@ use native.Mathlib.Omega.{arith}
 use Prim.Native.Nat.{_+_, _-_, _≤_}
 use Rattle.loader.specs.Calls.{PassesTo}
 use Rattle.loader.proofs.Eights.{eight-more}
-use borrow.Author.Needs.{needs}
 use Rattle.loader.proofs.calls.pass_eights.Statement.{statement}
 use Rattle.loader.proofs.calls.pass_eights.Tie as tie
 

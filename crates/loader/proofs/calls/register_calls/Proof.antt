@@ -2,23 +2,21 @@
 -- rows and moves held now they settle to what all settle to.
 -- Assumes nothing.
 use denote.Ref.{now}
-use mathlib.Core.Path.{_≡_, refl, sym, subst, ap, _∙_}
+use mathlib.Core.Path.{_≡_, sym, subst, _∙_}
 use mathlib.Core.List.{List}
-use Prim.Native.Nat.{ℕ, _+_, _-_, _*_, _/_, _<_, _≤_, _^_, min}
+use Prim.Native.Nat.{ℕ, _+_, _-_, _*_, _/_, _<_, _≤_, min}
 use native.Mathlib.Omega.{arith}
 use lib.ListN.{length, drop, length-replicate}
 use lib.Seq.{paste}
 use Rattle.program.specs.Table.{Slices, slices}
-use Rattle.program.proofs.Alike.{alike-none}
 use Rattle.program.proofs.Tables.{SameLens, same-trans}
 use Rattle.loader.specs.declared.deeds.Outcome.{Outcome}
-use Rattle.loader.specs.declared.deeds.Outcome.the-variants.{Holds, Refused}
-use Rattle.loader.specs.declared.validate.Job.{Job}
+use Rattle.loader.specs.declared.deeds.Outcome.the-variants.{Holds}
 use Rattle.loader.specs.Trace.{Trace}
 use Rattle.loader.specs.Calls.{slotCount, slotTrace, callsTrace}
-use Rattle.loader.specs.CallLoop.{ahead, targetRow, CallsHeld, StillHeld, Leads}
+use Rattle.loader.specs.CallLoop.{ahead, CallsHeld, StillHeld, Leads}
 use Rattle.loader.specs.Contracts.{Begins, Settles}
-use Rattle.loader.proofs.Ahead.{ahead-more, ahead-none, ahead-all, ahead-length}
+use Rattle.loader.proofs.Ahead.{ahead-more, ahead-all, ahead-length}
 use Rattle.loader.proofs.Targeting.{none-held}
 use Rattle.loader.proofs.Going.{Going, going-start, going-done, all-begin, all-lead, in-begins-run, in-run, in-run-stop}
 use borrow.Author.Needs.{needs}
