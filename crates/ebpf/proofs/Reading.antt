@@ -3,13 +3,18 @@ use mathlib.Core.Path.{_≡_, sym}
 use mathlib.Core.List.{List}
 use Prim.Native.Nat.{ℕ, _+_, _-_, _*_, _/_, _%_, _≤_, _<_}
 use native.Mathlib.Omega.{arith}
-use lib.ListN.{length, getD}
+use native.Mathlib.Nat.{add-zero}
+use lib.ListN.{length, getD, take, drop}
 use lib.Dec.{leb}
 use borrow.Author.Tests.{lt-leb}
 use Rattle.ebpf.specs.Choice.{no-go}
-use Rattle.ebpf.specs.LittleEndian.{le, join, le-byte, le-join, le-past}
+use Rattle.ebpf.specs.LittleEndian.{le, join, le-byte, le-join, le-past, le-part}
 use Rattle.ebpf.specs.Instructions.{slotAt, insnAt}
 use Rattle.ebpf.specs.declared.Slot.the-variants.{Holds, Past}
+
+-- the bytes of a slot
+abbrev slot : List ℕ → ℕ → List ℕ
+slot s pc = take (8 * pc + 8 - 8 * pc) (drop (8 * pc) s)
 
 pub past : (k : ℕ) (s : List ℕ) (at : ℕ) → length s ≤ at → 0 ≡ le k s at
 past k s at h = sym (le-past k s at h)
@@ -28,9 +33,12 @@ cut-byte s at r p q e = halves 1 s at _ _ r (sym (le-byte s at)) (past 1 s (at +
 pub byte : (s : List ℕ) (at : ℕ) → getD s at 0 ≡ le 1 s at
 byte s at = sym (le-byte s at)
 
--- a slot whose fields were read one by one
+-- a slot whose fields were read one by one, in the part of the text that is the slot
 pub slot-read : (s : List ℕ) (pc opc regs off imm : ℕ)
-    → pc < length s / 8 → regs ≡ le 1 s (8 * pc + 1) → opc ≡ le 1 s (8 * pc) → off ≡ le 2 s (8 * pc + 2) → imm ≡ le 4 s (8 * pc + 4)
+    → pc < length s / 8 → regs ≡ le 1 (slot s pc) 1 → opc ≡ le 1 (slot s pc) 0 → off ≡ le 2 (slot s pc) 2 → imm ≡ le 4 (slot s pc) 4
     → Holds (record { opc = opc; dst = regs % 16; src = regs / 16; off = off; imm = imm }) ≡ insnAt s pc
 unfolding insnAt slotAt
-slot-read s pc opc regs off imm h er eo ef ei = no-go (leb (length s / 8) pc) Past _ _ (lt-leb (length s / 8) pc h) (rw (er, eo, ef, ei))
+slot-read s pc opc regs off imm h er eo ef ei = no-go (leb (length s / 8) pc) Past _ _ (lt-leb (length s / 8) pc h) (rw (er, eo, ef, ei, field 1 0 (omega arith), field 1 1 (omega arith), field 2 2 (omega arith), field 4 4 (omega arith), add-zero))
+  where
+    field : (k at : ℕ) → at + k ≤ 8 → le k (slot s pc) at ≡ le k s (8 * pc + at)
+    field k at l = le-part k (8 * pc + 8 - 8 * pc) (8 * pc) s at (omega arith)

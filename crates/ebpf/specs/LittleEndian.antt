@@ -2,9 +2,10 @@
 use Prim.Native.Nat.{ℕ, zero, suc, _+_, _*_, _/_, _%_, _^_, _≤_}
 use mathlib.Core.List.{List, [], _∷_}
 use mathlib.Core.Path.{_≡_, refl}
-use lib.ListN.{length, getD, List·getD-eq-default}
+use lib.ListN.{length, getD, take, drop, List·getD-eq-default}
+use lib.Seq.{getD-take, getD-drop}
 use native.Mathlib.Omega.{arith}
-use native.Mathlib.Nat.{pow-succ', mul-assoc, zero-add, add-zero, one-mul, suc-add}
+use native.Mathlib.Nat.{pow-succ', mul-assoc, zero-add, add-zero, one-mul, suc-add, add-assoc}
 
 -- the number whose k bytes stand at `at` in s, the lowest first; past the end of s stand zeros
 unfoldable pub le : ℕ → List ℕ → ℕ → ℕ
@@ -38,3 +39,9 @@ pub le-past : (k : ℕ) (s : List ℕ) (at : ℕ) → length s ≤ at → le k s
 unfolding le
 le-past zero s at h = refl
 le-past (suc k) s at h = rw (List·getD-eq-default s 0 h, le-past k s (at + 1) (omega arith))
+
+-- a number inside a part of the bytes
+pub le-part : (k n start : ℕ) (s : List ℕ) (at : ℕ) → at + k ≤ n → le k (take n (drop start s)) at ≡ le k s (start + at)
+unfolding le
+le-part zero n start s at h = refl
+le-part (suc k) n start s at h = rw (getD-take n (drop start s) at 0 (omega arith), getD-drop start s at 0, le-part k n start s (at + 1) (omega arith), add-assoc)

@@ -61,12 +61,15 @@ pub fn get_insn(prog: &[u8], pc: usize) -> Slot
         return Slot::Past;
     }
     let at = INSN_SIZE * pc;
-    let registers = little_endian::read_u8(prog, at + 1);
+    // in a part of known length no field asks whether the text ends in it
+    let end = at + INSN_SIZE;
+    let slot = &prog[at..end];
+    let registers = little_endian::read_u8(slot, 1);
     Slot::Holds(Insn {
-        opc: little_endian::read_u8(prog, at),
+        opc: little_endian::read_u8(slot, 0),
         dst: registers % 16,
         src: registers / 16,
-        off: little_endian::read_u16(prog, at + 2),
-        imm: little_endian::read_u32(prog, at + 4),
+        off: little_endian::read_u16(slot, 2),
+        imm: little_endian::read_u32(slot, 4),
     })
 }

@@ -67,16 +67,20 @@ pub fn file_header(file: &[u8]) -> Elf64Ehdr
     }
 }
 
+// The next four read in the part of the file that is the record: its length is known, so that no field
+// asks whether the file ends in it.
 pub(crate) fn phdr_at(file: &[u8], at: usize) -> Elf64Phdr
     requires { ⌜ at + 56 ≤ length (now file) ⌝ }
     ensures { λ r. ⌜ r ≡ programHeader (now (file .entry)) at ⌝ }
 {
+    let end = at + 56;
+    let part = &file[at..end];
     Elf64Phdr {
-        p_type: read_u32(file, at),
-        p_offset: read_u64(file, at + 8),
-        p_vaddr: read_u64(file, at + 16),
-        p_filesz: read_u64(file, at + 32),
-        p_memsz: read_u64(file, at + 40),
+        p_type: read_u32(part, 0),
+        p_offset: read_u64(part, 8),
+        p_vaddr: read_u64(part, 16),
+        p_filesz: read_u64(part, 32),
+        p_memsz: read_u64(part, 40),
     }
 }
 
@@ -84,13 +88,15 @@ pub(crate) fn shdr_at(file: &[u8], at: usize) -> Elf64Shdr
     requires { ⌜ at + 64 ≤ length (now file) ⌝ }
     ensures { λ r. ⌜ r ≡ sectionHeader (now (file .entry)) at ⌝ }
 {
+    let end = at + 64;
+    let part = &file[at..end];
     Elf64Shdr {
-        sh_name: read_u32(file, at),
-        sh_type: read_u32(file, at + 4),
-        sh_flags: read_u64(file, at + 8),
-        sh_addr: read_u64(file, at + 16),
-        sh_offset: read_u64(file, at + 24),
-        sh_size: read_u64(file, at + 32),
+        sh_name: read_u32(part, 0),
+        sh_type: read_u32(part, 4),
+        sh_flags: read_u64(part, 8),
+        sh_addr: read_u64(part, 16),
+        sh_offset: read_u64(part, 24),
+        sh_size: read_u64(part, 32),
     }
 }
 
@@ -98,10 +104,12 @@ pub(crate) fn sym_at(file: &[u8], at: usize) -> Elf64Sym
     requires { ⌜ at + 24 ≤ length (now file) ⌝ }
     ensures { λ r. ⌜ r ≡ sym (now (file .entry)) at ⌝ }
 {
+    let end = at + 24;
+    let part = &file[at..end];
     Elf64Sym {
-        st_name: read_u32(file, at),
-        st_info: read_u8(file, at + 4),
-        st_value: read_u64(file, at + 8),
+        st_name: read_u32(part, 0),
+        st_info: read_u8(part, 4),
+        st_value: read_u64(part, 8),
     }
 }
 
@@ -109,8 +117,10 @@ pub(crate) fn rel_at(file: &[u8], at: usize) -> Elf64Rel
     requires { ⌜ at + 16 ≤ length (now file) ⌝ }
     ensures { λ r. ⌜ r ≡ rel (now (file .entry)) at ⌝ }
 {
+    let end = at + 16;
+    let part = &file[at..end];
     Elf64Rel {
-        r_offset: read_u64(file, at),
-        r_info: read_u64(file, at + 8),
+        r_offset: read_u64(part, 0),
+        r_info: read_u64(part, 8),
     }
 }

@@ -12,4 +12,4 @@ unfolding insnAt
 returns c = search choices
 
 pub get-insn-spec : {M : Type 1} → statement M
-get-insn-spec = tie.close (tie.spec returns (search needs) (search needs) (search needs) (search needs) (search needs) (search needs) (search needs) (search needs) (λ c. search (needs, slot-read)))
+get-insn-spec = tie.close (tie.spec returns (search needs) (search needs) (search needs) (search needs) (search needs) (search needs) (search needs) (search needs) (search needs) (λ c. search (needs, slot-read)))
