@@ -16,7 +16,7 @@ use Rattle.program.specs.declared.Legacy.the-variants.{Free, Taken}
 use Rattle.loader.specs.Functions.{Keyed, rowFor}
 use Rattle.loader.specs.Demand.{keyOf}
 
-none-keyed : Keyed []
+pub none-keyed : Keyed []
 unfolding keyIn
 none-keyed i = refl
 

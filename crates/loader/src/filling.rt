@@ -5,6 +5,7 @@ use crate::parts::labels_and_entry;
 use crate::read_only::Placing;
 use crate::read_only::copy_sections;
 use crate::validate::Job;
+use ebpf::key_table;
 use elf_parser::Layout;
 use elf_parser::file_header;
 ghost use mathlib.Core.Path.{_≡_};
@@ -82,7 +83,7 @@ fn after_placing(a: Outcome, placing: Placing) -> Outcome
 }
 
 // All parts of a load.
-pub(crate) fn all_parts(
+fn all_parts(
     image: &mut [u8],
     keys: &mut [u32],
     indices: &mut [u32],
@@ -134,6 +135,55 @@ pub(crate) fn all_parts(
     }
 }
 
+// The same with the keys of the first indices at hand, which version 1 alone asks for: in version 2 an
+// index is its own key, and the table is not made.
+fn keyed_parts(
+    image: &mut [u8],
+    keys: &mut [u32],
+    indices: &mut [u32],
+    kinds: &mut [u32],
+    starts: &mut [u32],
+    lengths: &mut [u32],
+    file: &[u8],
+    builtins: &[u32],
+    job: Job,
+    rows: u64,
+) -> Outcome
+    requires { ⌜ InFile (now file) job × (length (now image) ≡ length (now file)) × Begins (allCount (now file) job) (slices (now keys) (now indices) (now kinds) (now starts) (now lengths)) rows 0 0 ⌝ }
+    ensures { λ r. ⌜ Settles (jobTrace (now (file .entry)) (now (builtins .entry)) job (now (file .entry))) (now (image .exit)) (slices (now (keys .entry)) (now (indices .entry)) (now (kinds .entry)) (now (starts .entry)) (now (lengths .entry))) (slices (now (keys .exit)) (now (indices .exit)) (now (kinds .exit)) (now (starts .exit)) (now (lengths .exit))) (allCount (now (file .entry)) job) 0 0 r ⌝ }
+{
+    if job.version2 {
+        let none = [0u32; 0];
+        return all_parts(
+            image,
+            keys,
+            indices,
+            kinds,
+            starts,
+            lengths,
+            file,
+            builtins,
+            &none,
+            job,
+            rows,
+        );
+    }
+    let table = key_table();
+    all_parts(
+        image,
+        keys,
+        indices,
+        kinds,
+        starts,
+        lengths,
+        file,
+        builtins,
+        &table,
+        job,
+        rows,
+    )
+}
+
 // The read-only sections' bytes, where they are copied.
 fn copy_placed(ro: &mut [u8], image: &[u8], file: &[u8], layout: Layout, placing: Placing)
     ensures { λ _. ⌜ now (ro .exit) ≡ placedBytes (now (file .entry)) layout placing (now (image .entry)) (now (ro .entry)) ⌝ }
@@ -168,16 +218,15 @@ pub(crate) fn fill_all(
     lengths: &mut [u32],
     file: &[u8],
     builtins: &[u32],
-    table: &[u32],
     job: Job,
     rows: u64,
 ) -> Outcome
-    requires { ⌜ InFile (now file) job × Keyed (now table) × (length (now image) ≡ length (now file)) × (rows ≡ capacity (slices (now keys) (now indices) (now kinds) (now starts) (now lengths))) × ((slices (now keys) (now indices) (now kinds) (now starts) (now lengths)) ≡ lay (slices (now keys) (now indices) (now kinds) (now starts) (now lengths)) []) ⌝ }
+    requires { ⌜ InFile (now file) job × (length (now image) ≡ length (now file)) × (rows ≡ capacity (slices (now keys) (now indices) (now kinds) (now starts) (now lengths))) × ((slices (now keys) (now indices) (now kinds) (now starts) (now lengths)) ≡ lay (slices (now keys) (now indices) (now kinds) (now starts) (now lengths)) []) ⌝ }
     ensures { λ r. ⌜ Settles (jobTrace (now (file .entry)) (now (builtins .entry)) job (now (file .entry))) (now (image .exit)) (slices (now (keys .entry)) (now (indices .entry)) (now (kinds .entry)) (now (starts .entry)) (now (lengths .entry))) (slices (now (keys .exit)) (now (indices .exit)) (now (kinds .exit)) (now (starts .exit)) (now (lengths .exit))) (allCount (now (file .entry)) job) 0 0 r × HeldBytes r (now (ro .exit)) (placedBytes (now (file .entry)) (job .layout) (job .placing) (now (image .exit)) (now (ro .entry))) ⌝ }
 {
     let layout = job.layout;
     let placing = job.placing;
-    match all_parts(
+    match keyed_parts(
         image,
         keys,
         indices,
@@ -186,7 +235,6 @@ pub(crate) fn fill_all(
         lengths,
         file,
         builtins,
-        table,
         job,
         rows,
     ) {

@@ -1,6 +1,5 @@
 // Loading a profile: the port of src/elf.rs.
 use answer::answer_of;
-use ebpf::key_table;
 use filling::clear_all;
 use filling::fill_all;
 use program::rows_lent;
@@ -66,7 +65,6 @@ fn attempt(
         Prepared::Refused(r) => Load::Refused(r),
         Prepared::Ready(job) => {
             let n = file.len();
-            let table = key_table();
             let rows = rows_lent(
                 keys.len(),
                 indices.len(),
@@ -93,7 +91,6 @@ fn attempt(
                 lengths,
                 file,
                 builtins,
-                &table,
                 job,
                 rows,
             );
