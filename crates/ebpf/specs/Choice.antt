@@ -1,11 +1,11 @@
 -- A choice by a test. A definition with several answers is a row of choices, with the code's tests in the code's order:
 -- `x if test else y if test else z`.
 use mathlib.Core.Bool.{Bool, true, false, not}
-use mathlib.Core.Path.{_≡_, refl}
+use mathlib.Core.Path.{_≡_, refl, sym, _∙_}
 use Prim.Native.Nat.{ℕ, _+_, _-_, _^_, _≤_, _<_}
 use native.Mathlib.Omega.{arith}
-use lib.Dec.{leb, eqb}
-use borrow.Author.Tests.{lt-ltb, le-ltb, le-leb, lt-leb, eq-eqb, ne-eqb}
+use lib.Dec.{ltb, leb, eqb}
+use borrow.Author.Tests.{lt-ltb, le-ltb, le-leb, lt-leb, ltb-true, ltb-false, eq-eqb, ne-eqb}
 
 module _ {A : Type 0} where
   infixr 4 _if_else_
@@ -48,5 +48,16 @@ sum-past a b h = le-leb (2 ^ 64) (a + b) (omega arith)
 
 pub sum-fits : (a b : ℕ) → a < 2 ^ 64 → b ≤ 0xffff_ffff_ffff_ffff - a → pastWord (a + b) ≡ false
 sum-fits a b f h = lt-leb (2 ^ 64) (a + b) (omega arith)
+
+-- b bytes from a on end past len; the code takes b from len before it compares
+pub same-ltb : (len a b : ℕ) → b ≤ len → ltb (len - b) a ≡ ltb len (a + b)
+same-ltb len a b h = go (ltb (len - b) a) refl
+  where
+    go : (t : Bool) → ltb (len - b) a ≡ t → ltb (len - b) a ≡ ltb len (a + b)
+    go true e = e ∙ sym (lt-ltb len (a + b) (omega (arith, ltb-true (len - b) a e)))
+    go false e = e ∙ sym (le-ltb len (a + b) (omega (arith, ltb-false (len - b) a e)))
+
+pub past-alone : (len a b : ℕ) → len < b → true ≡ ltb len (a + b)
+past-alone len a b h = sym (lt-ltb len (a + b) (omega arith))
 
 pub ruleset choices = (yes, no-go, sum-past, sum-fits, lt-ltb, le-ltb, le-leb, lt-leb, eq-eqb, ne-eqb, eq-not, ne-not)

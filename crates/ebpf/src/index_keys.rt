@@ -13,7 +13,7 @@ fn key_of(lo: u32, hi: u32) -> u32
     murmur3::fmix(murmur3::mixed(murmur3::mixed(0, lo), hi) ^ 8)
 }
 
-// The key of an index, worked out without a buffer.
+// The key of an index, worked out without a table.
 pub fn index_key(index: u64) -> u32
     ensures { λ r. ⌜ r ≡ indexKey index ⌝ }
 {

@@ -1,5 +1,5 @@
-// The steps of MurmurHash3, x86 32-bit. A product is taken in 64 bits and cut to 32; a function ends
-// at each xor, since a bound on its result then comes with the type.
+// The steps of MurmurHash3, x86 32-bit. A product is taken in 64 bits and cut to 32. Each xor is what a
+// function is given or returns: the proof then has its bound, 32 bits, from the type.
 ghost use mathlib.Core.Path.{_≡_};
 ghost use Rattle.ebpf.specs.Murmur3.{scramble, step, mix, times, fmix32};
 

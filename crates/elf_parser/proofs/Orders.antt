@@ -1,26 +1,13 @@
--- Tests on sums that the code makes by a difference. Assumes nothing.
-use Prim.Native.Nat.{ℕ, _+_, _-_, _*_, _≤_, _<_}
+-- An entry's place in its table, and the bytes at a place, in the shapes in which the code meets them. Assumes nothing.
+use Prim.Native.Nat.{ℕ, _+_, _*_, _≤_, _<_}
 use native.Mathlib.Nat.{mul-le-mul-left}
 use mathlib.Core.List.{List, []}
 use lib.ListN.{length, take, drop}
-use native.Mathlib.Omega.{arith}
-use mathlib.Core.Bool.{Bool, true, false}
-use mathlib.Core.Path.{_≡_, refl, sym, _∙_}
-use lib.Dec.{ltb, leb}
-use borrow.Author.Tests.{lt-ltb, le-ltb, le-leb, lt-leb, ltb-true, ltb-false}
+use mathlib.Core.Path.{_≡_, refl}
+use lib.Dec.{leb}
+use borrow.Author.Tests.{le-leb, lt-leb}
 use Rattle.ebpf.specs.Choice.{yes, no-go}
 use Rattle.elf_parser.specs.Parts.{bytesAt}
-
--- b bytes from a on end past len
-pub same-ltb : (len a b : ℕ) → b ≤ len → ltb (len - b) a ≡ ltb len (a + b)
-same-ltb len a b h = go (ltb (len - b) a) refl
-  where
-    go : (t : Bool) → ltb (len - b) a ≡ t → ltb (len - b) a ≡ ltb len (a + b)
-    go true e = e ∙ sym (lt-ltb len (a + b) (omega (arith, ltb-true (len - b) a e)))
-    go false e = e ∙ sym (le-ltb len (a + b) (omega (arith, ltb-false (len - b) a e)))
-
-pub past-alone : (len a b : ℕ) → len < b → true ≡ ltb len (a + b)
-past-alone len a b h = sym (lt-ltb len (a + b) (omega arith))
 
 -- an entry's place in its table, the entries at most 64 bytes each
 pub few : (i w : ℕ) → w ≤ 64 → i * w ≤ i * 64

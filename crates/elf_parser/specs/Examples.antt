@@ -1,4 +1,4 @@
--- Document 01's worked examples on names, tables and sections, and a few beside them: each holds by computation.
+-- The scope's worked examples on names, tables and sections, and a few beside them: each holds by computation.
 use mathlib.Core.List.{[], _∷_, _++_}
 use mathlib.Core.Path.{_≡_, refl}
 use lib.ListN.{replicate}

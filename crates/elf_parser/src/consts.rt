@@ -1,4 +1,4 @@
-// The gABI's numbers that are asked for, under the Rust's names.
+// The gABI's numbers that are asked for, and the Rust's limits, under the Rust's names.
 pub const SECTION_NAME_LENGTH_MAXIMUM: u32 = 16;
 
 pub const SYMBOL_NAME_LENGTH_MAXIMUM: u32 = 64;

@@ -19,7 +19,7 @@ pub struct Answer {
 }
 
 // A refusal in numbers.
-pub fn reported(r: Report) -> Answer
+pub(crate) fn reported(r: Report) -> Answer
     ensures { λ a. ⌜ a ≡ reported r ⌝ }
 {
     let words = [
@@ -45,7 +45,7 @@ pub fn reported(r: Report) -> Answer
     }
 }
 
-pub fn refused(e: ElfParserError) -> Answer
+pub(crate) fn refused(e: ElfParserError) -> Answer
     ensures { λ r. ⌜ r ≡ refused e ⌝ }
 {
     reported(report_of(e))
@@ -78,7 +78,7 @@ fn laid_out(l: Layout) -> Answer
     Answer { number: 0, words }
 }
 
-pub fn parse_answer(p: Parsed) -> Answer
+pub(crate) fn parse_answer(p: Parsed) -> Answer
     ensures { λ r. ⌜ r ≡ parseAnswer p ⌝ }
 {
     match p {
@@ -87,7 +87,7 @@ pub fn parse_answer(p: Parsed) -> Answer
     }
 }
 
-pub fn place_answer(p: Place) -> Answer
+pub(crate) fn place_answer(p: Place) -> Answer
     ensures { λ r. ⌜ r ≡ placeAnswer p ⌝ }
 {
     match p {
@@ -115,7 +115,7 @@ pub fn place_answer(p: Place) -> Answer
     }
 }
 
-pub fn table_answer(t: Sliced) -> Answer
+pub(crate) fn table_answer(t: Sliced) -> Answer
     ensures { λ r. ⌜ r ≡ tableAnswer t ⌝ }
 {
     match t {
@@ -127,7 +127,7 @@ pub fn table_answer(t: Sliced) -> Answer
     }
 }
 
-pub fn row_answer(f: Found) -> Answer
+pub(crate) fn row_answer(f: Found) -> Answer
     ensures { λ r. ⌜ r ≡ rowAnswer f ⌝ }
 {
     match f {
@@ -191,7 +191,7 @@ fn give_words(answer: &mut [u64], number: u32, words: &[u64])
 }
 
 // Fills the lent slice with an answer's words.
-pub fn give(answer: &mut [u64], a: Answer) -> u32
+pub(crate) fn give(answer: &mut [u64], a: Answer) -> u32
     ensures { λ r. ⌜ Gives a (now (answer .entry)) (now (answer .exit)) r ⌝ }
 {
     let words = a.words;

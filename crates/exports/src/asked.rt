@@ -14,7 +14,7 @@ ghost use Rattle.elf_parser.specs.Names.{sectionName, symbolName, dynamicSymbol
 ghost use Rattle.elf_parser.specs.Records.{sectionPlaceOf, symbolTableOf};
 ghost use Rattle.exports.specs.Answers.{asked, placeAnswer, tableAnswer};
 
-pub fn section_place_answer(file: &[u8], parsed: Parsed, index: u32) -> Answer
+pub(crate) fn section_place_answer(file: &[u8], parsed: Parsed, index: u32) -> Answer
     ensures { λ r. ⌜ r ≡ asked parsed (λ l. placeAnswer (sectionPlaceOf (now (file .entry)) l index)) ⌝ }
 {
     match parsed {
@@ -23,7 +23,7 @@ pub fn section_place_answer(file: &[u8], parsed: Parsed, index: u32) -> Answer
     }
 }
 
-pub fn section_name_answer(file: &[u8], parsed: Parsed, sh_name: u32) -> Answer
+pub(crate) fn section_name_answer(file: &[u8], parsed: Parsed, sh_name: u32) -> Answer
     ensures { λ r. ⌜ r ≡ asked parsed (λ l. placeAnswer (sectionName (now (file .entry)) l «sh_name»)) ⌝ }
 {
     match parsed {
@@ -32,7 +32,7 @@ pub fn section_name_answer(file: &[u8], parsed: Parsed, sh_name: u32) -> Answer
     }
 }
 
-pub fn symbol_name_answer(file: &[u8], parsed: Parsed, st_name: u32) -> Answer
+pub(crate) fn symbol_name_answer(file: &[u8], parsed: Parsed, st_name: u32) -> Answer
     ensures { λ r. ⌜ r ≡ asked parsed (λ l. placeAnswer (symbolName (now (file .entry)) l «st_name»)) ⌝ }
 {
     match parsed {
@@ -41,7 +41,7 @@ pub fn symbol_name_answer(file: &[u8], parsed: Parsed, st_name: u32) -> Answer
     }
 }
 
-pub fn dynamic_symbol_name_answer(file: &[u8], parsed: Parsed, st_name: u32) -> Answer
+pub(crate) fn dynamic_symbol_name_answer(file: &[u8], parsed: Parsed, st_name: u32) -> Answer
     ensures { λ r. ⌜ r ≡ asked parsed (λ l. placeAnswer (dynamicSymbolName (now (file .entry)) l «st_name»)) ⌝ }
 {
     match parsed {
@@ -50,7 +50,7 @@ pub fn dynamic_symbol_name_answer(file: &[u8], parsed: Parsed, st_name: u32) -> 
     }
 }
 
-pub fn symbol_table_answer(file: &[u8], parsed: Parsed) -> Answer
+pub(crate) fn symbol_table_answer(file: &[u8], parsed: Parsed) -> Answer
     ensures { λ r. ⌜ r ≡ asked parsed (λ l. tableAnswer (symbolTableOf (now (file .entry)) l)) ⌝ }
 {
     match parsed {

@@ -19,7 +19,7 @@ fn bit(settings: u32, value: u32) -> bool
 }
 
 // The settings of a load by their bits.
-pub fn config_of(settings: u32) -> Config
+pub(crate) fn config_of(settings: u32) -> Config
     ensures { λ r. ⌜ r ≡ configOf settings ⌝ }
 {
     Config {
@@ -65,7 +65,7 @@ fn accepted_answer(a: Accepted) -> Answer
     Answer { number: 0, words }
 }
 
-pub fn load_answer(a: Load) -> Answer
+pub(crate) fn load_answer(a: Load) -> Answer
     ensures { λ r. ⌜ r ≡ loadAnswer a ⌝ }
 {
     match a {
@@ -74,7 +74,7 @@ pub fn load_answer(a: Load) -> Answer
     }
 }
 
-pub fn text_answer(p: PartPlace) -> Answer
+pub(crate) fn text_answer(p: PartPlace) -> Answer
     ensures { λ r. ⌜ r ≡ textAnswer p ⌝ }
 {
     match p {

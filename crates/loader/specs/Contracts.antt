@@ -22,7 +22,7 @@ enteredBy Repeat used moves key rows = Holds used moves
 enteredBy Collision used moves key rows = Refused (SymbolHashCollision key)
 enteredBy Full used moves key rows = Refused (TableFull rows)
 
--- a registration that was held, before the place of its key is found outside
+-- the outcome of a registration: one that was held is refused all the same where the place of its key is outside the file
 abbrev pub finishedBy : Outcome → Bool → Outcome
 finishedBy (Refused r) outside = Refused r
 finishedBy (Holds used moves) false = Holds used moves
@@ -48,8 +48,8 @@ pub record Room (n used moves : ℕ) : Type 0 where
   pub few : used + n ≤ 2 ^ 26
   pub moved : moves + n * 2 ^ 26 ≤ 2 ^ 60
 
--- what the checks ahead of a load leave of a job's numbers: the text and the relocations lie in the file, which is no longer
--- than a load takes, and the entry in the text
+-- what the checks ahead of a load leave of a job's numbers: the text lies in the file; file, text size and the entry's offset
+-- are at most 2 ^ 24; there are no more relocations than the file has room for
 pub record InFile (file : List ℕ) (j : Job) : Type 0 where
   pub text : j .start + j .length ≤ length file
   pub size : j .«sh_size» ≤ 2 ^ 24

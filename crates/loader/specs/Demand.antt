@@ -23,6 +23,7 @@ use Rattle.program.specs.declared.Found.{Found}
 use Rattle.program.specs.declared.Found.the-variants.{At}
 use Rattle.program.specs.declared.Registered.{Registered}
 use Rattle.program.specs.declared.Registered.the-variants.{Inserted, Repeat, Collision, Full}
+use Rattle.program.specs.HashedLegacy.{entrypoint}
 use Rattle.program.specs.Rows.{registered, remove}
 use Rattle.program.specs.Rows as table
 use Rattle.program.specs.Table.{Slices, capacity, lookupIn}
@@ -37,7 +38,7 @@ use Rattle.loader.specs.declared.validate.Job.{Job}
 use Rattle.loader.specs.declared.validate.Prepared.{Prepared}
 use Rattle.loader.specs.declared.validate.Prepared.the-variants.{Ready, Refused as NotReady}
 use Rattle.loader.specs.Calls.{callAt, textOf, slotCount, immediate}
-use Rattle.loader.specs.Functions.{rowFor, entrypoint, symbolFunction, indexOf}
+use Rattle.loader.specs.Functions.{rowFor, symbolFunction, indexOf}
 use Rattle.loader.specs.Labels.{labelSymbols, labelsTrace}
 use Rattle.loader.specs.Relocations.{relocationAt, placeAt, textHolds, isFunction}
 use Rattle.loader.specs.Parts.{writingTrace, jobTrace}
@@ -184,7 +185,7 @@ Bytes file j im =
     → Unnamed file j b
     → getD im b 0 ≡ getD file b 0
 
--- in either version no two indices share an index key
+-- in either version no two indices below 2 ^ 32 share an index key
 abbrev pub Injective : Type 0
 Injective = (version2 : Bool) (x y : ℕ) → x < 2 ^ 32 → y < 2 ^ 32 → keyOf version2 x ≡ keyOf version2 y → x ≡ y
 

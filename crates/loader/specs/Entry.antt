@@ -8,13 +8,14 @@ use Rattle.ebpf.specs.Murmur3.{murmur3}
 use Rattle.program.specs.declared.FunctionName.the-variants.{Entrypoint}
 use Rattle.program.specs.declared.Removed.{Removed}
 use Rattle.program.specs.declared.Removed.the-variants.{Gone, Absent}
+use Rattle.program.specs.HashedLegacy.{entrypoint}
 use Rattle.loader.specs.declared.error.ElfError.the-variants.{InvalidEntrypoint}
 use Rattle.loader.specs.declared.deeds.Deed.{Deed}
 use Rattle.loader.specs.declared.deeds.Deed.the-variants.{Refuse}
 use Rattle.loader.specs.declared.deeds.Outcome.{Outcome}
 use Rattle.loader.specs.declared.deeds.Outcome.the-variants.{Holds}
 use Rattle.loader.specs.declared.validate.Job.{Job}
-use Rattle.loader.specs.Functions.{rowFor, entrypoint}
+use Rattle.loader.specs.Functions.{rowFor}
 use Rattle.loader.specs.Labels.{labelRow, row-fits}
 use Rattle.loader.specs.Trace.{Trace, done, forget, andThen}
 use Rattle.loader.specs.Deeds.{DeedFits, deedTrace}

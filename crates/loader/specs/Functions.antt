@@ -2,14 +2,14 @@
 use Prim.Native.Nat.{ℕ, _-_, _/_}
 use mathlib.Core.Path.{_≡_}
 use mathlib.Core.Bool.{Bool, _&&_}
-use mathlib.Core.List.{List, [], _∷_}
+use mathlib.Core.List.{List, []}
 use lib.Dec.{leb, ltb}
 use Rattle.ebpf.specs.IndexKeys.{indexKey, keyIn}
 use Rattle.elf_parser.specs.SectionNames.{sameBytes}
 use Rattle.program.specs.declared.FunctionName.{FunctionName}
 use Rattle.program.specs.declared.FunctionName.the-variants.{Symbol}
 use Rattle.program.specs.declared.Legacy.{Legacy}
-use Rattle.program.specs.HashedLegacy.{legacyRow}
+use Rattle.program.specs.HashedLegacy.{entrypoint, legacyRow}
 use Rattle.loader.specs.declared.validate.Job.{Job}
 use Rattle.loader.specs.Addresses.{sumUpTo}
 
@@ -20,10 +20,6 @@ Keyed table = (i : ℕ) → keyIn table i ≡ indexKey i
 -- the row; its key is worked out, the table of keys being empty
 unfoldable pub rowFor : List ℕ → Job → FunctionName → ℕ → Legacy
 rowFor builtins j name index = legacyRow [] builtins (j .version2) (j .«check_collision») (j .labels) name index
-
--- the bytes of the name entrypoint
-abbrev pub entrypoint : List ℕ
-entrypoint = 101 ∷ 110 ∷ 116 ∷ 114 ∷ 121 ∷ 112 ∷ 111 ∷ 105 ∷ 110 ∷ 116 ∷ []
 
 -- a name that is a part of the file, its bytes and its place
 abbrev pub symbolFunction : List ℕ → ℕ → ℕ → FunctionName

@@ -32,7 +32,7 @@ use Rattle.loader.specs.ReadOnly.{copiedFrom}
 abbrev pub allCount : List ℕ → Job → ℕ
 allCount file j = (slotCount j + j .layout .«dynamic_relocations» .count) + (labelSymbols file j .count + 2)
 
--- what is held, before the placing of the read-only sections refuses
+-- the outcome once all is registered: refused where the placing of the read-only sections is
 abbrev pub placedBy : Placing → ℕ → ℕ → Outcome
 placedBy (Borrowed offset start n) used moves = Holds used moves
 placedBy (Owned offset lowest n) used moves = Holds used moves

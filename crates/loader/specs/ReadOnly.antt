@@ -125,7 +125,7 @@ fromStart addr = addr - MM-PROGRAM-START if leb MM-PROGRAM-START addr else addr
 unfoldable pub canBorrow : Extent → Bool
 canBorrow x = not (x .invalid) && eqb (sumUpTo (x .last) 1 - x .first) (x .many)
 
--- they stay in the image, the constant less than their addresses
+-- they stay in the image, at their addresses less the constant
 unfoldable pub borrowed : Bool → Extent → Placing
 borrowed version2 x =
     Refused ValueOutOfBounds if version2 && ltb (x .lowest) MM-PROGRAM-START else
@@ -167,7 +167,7 @@ abbrev pub copiedAt : List ℕ → List ℕ → ℕ → Place → List ℕ
 copiedAt ro image at (At start n) = copiedTo ro image at start n
 copiedAt ro image at (NoPlace r) = ro
 
--- the section number i, by its file's headers, to its address less the lowest
+-- the section number i is copied to its address less the lowest: header and name from the file s, bytes from the image
 unfoldable pub copyStep : List ℕ → List ℕ → Layout → ℕ → ℕ → List ℕ → List ℕ
 copyStep image s l lowest i ro =
     ro if not (readOnly (nameOf s l (sectionAt s l i))) else

@@ -252,7 +252,7 @@ pub used-next : (s : List ℕ) (l : Layout) (version2 : Bool) (i : ℕ)
 unfolding usedBefore
 used-next s l version2 i = rw (add-one i)
 
--- THE BYTES THAT A RELOCATION NAMES LIE IN THE IMAGE
+-- ---- the bytes that a relocation writes lie in the image
 
 -- a choice fits if what it picks does
 pub either : (len : ℕ) (b : Bool) (x y : Deed) → (b ≡ true → DeedFits len x) → (b ≡ false → DeedFits len y) → DeedFits len (x if b else y)

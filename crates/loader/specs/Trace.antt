@@ -15,7 +15,7 @@ use Rattle.loader.specs.declared.error.ElfError.the-variants.{SymbolHash
 pub data Trace : Type 0 where
   -- nothing is left, and this is the image
   done : List ℕ → Trace
-  -- a check refuses that does not look at the table, a built-in's key too
+  -- a refusal by a check that does not look at the table; a collision with a built-in's key is one
   stop : ElfError → Trace
   -- a function is registered
   register : Row → Trace → Trace

@@ -64,7 +64,7 @@ writableBy (NoPlace r) = WritableSectionNotSupported 0 0
 abbrev pub writableError : List ℕ → Layout → ℕ → ElfError
 writableError s l sh-name = writableBy (sectionName s l sh-name)
 
--- exactly one .text, no writable section, every section in the file
+-- exactly one .text, no section that is not supported (`unsupported`), every section in the file
 unfoldable pub sectionsCheck : List ℕ → Layout → Survey → Verdict
 sectionsCheck s l v =
     Refused NotOneTextSection if not (eqb (v .texts) 1) else

@@ -1,4 +1,4 @@
--- Document 01's worked examples that are marked to be proved, in its order: each holds by computation.
+-- The scope's worked examples that are marked to be proved, in its order: each holds by computation.
 use Prim.Native.Nat.{ℕ, _+_, _-_, _*_, _^_}
 use mathlib.Core.Bool.{true, false}
 use mathlib.Core.List.{List, [], _∷_, _++_}

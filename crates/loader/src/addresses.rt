@@ -16,7 +16,7 @@ pub(crate) fn saturating_add(a: u64, b: u64) -> u64
     a + b
 }
 
-// A difference of two numbers, or 0 where it would be below. The difference of two naturals is that.
+// A difference of two numbers, or 0 where it would be below, as a difference of natural numbers is.
 pub(crate) fn saturating_sub(a: u64, b: u64) -> u64
     ensures { λ r. ⌜ r ≡ a - b ⌝ }
 {

@@ -100,7 +100,7 @@ fn among_two(file: &[u8], start: usize, at: usize) -> usize
     at + 2
 }
 
-// The same of four, and of eight: a call is met with no other test than its own.
+// The same of four, and of eight, so that a loop over slots tests its own end once for eight.
 fn among_four(file: &[u8], start: usize, at: usize) -> usize
     requires { ⌜ (start + 8 * at + 32 ≤ length (now file)) × (length (now file) ≤ 2 ^ 24) ⌝ }
     ensures { λ r. ⌜ r ≡ nextCall (now (file .entry)) start 4 at ⌝ }

@@ -1,5 +1,5 @@
 // What a part of a load does: write some bytes of the image, register a function, or refuse. The
-// functions that decide give a `Deed`; this module carries it out.
+// functions that decide on relocations, labels and the entry give a `Deed`; this module carries it out.
 use crate::error::ElfError;
 use program::Registered;
 use program::Row;

@@ -38,9 +38,9 @@ pub enum Placing {
     Refused(ElfError),
 }
 
-// What is known of the read-only sections so far: their lowest and highest address, how many bytes
-// fill it, whether an offset is invalid, the constant by which addresses are past file offsets,
-// once there is one (`shifted`), and the first, the last and the number of the sections.
+// What is known of the read-only sections so far: their lowest address and highest end, how many
+// bytes they have in all, whether an offset is invalid, the constant by which addresses are past file
+// offsets, once there is one (`shifted`), and the first, the last and the number of the sections.
 pub struct Extent {
     pub lowest: u64,
     pub highest: u64,

@@ -36,8 +36,8 @@ pub(crate) fn starts_with(name: &[u8], prefix: &[u8]) -> bool
     same_bytes(&name[..n], prefix)
 }
 
-// Whether a section of that name and those flags would be writable: .bss, and writable .data but
-// .data.rel.
+// Whether a section of that name and those flags is not supported: a name that starts with .bss, or
+// a writable one that starts with .data but not with .data.rel.
 fn is_unsupported(name: &[u8], sh_flags: u64) -> bool
     ensures { λ r. ⌜ r ≡ unsupported (now (name .entry)) «sh_flags» ⌝ }
 {

@@ -127,7 +127,7 @@ fn check_header(h: Elf64Ehdr, c: Config, version2: bool) -> Verdict
     Verdict::Pass
 }
 
-// The first section that would be writable, by its name's place.
+// The refusal of a section that is not supported, with its name's place.
 fn writable_error(file: &[u8], layout: Layout, sh_name: u32) -> ElfError
     ensures { λ r. ⌜ r ≡ writableError (now (file .entry)) layout «sh_name» ⌝ }
 {

@@ -10,7 +10,7 @@ use Rattle.ebpf.specs.Choice.{_if_else_}
 abbrev pub middle : ℕ → ℕ → ℕ
 middle lo hi = lo + (hi - lo) / 2
 
--- the search by halves (binary search) for k, between the places lo and hi, in at most that many turns
+-- the search by halves (binary search) for k, between the places lo and hi, in at most `turns` turns
 unfoldable pub between : ℕ → ℕ → List ℕ → ℕ → ℕ → ℕ
 between zero k xs lo hi = lo
 between (suc turns) k xs lo hi =

@@ -179,7 +179,7 @@ unregisterIn t used k = unregisterAt t (counted t used) (placeIn t (counted t us
 unfoldable pub unregisteredIn : Slices → ℕ → ℕ → Slices
 unregisteredIn t used k = unregisteredAt t (counted t used) (placeIn t (counted t used) k) k
 
--- slices t are u after a registration of a row that answered a
+-- the slices t become u by a registration of the row, and the answer is a
 pub record RegistersBy (opening : Opening) (t u : Slices) (used : ℕ) (row : Row) (a : Registered) : Type 0 where
   pub answers : a ≡ registerIn t used row
   pub leaves : u ≡ registeredBy opening t used row
@@ -190,7 +190,7 @@ Registers t u used row a = RegistersBy openedRow t u used row a
 abbrev pub RegistersAlike : Slices → Slices → ℕ → Row → Registered → Type 0
 RegistersAlike t u used row a = RegistersBy openedAlike t u used row a
 
--- slices t are u after a removal of rank k that answered a
+-- the slices t become u by a removal of rank k, and the answer is a
 pub record Unregisters (t u : Slices) (used k : ℕ) (a : Removed) : Type 0 where
   pub answers : a ≡ unregisterIn t used k
   pub leaves : u ≡ unregisteredIn t used k

@@ -91,7 +91,7 @@ pub fn kept_name(labels: bool, name: FunctionName) -> KeptName
     }
 }
 
-// Whether a key is among the built-ins' keys, which ascend strictly: a search by halves.
+// Whether a search by halves finds the key: on keys that ascend strictly, whether it is among them.
 pub fn is_builtin(builtins: &[u32], key: u32) -> bool
     ensures { λ r. ⌜ r ≡ isAmong key (now (builtins .entry)) ⌝ }
 {

@@ -1,4 +1,4 @@
-//! Document 01's worked examples, also those that specs/Worked.antt proves: each with the answer that
+//! The scope's worked examples, also those that specs/Worked.antt proves: each with the answer that
 //! was worked out by hand, the port's and the Rust's. Where an example has a limit, the neighbour
 //! on its other side is beside it. And published hashes.
 

@@ -1,6 +1,6 @@
 -- `loader::addresses::past` meets its contract, by a difference that cannot wrap.
 -- Assumes nothing.
-use Rattle.elf_parser.proofs.Orders.{past-alone, same-ltb}
+use Rattle.ebpf.specs.Choice.{past-alone, same-ltb}
 use borrow.Author.Needs.{needs}
 use Rattle.loader.proofs.addresses.past.Statement.{statement}
 use Rattle.loader.proofs.addresses.past.Tie as tie
