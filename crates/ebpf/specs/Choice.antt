@@ -1,6 +1,6 @@
 -- A choice by a test. A definition with several answers is a row of choices, with the code's tests in the code's order:
 -- `x if test else y if test else z`.
-use mathlib.Core.Bool.{Bool, true, false, not}
+use mathlib.Core.Bool.{Bool, true, false, not, _&&_, _||_, true≢false}
 use mathlib.Core.Path.{_≡_, refl, sym, _∙_}
 use Prim.Native.Nat.{ℕ, _+_, _-_, _^_, _≤_, _<_}
 use native.Mathlib.Omega.{arith}
@@ -32,6 +32,23 @@ module _ {A : Type 0} where
   unfolding _if_else_
   row-rest true x y z h e = absurd (h e)
   row-rest false x y z h e = e
+
+-- what a joined test says of its parts
+pub and-left : (a b : Bool) → (a && b) ≡ true → a ≡ true
+and-left true b e = refl
+and-left false b e = e
+
+pub and-right : (a b : Bool) → (a && b) ≡ true → b ≡ true
+and-right true b e = e
+and-right false b e = absurd (true≢false (sym e))
+
+pub and-false : (a b : Bool) → (a && b) ≡ false → a ≡ true → b ≡ false
+and-false true b e h = e
+and-false false b e h = absurd (true≢false (sym h))
+
+pub or-false : (a b : Bool) → (a || b) ≡ false → (a ≡ false) × (b ≡ false)
+or-false true b e = absurd (true≢false e)
+or-false false b e = (refl, e)
 
 pub eq-not : (a b : ℕ) → a ≡ b → not (eqb a b) ≡ false
 eq-not a b h = simp (eq-eqb a b h)

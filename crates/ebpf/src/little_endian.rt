@@ -24,7 +24,7 @@ fn join_u64(a: u32, b: u32) -> u64
 }
 
 // The next three are for places that are known to lie inside: LLVM makes one load of each.
-pub(crate) fn whole_u16(s: &[u8], at: usize) -> u16
+fn whole_u16(s: &[u8], at: usize) -> u16
     requires { ⌜ at + 2 ≤ length (now s) ⌝ }
     ensures { λ r. ⌜ r ≡ le 2 (now (s .entry)) at ⌝ }
 {
@@ -38,7 +38,7 @@ pub(crate) fn whole_u32(s: &[u8], at: usize) -> u32
     join_u32(whole_u16(s, at), whole_u16(s, at + 2))
 }
 
-pub(crate) fn whole_u64(s: &[u8], at: usize) -> u64
+fn whole_u64(s: &[u8], at: usize) -> u64
     requires { ⌜ at + 8 ≤ length (now s) ⌝ }
     ensures { λ r. ⌜ r ≡ le 8 (now (s .entry)) at ⌝ }
 {

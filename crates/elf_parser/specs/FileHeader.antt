@@ -1,12 +1,12 @@
 -- The file header's checks, and the places of the two header tables.
 use Prim.Native.Nat.{ℕ, _+_, _*_, _%_, _≤_, _<_}
 use mathlib.Core.Path.{_≡_}
-use mathlib.Core.Bool.{Bool, true, false, _&&_, not}
+use mathlib.Core.Bool.{Bool, _&&_, not}
 use mathlib.Core.List.{List}
 use lib.ListN.{length}
 use lib.Dec.{ltb, eqb}
 use borrow.Author.Tests.{ltb-true, ltb-false, not-false}
-use Rattle.ebpf.specs.Choice.{_if_else_, not-first, row-rest, pastWord}
+use Rattle.ebpf.specs.Choice.{_if_else_, not-first, row-rest, and-right, pastWord}
 use Rattle.elf_parser.specs.declared.error.ElfParserError.the-variants.{InvalidFileHeader, OutOfBounds, Overlap, InvalidAlignment}
 use Rattle.elf_parser.specs.declared.error.Check.{Check}
 use Rattle.elf_parser.specs.declared.error.Check.the-variants.{Pass, Refused}
@@ -54,10 +54,6 @@ tablesCheck len phoff phnum shoff shnum =
     Refused OutOfBounds if ltb len shend else
     Refused InvalidAlignment if ltb 0 (shoff % 8) else
     Pass
-
-and-right : (a b : Bool) → (a && b) ≡ true → b ≡ true
-and-right true b e = e
-and-right false b e = cc
 
 -- the name table of a header that passes is one of its sections
 pub header-sections : (s : List ℕ) → headerCheck s ≡ Pass → e-shstrndx s < e-shnum s

@@ -15,6 +15,9 @@ module _ {R A : Type 0} where
   goes a into f = f a
   ends r into f = ends r
 
+  pub not-ends : (r : R) (y : A) → _≡_ {A = Turn R A} (ends r) (goes y) → ⊥
+  not-ends r y e = let z : _≡_ {A = ℕ} 0 1 = cc in omega arith
+
 module _ {R A : Type 0} (step : ℕ → A → Turn R A) (w : ℕ) where
   -- n entries of w bytes each, from `at` on, with the state x
   unfoldable pub over : ℕ → ℕ → A → Turn R A

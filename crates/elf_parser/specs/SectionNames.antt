@@ -8,7 +8,7 @@ use lib.ListN.{length, getD, drop}
 use lib.Seq.{drop-cons, drop-length}
 use lib.Dec.{eqb}
 use borrow.Author.Tests.{eq-eqb, ne-eqb, eqb-true}
-use Rattle.ebpf.specs.Choice.{_if_else_}
+use Rattle.ebpf.specs.Choice.{_if_else_, and-left, and-right}
 use Rattle.ebpf.specs.LittleEndian.{le}
 use Rattle.elf_parser.specs.declared.error.ElfParserError.{ElfParserError}
 use Rattle.elf_parser.specs.declared.error.ElfParserError.the-variants.{InvalidSectionHeader}
@@ -80,14 +80,6 @@ abbrev pub namesOf : List ℕ → Elf64Shdr → ℕ → ℕ → Naming
 namesOf s names count from = namingBy (over (λ at n. namingTurn (nameStep s names at n)) 64 count from none-named)
 
 -- ---- laws of equal lists
-
-and-left : (a b : Bool) → (a && b) ≡ true → a ≡ true
-and-left true b e = refl
-and-left false b e = cc
-
-and-right : (a b : Bool) → (a && b) ≡ true → b ≡ true
-and-right true b e = e
-and-right false b e = cc
 
 -- lists that pass the test are equal
 pub same-equal : (a b : List ℕ) → sameBytes a b ≡ true → a ≡ b

@@ -30,7 +30,7 @@ use Rattle.elf_parser.specs.declared.dynamic.Linking.the-variants.{Found
 use Rattle.elf_parser.specs.declared.layout.Layout.{Layout}
 use Rattle.elf_parser.specs.declared.layout.Parsed.the-variants.{File, Refused as NoFile}
 use Rattle.elf_parser.specs.Errors.{apart, pass-first, pass-rest}
-use Rattle.elf_parser.specs.Loops.{Turn, goes, ends, _into_, over}
+use Rattle.elf_parser.specs.Loops.{Turn, goes, ends, _into_, over, not-ends}
 use Rattle.elf_parser.specs.Types.{fileHeader, programHeader, sectionHeader, PT-LOAD, SHT-STRTAB, SHT-NOBITS}
 use Rattle.elf_parser.specs.ProgramHeaders.{turnOf, checkOf, loadStep}
 use Rattle.elf_parser.specs.SectionHeaders.{sectionCheck, section-within, leaves, sectionStep}
@@ -46,9 +46,6 @@ module _ {R A : Type 0} (step : ℕ → A → Turn R A) (w : ℕ) where
     pub from : A
     pub to : A
     pub turn : step at from ≡ goes to
-
-  not-ends : (r : R) (y : A) → _≡_ {A = Turn R A} (ends r) (goes y) → ⊥
-  not-ends r y e = let z : _≡_ {A = ℕ} 0 1 = cc in omega arith
 
   pub each-went : (n at : ℕ) (x y : A) → over step w n at x ≡ goes y → (i : ℕ) → i < n → Went (at + w * i)
   unfolding over _into_

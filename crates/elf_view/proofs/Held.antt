@@ -1,4 +1,5 @@
 -- The view's type, over a signature's lifetimes, and `&[u8]`, as MIR has it.
+-- Assumes nothing.
 use mathlib.Core.List.{[], _∷_}
 use mir.Syntax.{Lifetime, Ty, tyInt, tyRef, tyStruct, tcons, tnil, imm, w8, w64}
 use contract.Lifetimes.{Lfts}

@@ -1,4 +1,5 @@
 -- What the proofs of several functions use.
+-- Assumes nothing.
 mod Held
 mod Asking
 mod Reading

@@ -6,8 +6,8 @@ use loader::Config;
 use loader::Load;
 use loader::PartPlace;
 use loader::report_of;
-ghost use Prim.Native.Nat.{_<_};
 ghost use mathlib.Core.Path.{_≡_};
+ghost use Prim.Native.Nat.{_<_};
 ghost use Rattle.exports.specs.Answers.{bitOf, configOf, numberOf, acceptedAnswer, loadAnswer, textAnswer};
 
 // Whether the bit of that value, a power of two, is set.

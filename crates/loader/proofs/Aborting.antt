@@ -6,12 +6,12 @@ use native.Mathlib.Omega.{arith}
 use native.Mathlib.Nat.{eq-or-lt-of-le}
 use mathlib.Core.Path.{_≡_, refl, sym, ap, subst, _∙_}
 use mathlib.Core.Logic.{⊎-elim, _↔_}
-use mathlib.Core.Bool.{Bool, true, false, not}
-use mathlib.Core.List.{List, []}
+use mathlib.Core.Bool.{Bool, true, false, not, true≢false}
+use mathlib.Core.List.{List}
 use lib.ListN.{length}
 use lib.Dec.{ltb, eqb}
 use borrow.Author.Tests.{ltb-false, lt-ltb, le-ltb, le-leb, lt-leb, not-false}
-use Rattle.ebpf.specs.Choice.{_if_else_, yes, no-go, not-first, row-rest}
+use Rattle.ebpf.specs.Choice.{_if_else_, yes, no-go, not-first, row-rest, or-false, and-false}
 use Rattle.elf_parser.specs.declared.types.Elf64Ehdr.{Elf64Ehdr}
 use Rattle.elf_parser.specs.declared.types.Elf64Shdr.{Elf64Shdr}
 use Rattle.elf_parser.specs.declared.layout.Layout.{Layout}
@@ -25,7 +25,6 @@ use Rattle.elf_parser.specs.Parse.{parsed}
 use Rattle.elf_parser.specs.Records.{contentsPlace, placeBy, sectionHeaderOf, sectionPlaceOf}
 use Rattle.elf_parser.specs.SectionNames.{sameBytes}
 use Rattle.program.proofs.Cases.{by-test, by-le}
-use Rattle.program.specs.declared.Row.{Row}
 use Rattle.loader.specs.declared.answer.Accepted.{Accepted}
 use Rattle.loader.specs.declared.answer.Load.the-variants.{Accepted as Accepts}
 use Rattle.loader.specs.declared.error.ElfError.{ElfError}
@@ -40,7 +39,6 @@ use Rattle.loader.specs.declared.sections.Survey.{Survey}
 use Rattle.loader.specs.declared.validate.Config.{Config}
 use Rattle.loader.specs.declared.validate.Verdict.the-variants.{Pass}
 use Rattle.loader.specs.declared.validate.Job.{Job}
-use Rattle.loader.specs.declared.validate.Prepared.{Prepared}
 use Rattle.loader.specs.declared.validate.Prepared.the-variants.{Ready, Refused as NotReady}
 use Rattle.loader.specs.Addresses.{sumUpTo, machineAddr, MM-PROGRAM-START, MM-STACK-START}
 use Rattle.loader.specs.Sections.{headerOr, sectionAt, nameOf, dot-text, outsideFile, surveyStep, surveyFrom, no-survey, survey}
@@ -48,12 +46,10 @@ use Rattle.loader.specs.ReadOnly.{readOnly, gatherBy, gathered, fromStar
 use Rattle.loader.specs.Placed.{owned-fits, owned-room}
 use Rattle.loader.specs.Validate.{sizeCheck, ascends, headerCheck, sectionsCheck, textCheck, jobOf, _then_, fileCheck, isVersion2, validated, parsedThen, prepared}
 use Rattle.loader.specs.GetBytes.{textAt, textPlace, roPlace, lentFor, roOf, textPlaceOf}
-use Rattle.loader.specs.Load.{acceptedAs, answerBy, heldBy, onTrace, onPrepared, loadOf, answerOf}
-use Rattle.loader.specs.Parts.{jobTrace}
-use Rattle.loader.specs.Trace.{Settled, accepted, refused, settle}
-use Rattle.loader.proofs.Readied.{Lies, pick-in, in-file, true-false, not-passed, not-ready, then-first, then-rest, ready-by, prepared-by, sections-pass, text-passes, readied, placed-as}
-use Rattle.loader.proofs.Gathered.{and-false, Spans, spans, copied-offset, Stays, stays, copied-lowest}
-use Rattle.loader.proofs.Bools.{or-false}
+use Rattle.loader.specs.Load.{acceptedAs, answerBy, loadOf, answerOf}
+use Rattle.loader.proofs.Answered.{by-load}
+use Rattle.loader.proofs.Readied.{Lies, pick-in, in-file, not-passed, not-ready, then-first, then-rest, ready-by, prepared-by, sections-pass, text-passes, readied, placed-as}
+use Rattle.loader.proofs.Gathered.{Spans, spans, copied-offset, Stays, stays, copied-lowest}
 
 -- ---- the text's section is one of those surveyed, with that name, and all of them lie in the file
 
@@ -132,7 +128,7 @@ machine-2 addr h = rw (le-leb MM-PROGRAM-START addr h) refl
 -- in version 1 the text stands at the program's start at the latest, before it is put into the machine
 text-low : (version2 reject-broken : Bool) (e-entry : ℕ) (h : Elf64Shdr) → textCheck version2 reject-broken e-entry h ≡ Pass → version2 ≡ false → h .«sh_addr» ≤ MM-PROGRAM-START
 unfolding textCheck
-text-low true reject-broken e-entry h e off = absurd (true-false off)
+text-low true reject-broken e-entry h e off = absurd (true≢false off)
 text-low false reject-broken e-entry h e off =
     let e1 = row-rest _ _ _ _ (not-passed _) e in
     let e2 = row-rest _ _ _ _ (not-passed _) e1 in
@@ -454,29 +450,13 @@ module _ (file builtins : List ℕ) (c : Config) (n m : ℕ) (j : Job) (ready : 
       absurd (omega (arith, lo, up, down, end, none, short))
   from-low-by (NotPlaced r) q used moves a e h = let z : _≡_ {A = ℕ} 0 1 = cc in absurd (omega arith)
 
--- ---- an accepted load has its answer by the placing
-
-module _ (file builtins : List ℕ) (c : Config) (n m cap : ℕ) (j : Job) (a : Accepted) where
-  by-held : (p : Placing) (im : List ℕ) (rows : List Row) (moves : ℕ) → answerOf (heldBy file j m p im rows moves) ≡ answerBy j p (length rows) moves
-  by-held (Borrowed offset start k) im rows moves = refl
-  by-held (Owned offset lowest k) im rows moves = refl
-  by-held (NotPlaced r) im rows moves = refl
-
-  by-settled : (s : Settled) → answerOf (onTrace file j m s) ≡ Accepts a → (used : ℕ) × (moves : ℕ) × (answerBy j (j .placing) used moves ≡ Accepts a)
-  by-settled (accepted im rows moves) e = (length rows, moves, sym (by-held (j .placing) im rows moves) ∙ e)
-  by-settled (refused r) e = let z : _≡_ {A = ℕ} 0 1 = cc in absurd (omega arith)
-
-  by-load : prepared file builtins c n m ≡ Ready j → answerOf (loadOf file builtins c n m cap) ≡ Accepts a → (used : ℕ) × (moves : ℕ) × (answerBy j (j .placing) used moves ≡ Accepts a)
-  unfolding loadOf
-  by-load ready e = by-settled (settle cap (jobTrace file builtins j file) [] 0) (ap (λ (p : Prepared). answerOf (onPrepared file builtins m cap p)) (sym ready) ∙ e)
-
 -- ---- THE LAWS, of an accepted load with n bytes lent for the image and m for the read-only ones
 
 module _ (file builtins : List ℕ) (c : Config) (n m cap : ℕ) (j : Job) (ready : prepared file builtins c n m ≡ Ready j) (a : Accepted) (accepts : answerOf (loadOf file builtins c n m cap) ≡ Accepts a) where
   both : Places file builtins c n m j ready a
   both =
       let w = by-load file builtins c n m cap j a ready accepts in
-      places file builtins c n m j ready (w .0) (w .1) a (j .placing) refl (w .2)
+      places file builtins c n m j ready (length (w .rows)) (w .moves) a (j .placing) refl (w .answers)
 
   -- its read-only bytes lie in the lent ones
   pub ro-given : roOf a (lentFor a n m) ≡ At (a .«ro_start») (a .«ro_length»)
@@ -491,7 +471,7 @@ module _ (file builtins : List ℕ) (c : Config) (n m cap : ℕ) (j : Job) (read
   text-aborts-at =
       let w = by-load file builtins c n m cap j a ready accepts in (
         λ e. low-from file builtins c n m j ready (both .1 .0 e),
-        λ h. both .1 .1 (from-low-by file builtins c n m j ready (j .placing) refl (w .0) (w .1) a (w .2) h),
+        λ h. both .1 .1 (from-low-by file builtins c n m j ready (j .placing) refl (length (w .rows)) (w .moves) a (w .answers) h),
       )
 
   -- everywhere else it has its place

@@ -49,7 +49,7 @@ pub ahead-length : (im file : List ℕ) (q : ℕ) → length im ≡ length file 
 ahead-length im file q e = length-ahead im file q e ∙ sym e
 
 -- bytes before the place are written there
-pub ahead-put : (k : ℕ) (im file : List ℕ) (at v q : ℕ) → at + k ≤ q → q ≤ length im → put k (ahead q im file) at v ≡ ahead q (put k im at v) file
+ahead-put : (k : ℕ) (im file : List ℕ) (at v q : ℕ) → at + k ≤ q → q ≤ length im → put k (ahead q im file) at v ≡ ahead q (put k im at v) file
 unfolding put
 ahead-put zero im file at v q h l = refl
 ahead-put (suc k) im file at v q h l =

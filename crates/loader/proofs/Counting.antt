@@ -25,16 +25,16 @@ pub record Same (xs ys : List ℕ) : Type 0 where
   pub count : distinct xs ≡ distinct ys
   pub has : (k : ℕ) → isOneOf k xs ≡ isOneOf k ys
 
-pub same-refl : (xs : List ℕ) → Same xs xs
+same-refl : (xs : List ℕ) → Same xs xs
 same-refl xs = record { count = refl; has = λ k. refl }
 
-pub same-sym : (xs ys : List ℕ) → Same xs ys → Same ys xs
+same-sym : (xs ys : List ℕ) → Same xs ys → Same ys xs
 same-sym xs ys s = record { count = sym (s .count); has = λ k. sym (s .has k) }
 
-pub same-then : (xs ys zs : List ℕ) → Same xs ys → Same ys zs → Same xs zs
+same-then : (xs ys zs : List ℕ) → Same xs ys → Same ys zs → Same xs zs
 same-then xs ys zs s t = record { count = s .count ∙ t .count; has = λ k. s .has k ∙ t .has k }
 
-pub same-cons : (a : ℕ) (xs ys : List ℕ) → Same xs ys → Same (a ∷ xs) (a ∷ ys)
+same-cons : (a : ℕ) (xs ys : List ℕ) → Same xs ys → Same (a ∷ xs) (a ∷ ys)
 unfolding distinct
 same-cons a xs ys s = record { count = rw (s .has a, s .count) refl; has = λ k. rw (s .has k) refl }
 
@@ -52,7 +52,7 @@ count-swap true false n = refl
 count-swap false true n = refl
 count-swap false false n = refl
 
-pub same-swap : (a b : ℕ) (xs : List ℕ) → Same (a ∷ b ∷ xs) (b ∷ a ∷ xs)
+same-swap : (a b : ℕ) (xs : List ℕ) → Same (a ∷ b ∷ xs) (b ∷ a ∷ xs)
 unfolding distinct
 same-swap a b xs = record { count = swapped (ℕ-discrete a b); has = λ k. or-swap (eqb k a) (eqb k b) (isOneOf k xs) }
   where

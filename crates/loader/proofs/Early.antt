@@ -10,7 +10,7 @@ use mathlib.Core.List.{List, []}
 use lib.ListN.{length, take, drop, length-take}
 use lib.Dec.{ltb, leb}
 use borrow.Author.Tests.{ltb-true, not-false}
-use Rattle.ebpf.specs.Choice.{_if_else_}
+use Rattle.ebpf.specs.Choice.{_if_else_, and-right}
 use Rattle.ebpf.specs.IndexKeys.{indexKey, keyIn}
 use Rattle.ebpf.specs.Instructions.{insnAt}
 use Rattle.ebpf.specs.Murmur3.{murmur3}
@@ -52,7 +52,6 @@ use Rattle.loader.specs.Contracts.{InFile}
 use Rattle.loader.specs.Demand.{nameKey, keyOf, earlyTrace}
 use Rattle.loader.proofs.Plain.{Plain, picks}
 use Rattle.loader.proofs.Reaching.{Steady, steady-then, steady-each}
-use Rattle.loader.proofs.Bools.{and-right}
 
 -- an index below 2 ^ 32, with its own key, or in version 1 the name's
 abbrev pub Good : Bool → Row → Type 0

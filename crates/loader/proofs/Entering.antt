@@ -31,14 +31,14 @@ pub moves-fit : (a : Registered) (n moves : ℕ) → a ≡ Inserted n → moves 
 moves-fit a n moves e h = record { fits = rw e at h }
 
 -- a registration that is held: the rest goes on with its moves
-pub held-on : (a : Registered) (used moves key rows used′ moves′ : ℕ) (k : ℕ → Settled) → enteredBy a used moves key rows ≡ Holds used′ moves′ → onRegistered a rows key moves k ≡ k moves′
+held-on : (a : Registered) (used moves key rows used′ moves′ : ℕ) (k : ℕ → Settled) → enteredBy a used moves key rows ≡ Holds used′ moves′ → onRegistered a rows key moves k ≡ k moves′
 held-on (Inserted n) used moves key rows used′ moves′ k e = let m : moves + n ≡ moves′ = cc in ap k m
 held-on Repeat used moves key rows used′ moves′ k e = let m : moves ≡ moves′ = cc in ap k m
 held-on Collision used moves key rows used′ moves′ k e = absurd (zero-one (cc))
 held-on Full used moves key rows used′ moves′ k e = absurd (zero-one (cc))
 
 -- one that is refused: the rest does not matter
-pub held-not : (a : Registered) (used moves key rows : ℕ) (r : ElfError) (k : ℕ → Settled) → enteredBy a used moves key rows ≡ Refused r → onRegistered a rows key moves k ≡ refused r
+held-not : (a : Registered) (used moves key rows : ℕ) (r : ElfError) (k : ℕ → Settled) → enteredBy a used moves key rows ≡ Refused r → onRegistered a rows key moves k ≡ refused r
 held-not (Inserted n) used moves key rows r k e = absurd (zero-one (cc))
 held-not Repeat used moves key rows r k e = absurd (zero-one (cc))
 held-not Collision used moves key rows r k e = let m : SymbolHashCollision key ≡ r = cc in ap refused m
@@ -50,7 +50,7 @@ pub record Grown (cap : ℕ) (r : Row) (rs : List Row) (moves used′ moves′ :
   pub one-more : used′ ≤ length rs + 1
   pub few-moved : moves′ ≤ moves + length rs
 
-pub grown : (a : Registered) (cap : ℕ) (r : Row) (rs : List Row) (moves key rows used′ moves′ : ℕ) → a ≡ register cap r rs → enteredBy a (length rs) moves key rows ≡ Holds used′ moves′ → Grown cap r rs moves used′ moves′
+grown : (a : Registered) (cap : ℕ) (r : Row) (rs : List Row) (moves key rows used′ moves′ : ℕ) → a ≡ register cap r rs → enteredBy a (length rs) moves key rows ≡ Holds used′ moves′ → Grown cap r rs moves used′ moves′
 grown (Inserted n) cap r rs moves key rows used′ moves′ is e =
     let u : length rs + 1 ≡ used′ = cc in
     let m : moves + n ≡ moves′ = cc in

@@ -6,12 +6,12 @@ use native.Mathlib.Omega.{arith}
 use native.Mathlib.Nat.{eq-or-lt-of-le}
 use mathlib.Core.Path.{_≡_, refl, sym, ap, subst, _∙_}
 use mathlib.Core.Logic.{⊎-elim}
-use mathlib.Core.Bool.{Bool, true, false, _&&_, not}
+use mathlib.Core.Bool.{Bool, true, false, _&&_, not, true≢false}
 use mathlib.Core.List.{List}
 use lib.ListN.{length}
 use lib.Dec.{eqb}
 use borrow.Author.Tests.{ltb-false, eqb-true, le-leb, not-false, not-true}
-use Rattle.ebpf.specs.Choice.{_if_else_, not-first, row-rest}
+use Rattle.ebpf.specs.Choice.{_if_else_, not-first, row-rest, and-left, and-right, or-false, yes, and-false}
 use Rattle.elf_parser.specs.declared.error.ElfParserError.{ElfParserError}
 use Rattle.elf_parser.specs.declared.layout.Layout.{Layout}
 use Rattle.elf_parser.specs.declared.parts.Place.{Place}
@@ -19,7 +19,7 @@ use Rattle.elf_parser.specs.declared.parts.Place.the-variants.{At, Refused as N
 use Rattle.elf_parser.specs.declared.records.Shdr.{Shdr}
 use Rattle.elf_parser.specs.declared.records.Shdr.the-variants.{Header, Refused as NoShdr}
 use Rattle.elf_parser.specs.declared.types.Elf64Shdr.{Elf64Shdr}
-use Rattle.elf_parser.specs.Loops.{Turn, goes, ends, _into_, over}
+use Rattle.elf_parser.specs.Loops.{Turn, goes, ends, _into_, over, not-ends}
 use Rattle.elf_parser.specs.Records.{contentsPlace, placeBy, sectionHeaderOf, sectionPlaceOf}
 use Rattle.program.proofs.Cases.{by-test}
 use Rattle.loader.specs.declared.error.ElfError.{ElfError}
@@ -30,20 +30,10 @@ use Rattle.loader.specs.declared.read_only.Placing.the-variants.{Borrowe
 use Rattle.loader.specs.Addresses.{MM-PROGRAM-START, MM-STACK-START}
 use Rattle.loader.specs.Sections.{headerOr, sectionAt, nameOf}
 use Rattle.loader.specs.ReadOnly.{readOnly, gives, invalidBy, endOf, grown, taken, takenAt, gatherStep, nothing, gatherTurn, gatherBy, gathered, fromStart, canBorrow, borrowed, owned, placed, placingBy, placing}
-use Rattle.loader.specs.Placed.{row-cases, Inside, no-owned, not-borrowed, no-next, end-ahead, no-goes}
-use Rattle.loader.proofs.Readied.{Lies, true-false}
-use Rattle.loader.proofs.Bools.{and-left, and-right, or-false}
+use Rattle.loader.specs.Placed.{row-cases, Inside, no-owned, not-borrowed, no-next, end-ahead}
+use Rattle.loader.proofs.Readied.{Lies}
 
 -- ---- rows and tests
-
-module _ {A : Type 0} where
-  row-first : (b : Bool) (x y z : A) → b ≡ true → (x if b else y) ≡ z → x ≡ z
-  unfolding _if_else_
-  row-first b x y z t e = row-cases b x y z (x ≡ z) (λ f q. q) (λ f q. absurd (let w : _≡_ {A = ℕ} 0 1 = cc in omega arith)) e
-
-pub and-false : (a b : Bool) → (a && b) ≡ false → a ≡ true → b ≡ false
-and-false true b e h = e
-and-false false b e h = absurd (true-false (sym h))
 
 -- ---- a section that breaks nothing stands at the constant above its file offset
 
@@ -51,19 +41,19 @@ module _ (addr offset : ℕ) (x : Extent) where
   plain-offset : invalidBy false addr offset x ≡ false → (x .invalid ≡ false) × (addr ≡ offset)
   unfolding invalidBy
   plain-offset e =
-      let e1 = row-rest _ _ _ _ true-false e in
-      let e2 : not (eqb addr offset) ≡ false = row-first _ _ _ _ refl e1 in
-      (not-first _ _ _ _ true-false e, eqb-true addr offset (not-false _ e2))
+      let e1 = row-rest _ _ _ _ true≢false e in
+      let e2 : not (eqb addr offset) ≡ false = yes _ _ _ refl ∙ e1 in
+      (not-first _ _ _ _ true≢false e, eqb-true addr offset (not-false _ e2))
 
   shifted-offset : invalidBy true addr offset x ≡ false → (x .invalid ≡ false) × (offset ≤ addr) × (x .shifted ≡ true → x .shift ≡ addr - offset)
   unfolding invalidBy
   shifted-offset e =
-      let e1 = row-rest _ _ _ _ true-false e in
-      let e2 = row-cases _ _ _ _ _ (λ b q. absurd (true-false (sym b))) (λ b q. q) e1 in
-      let e3 = row-rest _ _ _ _ true-false e2 in (
-        not-first _ _ _ _ true-false e,
-        ltb-false addr offset (not-first _ _ _ _ true-false e2),
-        λ on. eqb-true (x .shift) (addr - offset) (not-false _ (row-first _ _ _ _ on e3)),
+      let e1 = row-rest _ _ _ _ true≢false e in
+      let e2 = row-cases _ _ _ _ _ (λ b q. absurd (true≢false (sym b))) (λ b q. q) e1 in
+      let e3 = row-rest _ _ _ _ true≢false e2 in (
+        not-first _ _ _ _ true≢false e,
+        ltb-false addr offset (not-first _ _ _ _ true≢false e2),
+        λ on. eqb-true (x .shift) (addr - offset) (not-false _ (yes _ _ _ on ∙ e3)),
       )
 
   gives-first : x .invalid ≡ false → offset ≤ addr → x .shifted ≡ false → gives true addr offset x ≡ true
@@ -92,7 +82,7 @@ module _ (i addr offset n len : ℕ) (x : Extent) (lies : offset + n ≤ len) wh
         let z = s .plain refl in
         (omega (arith, p .1, k .0, k .1, z), omega (arith, p .1, k .0, k .1, z, lies));
     plain = λ e. s .plain refl;
-    blank = λ e. absurd (true-false (sym e));
+    blank = λ e. absurd (true≢false (sym e));
   }
 
   -- the constant afterwards is this section's
@@ -101,7 +91,7 @@ module _ (i addr offset n len : ℕ) (x : Extent) (lies : offset + n ≤ len) wh
   shift-is e =
       let p = shifted-offset addr offset x e in
       by-test (gives true addr offset x) (λ b. (addr - offset if b else x .shift) ≡ addr - offset) (λ g. refl)
-      (λ g. p .2 (by-test (x .shifted) (λ b. x .shifted ≡ b → b ≡ true) (λ on q. refl) (λ off q. absurd (true-false (sym (gives-first addr offset x (p .0) (p .1) q) ∙ g))) refl))
+      (λ g. p .2 (by-test (x .shifted) (λ b. x .shifted ≡ b → b ≡ true) (λ on q. refl) (λ off q. absurd (true≢false (sym (gives-first addr offset x (p .0) (p .1) q) ∙ g))) refl))
 
   grown-shifted : addr ≤ MM-STACK-START → Shifts true len x → Shifts true len (grown true i addr offset n x)
   unfolding grown
@@ -118,11 +108,11 @@ module _ (i addr offset n len : ℕ) (x : Extent) (lies : offset + n ≤ len) wh
         let z = s .blank refl (p .0) off in
         (omega (arith, q, z .0, ahead, p .1), omega (arith, q, z .1, p .1, lies)))
         refl;
-    plain = λ e. absurd (true-false e);
+    plain = λ e. absurd (true≢false e);
     blank = λ v e off.
         let p = shifted-offset addr offset x e in
         let o = or-false (x .shifted) (gives true addr offset x) off in
-        absurd (true-false (sym (gives-first addr offset x (p .0) (p .1) (o .0)) ∙ o .1));
+        absurd (true≢false (sym (gives-first addr offset x (p .0) (p .1) (o .0)) ∙ o .1));
   }
 
 grown-keeps : (version2 : Bool) (i addr offset n len : ℕ) (x : Extent) → offset + n ≤ len → addr ≤ MM-STACK-START → Shifts version2 len x → Shifts version2 len (grown version2 i addr offset n x)
@@ -221,7 +211,7 @@ module _ (s : List ℕ) (l : Layout) (version2 reject-broken : Bool) (count t st
           (record {
             shifts = g .shifts;
             text = λ lt. ⊎-elim
-                (λ same. absurd (true-false (sym (subst (λ (u : ℕ). readOnly (nameOf s l (sectionAt s l u)) ≡ true) same named) ∙ not-true _ b)))
+                (λ same. absurd (true≢false (sym (subst (λ (u : ℕ). readOnly (nameOf s l (sectionAt s l u)) ≡ true) same named) ∙ not-true _ b)))
                 (λ less. g .text (omega (arith, less)))
                 (eq-or-lt-of-le (at-most lt));
           })
@@ -240,7 +230,7 @@ module _ (s : List ℕ) (l : Layout) (version2 reject-broken : Bool) (count t st
           → ((z : Extent) → over (λ j w. gatherTurn (gatherStep s l version2 reject-broken j w)) 1 n (i + 1) z ≡ goes y → Spans s l version2 t k (i + 1) z → Spans s l version2 t k count y)
           → Spans s l version2 t k count y
       go (Next z) h q rec = rec z q (step-spans i x z (omega (arith, all)) h g)
-      go (Stop r) h q rec = absurd (no-goes r y q)
+      go (Stop r) h q rec = absurd (not-ends r y q)
 
   pub spans : (y : Extent) → over (λ j z. gatherTurn (gatherStep s l version2 reject-broken j z)) 1 count 0 nothing ≡ goes y → Spans s l version2 t k count y
   spans y e = all-span count 0 nothing y (omega arith) e (record {
@@ -279,8 +269,8 @@ owned-lowest len optimize x offset lowest n e =
 -- in version 2, which is always optimized, they are never copied
 never-copied : (version2 optimize borrows : Bool) → (version2 && not borrows) ≡ false → (optimize && borrows) ≡ false → (version2 ≡ true → optimize ≡ true) → version2 ≡ false
 never-copied false optimize borrows a b h = refl
-never-copied true optimize true a b h = absurd (true-false (sym (rw (h refl) refl) ∙ b))
-never-copied true optimize false a b h = absurd (true-false a)
+never-copied true optimize true a b h = absurd (true≢false (sym (rw (h refl) refl) ∙ b))
+never-copied true optimize false a b h = absurd (true≢false a)
 
 module _ (len : ℕ) (version2 reject-broken optimize : Bool) (x : Extent) (offset at n : ℕ) where
   placed-owned : placed len version2 reject-broken optimize x ≡ Owned offset at n → (version2 ≡ true → optimize ≡ true) → (version2 ≡ false) × (offset ≡ fromStart at)

@@ -14,17 +14,17 @@ use Rattle.loader.specs.Trace.{Trace, andThen, each, refused, settle, se
 use Rattle.loader.specs.CallLoop.{Leads}
 use Rattle.loader.specs.Contracts.{Near, Begins, Settles}
 
-pub same-refl : (t : Slices) → SameLens t t
+same-refl : (t : Slices) → SameLens t t
 same-refl t = record { keys-as = refl; indices-as = refl; kinds-as = refl; starts-as = refl; lengths-as = refl }
 
 -- a part that was held, and then another
-pub then-on : (T : Trace) (K : List ℕ → Trace) (im : List ℕ) (t u : Slices) (n used moves used′ moves′ : ℕ) → SameLens t u
+then-on : (T : Trace) (K : List ℕ → Trace) (im : List ℕ) (t u : Slices) (n used moves used′ moves′ : ℕ) → SameLens t u
     → Settles T im t u n used moves (Holds used′ moves′)
     → settle (capacity t) (andThen T K) (rowsOf t used) moves ≡ settle (capacity u) (K im) (rowsOf u used′) moves′
 then-on T K im t u n used moves used′ moves′ lens did = settle-andThen (capacity t) T K (rowsOf t used) moves ∙ rw (← did .answers, capacity-same t u lens) refl
 
 -- a part that was refused
-pub then-not : (T : Trace) (K : List ℕ → Trace) (im : List ℕ) (t u : Slices) (n used moves : ℕ) (r : ElfError)
+then-not : (T : Trace) (K : List ℕ → Trace) (im : List ℕ) (t u : Slices) (n used moves : ℕ) (r : ElfError)
     → Settles T im t u n used moves (Refused r)
     → settle (capacity t) (andThen T K) (rowsOf t used) moves ≡ refused r
 then-not T K im t u n used moves r did = settle-andThen (capacity t) T K (rowsOf t used) moves ∙ rw (← did .answers) refl

@@ -87,18 +87,18 @@ module _ (s builtins : List ℕ) (j : Job) (im l : List ℕ) where
   unfolding labelTrace
   label-is i im = refl
 
-  pub labels-ends : Ends (labelsTrace s builtins j im) l → l ≡ im
+  labels-ends : Ends (labelsTrace s builtins j im) l → l ≡ im
   labels-ends e =
       deeds-nothing (labelTrace s builtins j) (λ (i : ℕ) (k : List ℕ). labelDeed s builtins j (labelSymbols s j) i) (labelSymbols s j .count) label-is
       im l (λ i k. label-nothing s builtins j k (labelSymbols s j) i) e
 
-pub entry-ends : (builtins : List ℕ) (j : Job) (im l : List ℕ) → Ends (entryTrace builtins j im) l → l ≡ im
+entry-ends : (builtins : List ℕ) (j : Job) (im l : List ℕ) → Ends (entryTrace builtins j im) l → l ≡ im
 entry-ends builtins j im l e =
     let both = ends-then (forgetTrace (j .version2) im) (λ (k : List ℕ). deedTrace (entryDeed builtins j) k) l e in
     deed-ends (entryDeed builtins j) (both .0) l (both .2) ∙ entry-nothing builtins j (both .0) ∙ forget-ends (j .version2) im (both .0) (both .1)
 
 -- the image of a load is that of its calls and relocations
-pub job-ends : (s builtins : List ℕ) (j : Job) (im l : List ℕ) → Ends (jobTrace s builtins j im) l → Ends (writingTrace s builtins j im) l
+job-ends : (s builtins : List ℕ) (j : Job) (im l : List ℕ) → Ends (jobTrace s builtins j im) l → Ends (writingTrace s builtins j im) l
 unfolding jobTrace
 job-ends s builtins j im l e =
     let first = ends-then (writingTrace s builtins j im) _ l e in
@@ -141,18 +141,18 @@ module _ (file builtins : List ℕ) (j : Job) where
       go Outside e = refl
       go (To to) e = row-clear (immediate j i) b (rowFor builtins j OfIndex to) (h to (l, e))
 
-  pub calls-length : (im l : List ℕ) → Ends (callsTrace file builtins j im) l → length l ≡ length im
+  calls-length : (im l : List ℕ) → Ends (callsTrace file builtins j im) l → length l ≡ length im
   calls-length im l e = deeds-length (slotTrace file builtins j) call (slotCount j) slot-is im l e
 
-  pub calls-other : (im l : List ℕ) (b : ℕ) → ((i to : ℕ) → CallsTo file j i to → isIn (immediate j i) 4 b ≡ false)
+  calls-other : (im l : List ℕ) (b : ℕ) → ((i to : ℕ) → CallsTo file j i to → isIn (immediate j i) 4 b ≡ false)
       → Ends (callsTrace file builtins j im) l
       → getD l b 0 ≡ getD im b 0
   calls-other im l b h e = deeds-other (slotTrace file builtins j) call (slotCount j) slot-is im l b (λ i k m n. call-clear i b k m (h i)) e
 
-  pub relocations-length : (im l : List ℕ) → Ends (relocationsTrace file builtins j im) l → length l ≡ length im
+  relocations-length : (im l : List ℕ) → Ends (relocationsTrace file builtins j im) l → length l ≡ length im
   relocations-length im l e = deeds-length (relocationTrace file builtins j) relocation (relocationCount j) relocation-is im l e
 
-  pub relocations-other : (im l : List ℕ) (b : ℕ) → length im ≤ 2 ^ 24 → Unnamed file j b → Ends (relocationsTrace file builtins j im) l → getD l b 0 ≡ getD im b 0
+  relocations-other : (im l : List ℕ) (b : ℕ) → length im ≤ 2 ^ 24 → Unnamed file j b → Ends (relocationsTrace file builtins j im) l → getD l b 0 ≡ getD im b 0
   relocations-other im l b short h e =
       deeds-other (relocationTrace file builtins j) relocation (relocationCount j) relocation-is im l b
       (λ i k m n. unnamed-clear b file k builtins j (placeAt file j i) (infoOf file j i) (rw n short) (h i m)) e
@@ -194,7 +194,7 @@ module _ (file builtins : List ℕ) (j : Job) where
       next : (m : ℕ) (l l′ : List ℕ) → m < slotCount j → Behind m l → Ends (slotTrace file builtins j m l) l′ → Behind (m + 1) l′
       next m l l′ h p x = (step-length (slotTrace file builtins j) call (slotCount j) slot-is m l l′ x ∙ p .0, λ g. after m l l′ h p x g (ℕ-discrete m i))
 
-      pub calls-keyed : (l : List ℕ) → Ends (callsTrace file builtins j im) l → le 4 l (immediate j i) ≡ keyOf (j .version2) to
+      calls-keyed : (l : List ℕ) → Ends (callsTrace file builtins j im) l → le 4 l (immediate j i) ≡ keyOf (j .version2) to
       calls-keyed l e = ends-each (slotTrace file builtins j) Behind (slotCount j) next im l (refl, λ h. absurd (omega arith)) e .1 (calls .0)
 
 -- ---- THE IMAGE OF A LOAD
@@ -210,7 +210,7 @@ module _ (file builtins : List ℕ) (j : Job) (inside : InFile file j) (im′ : 
   short : length (parts .0) ≤ 2 ^ 24
   short = rw calls-long (inside .short)
 
-  pub image-length : length im′ ≡ length file
+  image-length : length im′ ≡ length file
   image-length = relocations-length file builtins j (parts .0) im′ (parts .2) ∙ calls-long
 
   pub bytes-kept : Bytes file j im′

@@ -10,6 +10,7 @@ use lib.ListN.{length, getD, set, length-set}
 use lib.Seq.{getD-set-same, getD-set-other}
 use lib.Dec.{ltb}
 use borrow.Author.Tests.{le-leb, lt-leb, lt-ltb, le-ltb}
+use Rattle.ebpf.specs.Choice.{or-false}
 use Rattle.ebpf.specs.LittleEndian.{le}
 use Rattle.program.proofs.Cases.{by-le, by-lt, zero-one}
 use Rattle.loader.specs.declared.deeds.Deed.{Deed}
@@ -19,11 +20,10 @@ use Rattle.loader.specs.Trace.{Trace, each}
 use Rattle.loader.specs.Deeds.{written, deedTrace, length-written}
 use Rattle.loader.specs.Demand.{isIn}
 use Rattle.loader.proofs.Ends.{Ends, ends-each}
-use Rattle.loader.proofs.Bools.{or-false}
 
 -- ---- n places from `start` on
 
-pub apart : (start n b : ℕ) → isIn start n b ≡ false → (b < start) ⊎ (start + n ≤ b)
+apart : (start n b : ℕ) → isIn start n b ≡ false → (b < start) ⊎ (start + n ≤ b)
 apart start n b = by-le start b (λ (x : Bool). (x && ltb b (start + n)) ≡ false → (b < start) ⊎ (start + n ≤ b))
     (λ l. by-lt b (start + n) (λ (x : Bool). x ≡ false → (b < start) ⊎ (start + n ≤ b)) (λ m e. absurd (zero-one (cc))) (λ m e. inr m))
     (λ l e. inl l)
@@ -37,7 +37,7 @@ in-places start n b h l = rw (le-leb start b h, lt-ltb b (start + n) l) refl
 
 -- ---- a number written over bytes
 
-pub put-other : (k : ℕ) (s : List ℕ) (at v b : ℕ) → (b < at) ⊎ (at + k ≤ b) → getD (put k s at v) b 0 ≡ getD s b 0
+put-other : (k : ℕ) (s : List ℕ) (at v b : ℕ) → (b < at) ⊎ (at + k ≤ b) → getD (put k s at v) b 0 ≡ getD s b 0
 unfolding put
 put-other zero s at v b h = refl
 put-other (suc k) s at v b (inl h) = put-other k (set s at (v % 256)) (at + 1) (v / 256) b (inl (omega arith)) ∙ getD-set-other s at b (v % 256) 0 (λ e. omega arith)

@@ -21,15 +21,8 @@ use Rattle.program.proofs.Laws.{find-remove-other, keys-removed}
 use Rattle.program.proofs.Moves.{triangle-mono, triangle-twice, removal-moves, registration-moves}
 use Rattle.loader.specs.declared.read_only.Placing.{Placing}
 use Rattle.loader.specs.declared.read_only.Placing.the-variants.{Borrowed, Owned, Refused}
-use Rattle.loader.specs.declared.answer.Accepted.{Accepted}
-use Rattle.loader.specs.declared.answer.Load.the-variants.{Accepted as Accepts}
-use Rattle.loader.specs.declared.validate.Config.{Config}
 use Rattle.loader.specs.declared.validate.Job.{Job}
-use Rattle.loader.specs.declared.validate.Prepared.{Prepared}
-use Rattle.loader.specs.declared.validate.Prepared.the-variants.{Ready, Refused as NotReady}
-use Rattle.loader.specs.Trace.{Trace, Settled, andThen, accepted, refused, settle}
-use Rattle.loader.specs.Load.{answerOf, heldBy, onTrace, onPrepared, loadOf}
-use Rattle.loader.specs.Validate.{prepared}
+use Rattle.loader.specs.Trace.{Trace, andThen, accepted, settle}
 use Rattle.loader.specs.declared.deeds.Entry.{Entry as EntryOf}
 use Rattle.loader.specs.declared.deeds.Entry.the-variants.{Nothing, Refuse as NoEntry, Register as Enter}
 use Rattle.loader.specs.Deeds.{entryOf, deedTrace}
@@ -48,14 +41,14 @@ use Rattle.loader.proofs.Registering.{EarlyRow, deed-asks, deed-keeps, 
 -- ---- a row's key and index
 
 -- the entry's key in version 1 is the name's
-pub entry-key : (version2 : Bool) (index : ℕ) → version2 ≡ false → legacyKey [] version2 Entrypoint index ≡ nameKey
+entry-key : (version2 : Bool) (index : ℕ) → version2 ≡ false → legacyKey [] version2 Entrypoint index ≡ nameKey
 unfolding legacyKey _if_else_
 entry-key version2 index e = rw e refl
 
 -- ---- where the entry begins
 
 -- version 1 forgets the name's key
-abbrev pub forgotten : Bool → List Row → List Row
+abbrev forgotten : Bool → List Row → List Row
 forgotten true rows = rows
 forgotten false rows = remove nameKey rows
 
@@ -97,7 +90,7 @@ module _ (file builtins : List ℕ) (j : Job) (cap : ℕ) (im′ : List ℕ) (ro
   entered true im rs m e = (m, omega arith, e)
   entered false im rs m e = (m + movesGone (unregister nameKey rs), omega (arith, removal-moves nameKey rs), e)
 
-  pub stages : settle cap (jobTrace file builtins j file) [] 0 ≡ accepted im′ rows moves → Stages
+  stages : settle cap (jobTrace file builtins j file) [] 0 ≡ accepted im′ rows moves → Stages
   unfolding jobTrace
   stages e =
       let w = settle-split cap im′ rows moves (writingTrace file builtins j file) (λ (im₁ : List ℕ). andThen (namingTrace file builtins j im₁) (placedTrace (j .placing))) [] 0 e in
@@ -229,7 +222,7 @@ module _ (file builtins : List ℕ) (j : Job) (cap : ℕ) (im′ : List ℕ) (ro
       let w = went (table.register cap row rs) cap (row .key) m _ im′ rows moves e in
       absurd (let d = w .on in zero-one (cc))
 
-  -- THE CEILING: n × (n − 1) / 2 + 2 × (n − 1) in a table of n rows
+  -- THE BOUND: n × (n − 1) / 2 + 2 × (n − 1) in a table of n rows
   pub moves-few : moves ≤ cap * (cap - 1) / 2 + 2 * (cap - 1)
   unfolding deedTrace
   moves-few =
@@ -238,25 +231,3 @@ module _ (file builtins : List ℕ) (j : Job) (cap : ℕ) (im′ : List ℕ) (ro
       let up = triangle-mono (length (s .held)) cap room in
       let last = entry-moves (entryOf (entryDeed builtins j)) _ begun (s .entry-moves) (s .entry) in
       omega (arith, early, room, up, last, s .few, triangle-twice cap)
-
--- THE CEILING, of what a load answers
-module _ (file builtins : List ℕ) (c : Config) (n m cap : ℕ) (a : Accepted) where
-  abbrev Few : Type 0
-  Few = a .moves ≤ cap * (cap - 1) / 2 + 2 * (cap - 1)
-
-  placed-few : (j : Job) (p : Placing) (im : List ℕ) (rows : List Row) (moves : ℕ) → settle cap (jobTrace file builtins j file) [] 0 ≡ accepted im rows moves → answerOf (heldBy file j m p im rows moves) ≡ Accepts a → Few
-  placed-few j (Borrowed offset start k) im rows moves e h = let q : moves ≡ a .moves = cc in omega (arith, q, moves-few file builtins j cap im rows moves e)
-  placed-few j (Owned offset lowest k) im rows moves e h = let q : moves ≡ a .moves = cc in omega (arith, q, moves-few file builtins j cap im rows moves e)
-  placed-few j (Refused r) im rows moves e h = absurd (zero-one (cc))
-
-  settled-few : (j : Job) (s : Settled) → settle cap (jobTrace file builtins j file) [] 0 ≡ s → answerOf (onTrace file j m s) ≡ Accepts a → Few
-  settled-few j (accepted im rows moves) e h = placed-few j (j .placing) im rows moves e h
-  settled-few j (refused r) e h = absurd (zero-one (cc))
-
-  ready-few : (p : Prepared) → answerOf (onPrepared file builtins m cap p) ≡ Accepts a → Few
-  ready-few (Ready j) h = settled-few j (settle cap (jobTrace file builtins j file) [] 0) refl h
-  ready-few (NotReady r) h = absurd (zero-one (cc))
-
-  pub moves-given : answerOf (loadOf file builtins c n m cap) ≡ Accepts a → Few
-  unfolding loadOf
-  moves-given h = ready-few (prepared file builtins c n m) h

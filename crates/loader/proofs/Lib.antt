@@ -7,11 +7,11 @@ pub mod Ascents
 pub mod Slots
 pub mod Eights
 pub mod Ahead
+pub mod Answered
 pub mod Targeting
 pub mod Symbols
 pub mod Forgetting
 pub mod Turns
-pub mod Bools
 pub mod Readied
 pub mod Over
 pub mod Front

@@ -54,7 +54,7 @@ module _ (T : Trace) (im : List ℕ) (t u : Slices) (n used moves : ℕ) where
     near = tt;
   }
 
-  pub settles-placed : (p : Placing) (a : Outcome) → Settles T im t u n used moves a → Settles (andThen T (placedTrace p)) im t u n used moves (afterPlacing a p)
+  settles-placed : (p : Placing) (a : Outcome) → Settles T im t u n used moves a → Settles (andThen T (placedTrace p)) im t u n used moves (afterPlacing a p)
   settles-placed p (Holds used′ moves′) did = held-placed p used′ moves′ did
   settles-placed p (Refused r) did = settles-stop T (placedTrace p) im im t u u n n used moves r did
 
@@ -99,7 +99,7 @@ module _ (n : ℕ) (im z : List ℕ) (fits : n ≤ length im) (clear : z ≡ rep
   abbrev behind : List ℕ
   behind = putMid n (length im - n) im z
 
-  pub behind-length : length behind ≡ length im
+  behind-length : length behind ≡ length im
   behind-length = same-len-mid n (length im - n) im z (ap length clear ∙ length-replicate (length (midOf n (length im - n) im)) 0)
 
   pub behind-fits : n ≤ length behind

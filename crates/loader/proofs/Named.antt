@@ -44,7 +44,7 @@ stops (Register row at) = false
 stops (RegisterOnly row) = false
 stops (RegisterOutside row) = true
 
--- of the byte b: a deed that doesn't stop the load writes it exactly where it is named
+-- of the byte b: a deed that does not stop the load writes it exactly where it is named
 module _ (b : ℕ) where
   abbrev Clear : Bool → Deed → Type 0
   Clear named d = stops d ≡ false → named ≡ writes d b
@@ -159,7 +159,7 @@ module _ (b : ℕ) where
         (both _ _ (eqb (info % 2 ^ 32) 8) _ _ (relative-clear (j .version2) (textHolds j r))
         (both _ _ (eqb (info % 2 ^ 32) 10) _ _ (clear6432 (length im) short r s builtins j (info / 2 ^ 32)) never))
 
--- THE NAMED BYTES are those that a relocation writes, where it doesn't stop the load
+-- THE NAMED BYTES are those that a relocation writes, where it does not stop the load
 pub named-exactly : (b : ℕ) (s im builtins : List ℕ) (j : Job) (p : Mapped) (info : ℕ) → length im ≤ 2 ^ 24
     → stops (planOf s im builtins j p info) ≡ false
     → namedAt j p (info % 2 ^ 32) b ≡ writes (planOf s im builtins j p info) b
@@ -176,7 +176,7 @@ stopped b (Word at v) e = never b (sym e)
 stopped b (Key at k) e = never b (sym e)
 stopped b (Register row at) e = never b (sym e)
 
--- so a byte that a relocation doesn't name is not written by it
+-- so a byte that a relocation does not name is not written by it
 pub unnamed-clear : (b : ℕ) (s im builtins : List ℕ) (j : Job) (p : Mapped) (info : ℕ) → length im ≤ 2 ^ 24
     → namedAt j p (info % 2 ^ 32) b ≡ false
     → writes (planOf s im builtins j p info) b ≡ false

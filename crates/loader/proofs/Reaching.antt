@@ -36,7 +36,7 @@ Fills s = (n : ℕ) × (s ≡ refused (TableFull n))
 pub no-collision : (r : ElfError) → Plain r → Collides (refused r) → ⊥
 no-collision r p (k, e) = let t : ofTable r ≡ true = cc in zero-one (cc)
 
-pub no-full : (r : ElfError) → Plain r → Fills (refused r) → ⊥
+no-full : (r : ElfError) → Plain r → Fills (refused r) → ⊥
 no-full r p (n, e) = let t : ofTable r ≡ true = cc in zero-one (cc)
 
 -- ---- traces that forget nothing

@@ -3,12 +3,12 @@
 use Prim.Native.Nat.{ℕ, zero, suc, _+_, _≤_, _<_, _^_}
 use native.Mathlib.Omega.{arith}
 use mathlib.Core.Path.{_≡_, refl, subst}
-use mathlib.Core.Bool.{Bool, true, false, _&&_, not}
+use mathlib.Core.Bool.{Bool, true, false, _&&_, not, true≢false}
 use mathlib.Core.List.{List}
 use lib.ListN.{length}
 use lib.Dec.{eqb}
 use borrow.Author.Tests.{ltb-false, leb-false, eqb-true, eqb-false, not-false}
-use Rattle.ebpf.specs.Choice.{_if_else_, not-first, row-rest}
+use Rattle.ebpf.specs.Choice.{_if_else_, not-first, row-rest, or-false}
 use Rattle.elf_parser.specs.declared.types.Elf64Ehdr.{Elf64Ehdr}
 use Rattle.elf_parser.specs.declared.types.Elf64Shdr.{Elf64Shdr}
 use Rattle.elf_parser.specs.declared.layout.Layout.{Layout}
@@ -34,16 +34,12 @@ use Rattle.loader.specs.ReadOnly.{placing}
 use Rattle.loader.specs.Relocations.{few-relocations}
 use Rattle.loader.specs.Validate.{sizeCheck, ascends, sectionsCheck, textCheck, jobOf, _then_, fileCheck, readyBy, isVersion2, validated, parsedThen, preparedBy, prepared}
 use Rattle.loader.specs.Contracts.{InFile}
-use Rattle.loader.proofs.Bools.{or-false}
 
 -- ---- the survey
 
-pub true-false : true ≡ false → ⊥
-true-false e = let z : _≡_ {A = ℕ} 0 1 = cc in omega arith
-
 pub in-file : (len offset size : ℕ) → outsideFile len offset size ≡ false → offset + size ≤ len
 unfolding outsideFile
-in-file len offset size e = ltb-false _ _ (row-rest _ _ _ _ true-false e)
+in-file len offset size e = ltb-false _ _ (row-rest _ _ _ _ true≢false e)
 
 -- the section number i lies in the file
 abbrev pub Lies : List ℕ → Layout → ℕ → Type 0
@@ -75,7 +71,7 @@ unfolding surveyFrom
 from-lies s l zero i v g = g
 from-lies s l (suc n) i v g = from-lies s l n (i + 1) (surveyStep s l i v) (step-lies s l i v g)
 
-pub survey-lies : (s : List ℕ) (l : Layout) (n : ℕ) → Lie s l (survey s l n)
+survey-lies : (s : List ℕ) (l : Layout) (n : ℕ) → Lie s l (survey s l n)
 survey-lies s l n = from-lies s l n 0 no-survey (λ o t. absurd (t refl))
 
 -- ---- the checks
@@ -104,7 +100,7 @@ pub prepared-by : (w : Verdict) (p : Prepared) (j : Job) → preparedBy w p ≡ 
 prepared-by Pass p j e = (refl, e)
 prepared-by (Refused r) p j e = absurd (not-ready r j e)
 
-pub size-passes : (len image ro : ℕ) → sizeCheck len image ro ≡ Pass → (len ≤ 2 ^ 24) × (len ≤ image) × (len ≤ ro)
+size-passes : (len image ro : ℕ) → sizeCheck len image ro ≡ Pass → (len ≤ 2 ^ 24) × (len ≤ image) × (len ≤ ro)
 unfolding sizeCheck
 size-passes len image ro e =
     let e2 = row-rest _ _ _ _ (not-passed _) e in

@@ -202,13 +202,13 @@ module _ (file builtins : List ℕ) (j : Job) (off : j .«check_collision» ≡ 
     unfolding rank
     clash-collides (x, y, a, b, p, q, apart) = two cap (Good (j .version2)) early steady [] 0 x y (p ∙ sym q) apart a b
 
-    pub job-collides : Collides (settle cap (jobTrace file builtins j file) [] 0) ↔ Clash (reached cap (earlyTrace file builtins j) [])
+    job-collides : Collides (settle cap (jobTrace file builtins j file) [] 0) ↔ Clash (reached cap (earlyTrace file builtins j) [])
     job-collides = (
       λ c. clash-meets (meets cap (Good (j .version2)) early steady [] 0 (early-collides .0 c)),
       λ h. early-collides .1 (clash-collides h),
     )
 
-    pub job-fills : Fills (settle cap (jobTrace file builtins j file) [] 0) ↔ (cap < distinct (map (λ r. r .key) (reached cap (jobTrace file builtins j file) [])))
+    job-fills : Fills (settle cap (jobTrace file builtins j file) [] 0) ↔ (cap < distinct (map (λ r. r .key) (reached cap (jobTrace file builtins j file) [])))
     job-fills = rw (← append-nil (map (λ r. r .key) (reached cap (jobTrace file builtins j file) []))) (full-counts cap (jobTrace file builtins j file) job-counted [] 0 tt zero-le)
 
 -- ---- the answer

@@ -96,12 +96,12 @@ module _ (file builtins : List ℕ) (j : Job) (i : ℕ) (l : i < slotCount j) wh
   call-asks Outside e = tt
   call-asks (To to) e = row-asks to e (rowFor builtins j OfIndex to) refl
 
-  pub slot-asks : AsksFor (entryOf (callDeed file builtins j i)) (OfCall file builtins j i)
+  slot-asks : AsksFor (entryOf (callDeed file builtins j i)) (OfCall file builtins j i)
   unfolding callDeed
   slot-asks = call-asks (callAt (textOf file j) (j .version2) i) refl
 
   -- a call that does not stop has a row
-  pub call-row : (im im′ : List ℕ) → Ends (slotTrace file builtins j i im) im′ → (to : ℕ) → callAt (textOf file j) (j .version2) i ≡ To to → (row : Row) × (rowFor builtins j OfIndex to ≡ Free row)
+  call-row : (im im′ : List ℕ) → Ends (slotTrace file builtins j i im) im′ → (to : ℕ) → callAt (textOf file j) (j .version2) i ≡ To to → (row : Row) × (rowFor builtins j OfIndex to ≡ Free row)
   unfolding slotTrace callDeed deedTrace
   call-row im im′ e to c = go (rowFor builtins j OfIndex to) (subst (λ (c : Call). Ends (deedTrace (callBy builtins j i c) im) im′) c e)
     where

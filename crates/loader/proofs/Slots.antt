@@ -85,7 +85,7 @@ module _ (file builtins : List ℕ) (j : Job) (inside : InFile file j) (im : Lis
   passed n i e = rw e refl
 
   -- those from the next call on, among the first n of n + m
-  pub skipped : (n m i : ℕ) → i + n + m ≤ slotCount j
+  skipped : (n m i : ℕ) → i + n + m ≤ slotCount j
       → each (slotTrace file builtins j) (n + m) i im ≡ each (slotTrace file builtins j) (i + n + m - nextCall file (j .start) n i) (nextCall file (j .start) n i) im
   unfolding nextCall _if_else_
   skipped zero m i h = let e : i + 0 + m - i ≡ 0 + m = omega arith in rw e refl
@@ -116,3 +116,7 @@ calls-ahead file builtins j inside o to l im₀ im t₀ t rows used₀ moves₀ 
     let bounds = next-bounds file (j .start) (to - i) i in
     let on = skipped file builtins j inside im (to - i) (n - to) i (omega (arith, up)) in
     in-ahead (slotTrace file builtins j) n o to l im₀ im t₀ t rows used₀ moves₀ used moves i b g k (omega (arith, bounds .0, e)) (omega (arith, bounds .1, e, h)) (rw (at, up, ← e) at on)
+
+-- slot number i of a text that lies in the file starts in it, or the text ends there
+pub text-in : (start n i file : ℕ) → start + n ≤ file → i ≤ n / 8 → start + 8 * i ≤ file
+text-in start n i file h l = omega (arith, h, l)

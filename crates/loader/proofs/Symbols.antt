@@ -1,12 +1,12 @@
 -- A symbol's name lies in the file and is short, and an address of the text has a small index. Assumes nothing.
 use Prim.Native.Nat.{ℕ, _+_, _-_, _≤_, _<_}
 use native.Mathlib.Omega.{arith}
-use mathlib.Core.Path.{_≡_, refl, sym, _∙_}
-use mathlib.Core.Bool.{Bool, true, false, _&&_, not}
+use mathlib.Core.Path.{_≡_, refl}
+use mathlib.Core.Bool.{Bool, true, false, _&&_, not, true≢false}
 use mathlib.Core.List.{List}
 use lib.ListN.{length}
 use lib.Dec.{leb, ltb}
-use borrow.Author.Tests.{lt-ltb, le-ltb, leb-true, ltb-true, ltb-false}
+use borrow.Author.Tests.{leb-true, ltb-true}
 use Rattle.ebpf.specs.Choice.{_if_else_, row-rest}
 use Rattle.elf_parser.specs.declared.error.ElfParserError.{ElfParserError}
 use Rattle.elf_parser.specs.declared.error.ElfParserError.the-variants.{StringTooLong}
@@ -19,7 +19,7 @@ use Rattle.elf_parser.specs.Strings.{searchEnd, stringCheck, beforeZero, termin
 use Rattle.elf_parser.specs.Names.{nameBy}
 use Rattle.loader.specs.Addresses.{sumUpTo}
 
-pub no-place : (r : ElfParserError) (start n : ℕ) → Refused r ≡ At start n → ⊥
+no-place : (r : ElfParserError) (start n : ℕ) → Refused r ≡ At start n → ⊥
 no-place r start n e = let z : _≡_ {A = ℕ} 0 1 = cc in omega arith
 
 terminated-short : (n : ℕ) (s : List ℕ) (from start k : ℕ) → terminated n s from ≡ At start k → k < n
@@ -52,9 +52,6 @@ name-within s at offset most missing start n e =
     let e2 : stringIn s (sectionHeader s at) offset most ≡ At start n = row-rest _ _ _ _ (no-place _ _ _) e1 in
     (string-within s (sectionHeader s at) offset most start n e2, string-short s (sectionHeader s at) offset most start n e2)
 
-apart : true ≡ false → ⊥
-apart z = let w : _≡_ {A = ℕ} 0 1 = cc in omega arith
-
 -- an address of the text
 pub in-text : (sh-addr sh-size a : ℕ) (b : Bool)
     → not b ≡ false
@@ -67,14 +64,6 @@ in-text sh-addr sh-size a true h e = go (leb sh-addr a) (ltb a (sumUpTo sh-addr 
         let u : sh-addr ≤ a = leb-true sh-addr a x in
         let w : a < sumUpTo sh-addr sh-size = ltb-true a (sumUpTo sh-addr sh-size) y in
         (u, omega arith)
-    go true false x y z = absurd (apart z)
-    go false q x y z = absurd (apart z)
-in-text sh-addr sh-size a false h e = absurd (apart h)
-
--- a place behind `start` lies in the n bytes from there
-pub behind-start : (r start n : ℕ) → start ≤ r → ltb (r - start) n ≡ ltb r (start + n)
-behind-start r start n h = go (ltb (r - start) n) refl
-  where
-    go : (t : Bool) → ltb (r - start) n ≡ t → ltb (r - start) n ≡ ltb r (start + n)
-    go true e = e ∙ sym (lt-ltb r (start + n) (omega (arith, ltb-true (r - start) n e)))
-    go false e = e ∙ sym (le-ltb r (start + n) (omega (arith, ltb-false (r - start) n e)))
+    go true false x y z = absurd (true≢false z)
+    go false q x y z = absurd (true≢false z)
+in-text sh-addr sh-size a false h e = absurd (true≢false h)

@@ -29,7 +29,7 @@ use Rattle.loader.specs.declared.deeds.Outcome.the-variants.{Holds, Refu
 use Rattle.loader.specs.declared.validate.Job.{Job}
 use Rattle.loader.specs.Bytes.{put}
 use Rattle.loader.specs.Functions.{rowFor}
-use Rattle.loader.specs.Trace.{register, accepted, onRegistered, settle}
+use Rattle.loader.specs.Trace.{accepted, onRegistered, settle}
 use Rattle.loader.specs.Deeds.{deedTrace}
 use Rattle.loader.specs.Calls.{callAt, textOf, immediate, callRow, callDeed, slotTrace}
 use Rattle.loader.specs.CallLoop.{targetKey, targetRow, Known, Seen, CallsHeld, StillHeld, StillAlike, targetTrace, Targets}

@@ -51,7 +51,7 @@ in-lt count version2 i to (Holds insn) e =
     (row-rest (eqb (insn .imm) 0xffff_ffff) _ _ (To to) never
     (row-rest (not (eqb (insn .opc) 0x85)) _ _ (To to) never e)))
 
-pub to-slot : (text : List ℕ) (version2 : Bool) (i to : ℕ) → callAt text version2 i ≡ To to → to < length text / 8
+to-slot : (text : List ℕ) (version2 : Bool) (i to : ℕ) → callAt text version2 i ≡ To to → to < length text / 8
 unfolding callAt
 to-slot text version2 i to e = in-lt (length text / 8) version2 i to (insnAt text i) e
 

@@ -60,7 +60,7 @@ module _ (cap : ℕ) (im′ : List ℕ) (rows′ : List Row) (m′ : ℕ) where
   settle-ends (register r T) rows m e = let w = next r T rows m e in settle-ends T _ _ (w .on)
   settle-ends (forget key T) rows m e = settle-ends T _ _ e
 
-  -- the moves are paid for by the rows
+  -- the moves are at most what the rows added count (`triangle`)
   pub settle-moves : (T : Trace) (rows : List Row) (m : ℕ) → Keeps T → settle cap T rows m ≡ accepted im′ rows′ m′ → m′ + triangle (length rows) ≤ m + triangle (length rows′)
   unfolding settle
   settle-moves (done im) rows m keeps e = let same : rows ≡ rows′ = cc in let n : m ≡ m′ = cc in rw (← same, ← n) (omega arith)

@@ -23,7 +23,7 @@ use Rattle.loader.specs.Labels.{labelSymbols, labelDeed, labelTrace, lab
 use Rattle.loader.specs.Contracts.{InFile, Settles}
 
 -- numbers of relocations and symbols have 32 bits
-pub few-fit : (n len : ℕ) → n ≤ len → len ≤ 2 ^ 24 → Fits w32 n
+few-fit : (n len : ℕ) → n ≤ len → len ≤ 2 ^ 24 → Fits w32 n
 few-fit n len h l = record { fits = omega arith }
 
 pub turn-fits : (i count held : ℕ) → i < count → held + count ≤ 2 ^ 26 → Fits w32 (i + 1)
@@ -47,7 +47,7 @@ module _ (file builtins : List ℕ) (j : Job) (i : ℕ) (header next : Used) (r 
   pub header-next : next ≡ usedBefore file (j .layout) (j .version2) (i + 1)
   header-next = rw (goes, before, is) (sym (used-next file (j .layout) (j .version2) i))
 
-  pub turn-deed : (im : List ℕ) (d : Deed) → d ≡ planOf file im builtins j (placeOf (j .version2) next (r .«r_offset»)) (r .«r_info») → d ≡ relocationDeed file builtins j i im
+  turn-deed : (im : List ℕ) (d : Deed) → d ≡ planOf file im builtins j (placeOf (j .version2) next (r .«r_offset»)) (r .«r_info») → d ≡ relocationDeed file builtins j i im
   turn-deed im d e = e ∙ rw (header-next, is) refl
 
   pub relocation-settles : (im im′ : List ℕ) (t u : Slices) (used moves : ℕ) (a : Outcome) {d : Deed}

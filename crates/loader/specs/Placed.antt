@@ -4,7 +4,7 @@ use native.Mathlib.Omega.{arith}
 use native.Mathlib.Nat.{eq-or-lt-of-le}
 use mathlib.Core.Path.{_≡_, refl, sym, ap, subst, _∙_}
 use mathlib.Core.Logic.{⊎-elim}
-use mathlib.Core.Bool.{Bool, true, false, _&&_, not}
+use mathlib.Core.Bool.{Bool, true, false, _&&_, not, true≢false}
 use mathlib.Core.List.{List}
 use lib.ListN.{length, drop, length-drop}
 use lib.Seq.{paste, length-paste}
@@ -18,7 +18,7 @@ use Rattle.elf_parser.specs.declared.parts.Place.the-variants.{At, Refused as N
 use Rattle.elf_parser.specs.declared.records.Shdr.{Shdr}
 use Rattle.elf_parser.specs.declared.records.Shdr.the-variants.{Header, Refused as NoShdr}
 use Rattle.elf_parser.specs.declared.types.Elf64Shdr.{Elf64Shdr}
-use Rattle.elf_parser.specs.Loops.{Turn, goes, ends, _into_, over}
+use Rattle.elf_parser.specs.Loops.{Turn, goes, ends, _into_, over, not-ends}
 use Rattle.elf_parser.specs.Records.{contentsPlace, placeBy, sectionHeaderOf, sectionPlaceOf}
 use Rattle.loader.specs.declared.error.ElfError.{ElfError}
 use Rattle.loader.specs.declared.read_only.Extent.{Extent}
@@ -35,9 +35,6 @@ module _ {A : Type 0} where
   unfolding _if_else_
   row-cases true x y z G f g e = f refl e
   row-cases false x y z G f g e = g refl e
-
-never : _≡_ {A = Bool} true false → ⊥
-never e = let z : _≡_ {A = ℕ} 0 1 = cc in omega arith
 
 -- ---- the copy keeps the length
 
@@ -150,9 +147,6 @@ at-inside version2 reject-broken i h x z (At a b) e =
     (t .0, λ start k q. let r : b ≡ k = cc in rw (← r) (t .1))
 at-inside version2 reject-broken i h x z (NoPlace r) e = absurd (no-next _ _ e)
 
-pub no-goes : (r : ElfError) (y : Extent) → _≡_ {A = Turn ElfError Extent} (ends r) (goes y) → ⊥
-no-goes r y e = let z : _≡_ {A = ℕ} 0 1 = cc in omega arith
-
 module _ (s : List ℕ) (l : Layout) (version2 reject-broken : Bool) where
   abbrev Has : ℕ → Extent → Type 0
   Has i x = readOnly (nameOf s l (sectionAt s l i)) ≡ true → (start k : ℕ) → sectionPlaceOf s l i ≡ At start k → Inside (sectionAt s l i) k x
@@ -165,7 +159,7 @@ module _ (s : List ℕ) (l : Layout) (version2 reject-broken : Bool) where
       passed : not (readOnly (nameOf s l (sectionAt s l i))) ≡ true → Next x ≡ Next z → Wider x z × Has i z
       passed b q =
           let p : x ≡ z = cc in
-          (rw (← p) (record { lower = omega arith; higher = omega arith }), λ ro. absurd (never (sym b ∙ ap not ro)))
+          (rw (← p) (record { lower = omega arith; higher = omega arith }), λ ro. absurd (true≢false (sym b ∙ ap not ro)))
 
   abbrev Passed : ℕ → ℕ → Extent → Extent → Type 0
   Passed n i x y = Wider x y × ((j : ℕ) → i ≤ j → j < i + n → Has j y)
@@ -188,7 +182,7 @@ module _ (s : List ℕ) (l : Layout) (version2 reject-broken : Bool) where
           let w = a .0 in
           let v = r .0 in
           (record { lower = omega arith; higher = omega arith }, λ j lo hi. ⊎-elim (λ p. subst (λ (k : ℕ). Has k y) p (λ ro start k at. still (sectionAt s l i) k z y v (a .1 ro start k at))) (λ p. r .1 j (omega arith) (omega arith)) (eq-or-lt-of-le lo))
-      go (Stop r) h q rec = absurd (no-goes r y q)
+      go (Stop r) h q rec = absurd (not-ends r y q)
 
 -- ---- a section's bytes lie in the file
 

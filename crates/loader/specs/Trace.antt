@@ -11,7 +11,7 @@ use Rattle.program.specs.Rows as table
 use Rattle.loader.specs.declared.error.ElfError.{ElfError}
 use Rattle.loader.specs.declared.error.ElfError.the-variants.{SymbolHashCollision, TableFull}
 
--- What the file asks for, in order. It doesn't see the table.
+-- what the file asks for, in order; the table has no part in it
 pub data Trace : Type 0 where
   -- nothing is left, and this is the image
   done : List ℕ → Trace
@@ -22,19 +22,19 @@ pub data Trace : Type 0 where
   -- the row under a key goes
   forget : ℕ → Trace → Trace
 
--- One part of a trace after another, which is handed the image.
+-- one part of a trace after another, which is handed the image
 unfoldable pub andThen : Trace → (List ℕ → Trace) → Trace
 andThen (done im) k = k im
 andThen (stop r) k = stop r
 andThen (register row t) k = register row (andThen t k)
 andThen (forget key t) k = forget key (andThen t k)
 
--- n parts of one kind, numbered from i on.
+-- n parts of one kind, numbered from i on
 unfoldable pub each : (ℕ → List ℕ → Trace) → ℕ → ℕ → List ℕ → Trace
 each step zero i im = done im
 each step (suc n) i im = andThen (step i im) (λ (im′ : List ℕ). each step n (i + 1) im′)
 
--- What comes of a trace.
+-- what comes of a trace
 pub data Settled : Type 0 where
   -- the image, the rows and the moves in all
   accepted : List ℕ → List Row → ℕ → Settled
@@ -47,7 +47,7 @@ onRegistered Repeat capacity key m k = k m
 onRegistered Collision capacity key m k = refused (SymbolHashCollision key)
 onRegistered Full capacity key m k = refused (TableFull capacity)
 
--- A trace in a table of `capacity` rows that holds `rows`, after m moves.
+-- a trace in a table of `capacity` rows that holds `rows`, after m moves
 unfoldable pub settle : ℕ → Trace → List Row → ℕ → Settled
 settle capacity (done im) rows m = accepted im rows m
 settle capacity (stop r) rows m = refused r
@@ -67,7 +67,7 @@ onRegistered-then Repeat capacity key m k j = refl
 onRegistered-then Collision capacity key m k j = refl
 onRegistered-then Full capacity key m k j = refl
 
--- A trace in two parts settles as the first and then, with what it left, the second.
+-- a trace in two parts settles as the first and then, with what it left, the second
 pub settle-andThen : (capacity : ℕ) (t : Trace) (k : List ℕ → Trace) (rows : List Row) (m : ℕ)
     → settle capacity (andThen t k) rows m ≡ onSettled (settle capacity t rows m) (λ (im : List ℕ) (rows′ : List Row) (m′ : ℕ). settle capacity (k im) rows′ m′)
 unfolding settle andThen

@@ -4,8 +4,8 @@ use crate::deeds::Outcome;
 use crate::error::ElfError;
 use crate::read_only::Placing;
 use crate::validate::Job;
-ghost use Prim.Native.Nat.{_-_, _≤_, _^_};
 ghost use mathlib.Core.Path.{_≡_};
+ghost use Prim.Native.Nat.{_-_, _≤_, _^_};
 ghost use Rattle.ebpf.specs.Choice.{_if_else_};
 ghost use Rattle.loader.specs.Load.{acceptedAs, answerFor};
 

@@ -3,6 +3,8 @@
 use crate::error::ElfError;
 use program::Registered;
 use program::Row;
+use program::register_alike;
+use program::register_function;
 ghost use mathlib.Core.Path.{_≡_};
 ghost use Prim.Native.Nat.{_+_, _/_, _%_, _≤_, _<_, _^_};
 ghost use lib.ListN.{length};
@@ -140,7 +142,7 @@ fn finished(outcome: Outcome, outside: bool) -> Outcome
 }
 
 // Registers one row.
-pub(crate) fn enter(
+fn enter(
     keys: &mut [u32],
     indices: &mut [u32],
     kinds: &mut [u32],
@@ -155,7 +157,7 @@ pub(crate) fn enter(
     ensures { λ r. ⌜ Enters row (slices (now (keys .entry)) (now (indices .entry)) (now (kinds .entry)) (now (starts .entry)) (now (lengths .entry))) (slices (now (keys .exit)) (now (indices .exit)) (now (kinds .exit)) (now (starts .exit)) (now (lengths .exit))) used moves r ⌝ }
 {
     let key = row.key;
-    let answer = program::register_function(keys, indices, kinds, starts, lengths, used, row);
+    let answer = register_function(keys, indices, kinds, starts, lengths, used, row);
     entered(answer, used, moves, key, rows)
 }
 
@@ -175,7 +177,7 @@ pub(crate) fn enter_alike(
     ensures { λ r. ⌜ Enters row (slices (now (keys .entry)) (now (indices .entry)) (now (kinds .entry)) (now (starts .entry)) (now (lengths .entry))) (slices (now (keys .exit)) (now (indices .exit)) (now (kinds .exit)) (now (starts .exit)) (now (lengths .exit))) used moves r × StillAlike row (slices (now (keys .exit)) (now (indices .exit)) (now (kinds .exit)) (now (starts .exit)) (now (lengths .exit))) r ⌝ }
 {
     let key = row.key;
-    let answer = program::register_alike(keys, indices, kinds, starts, lengths, used, row);
+    let answer = register_alike(keys, indices, kinds, starts, lengths, used, row);
     entered(answer, used, moves, key, rows)
 }
 

@@ -10,6 +10,7 @@ use crate::validate::Job;
 use program::ENTRYPOINT_KEY;
 use program::FunctionName;
 use program::Removed;
+use program::unregister_function;
 ghost use mathlib.Core.Path.{_≡_};
 ghost use Prim.Native.Nat.{_+_, _-_, _≤_, _<_, _^_};
 ghost use Rattle.program.specs.Table.{slices};
@@ -19,7 +20,7 @@ ghost use Rattle.loader.specs.Entry.{entryDeed, forgottenBy, entryTrace}
 ghost use Rattle.loader.specs.Contracts.{Begins, Forgets, Settles};
 
 // What a load does about the entry.
-pub(crate) fn entry_deed(builtins: &[u32], table: &[u32], job: Job) -> Deed
+fn entry_deed(builtins: &[u32], table: &[u32], job: Job) -> Deed
     requires { ⌜ Keyed (now table) × (job .«e_entry» - job .«sh_addr» ≤ 2 ^ 24) ⌝ }
     ensures { λ r. ⌜ r ≡ entryDeed (now (builtins .entry)) job ⌝ }
 {
@@ -52,7 +53,7 @@ fn less_one(n: usize) -> usize
 }
 
 // Version 1 removes the row under the key of the name entrypoint.
-pub(crate) fn forget_entrypoint(
+fn forget_entrypoint(
     keys: &mut [u32],
     indices: &mut [u32],
     kinds: &mut [u32],
@@ -69,15 +70,7 @@ pub(crate) fn forget_entrypoint(
     if version2 {
         return Outcome::Holds(used, moves);
     }
-    let answer = program::unregister_function(
-        keys,
-        indices,
-        kinds,
-        starts,
-        lengths,
-        used,
-        ENTRYPOINT_KEY,
-    );
+    let answer = unregister_function(keys, indices, kinds, starts, lengths, used, ENTRYPOINT_KEY);
     forgotten(answer, used, moves)
 }
 

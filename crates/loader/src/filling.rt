@@ -135,8 +135,8 @@ fn all_parts(
     }
 }
 
-// The same with the keys of the first indices at hand, which version 1 alone asks for: in version 2 an
-// index is its own key, and the table is not made.
+// The same, with the table of keys made here. Only version 1 asks for it: in version 2 an index is its
+// own key.
 fn keyed_parts(
     image: &mut [u8],
     keys: &mut [u32],

@@ -3,12 +3,13 @@ use crate::validate::Job;
 use elf_parser::same_bytes;
 use program::FunctionName;
 use program::Legacy;
+use program::legacy_row;
 ghost use mathlib.Core.Path.{_≡_};
 ghost use Prim.Native.Nat.{_≤_, _^_};
 ghost use lib.ListN.{length};
 ghost use Rattle.loader.specs.Functions.{Keyed, rowFor, symbolFunction};
 
-// By the lent table of the first keys.
+// By the lent table of keys, where it is right (`Keyed`).
 pub(crate) fn row_for(
     table: &[u32],
     builtins: &[u32],
@@ -19,7 +20,7 @@ pub(crate) fn row_for(
     requires { ⌜ Keyed (now table) ⌝ }
     ensures { λ r. ⌜ r ≡ rowFor (now (builtins .entry)) job name index ⌝ }
 {
-    program::legacy_row(
+    legacy_row(
         table,
         builtins,
         job.version2,

@@ -15,8 +15,8 @@ pub enum PartPlace {
     Refused(ElfError),
 }
 
-// The text's place, by how many bytes are lent, the read-only bytes' offset from the program's start and their place,
-// `n` of them from `start` on, and the text's address and size.
+// The text's place, by how many bytes are lent, the read-only bytes' offset from the program's start
+// and their place, `n` of them from `start` on, and the text's address and size.
 pub fn text_place(lent: u64, offset: u64, start: u64, n: u64, addr: u64, size: u64) -> PartPlace
     ensures { λ r. ⌜ r ≡ textPlace lent offset start n addr size ⌝ }
 {

@@ -26,7 +26,7 @@ pub(crate) fn section_at(file: &[u8], layout: Layout, index: u32) -> Elf64Shdr
     }
 }
 
-pub(crate) fn starts_with(name: &[u8], prefix: &[u8]) -> bool
+fn starts_with(name: &[u8], prefix: &[u8]) -> bool
     ensures { λ r. ⌜ r ≡ startsWith (now (name .entry)) (now (prefix .entry)) ⌝ }
 {
     let n = prefix.len();

@@ -18,7 +18,7 @@ use Rattle.program.proofs.Cases.{by-lt, by-eq}
 -- ---- the search by halves, on any list
 
 -- turns that are not needed change nothing
-pub spare : (m n k : ℕ) (xs : List ℕ) (lo hi : ℕ) → hi - lo ≤ m → hi - lo ≤ n → between m k xs lo hi ≡ between n k xs lo hi
+spare : (m n k : ℕ) (xs : List ℕ) (lo hi : ℕ) → hi - lo ≤ m → hi - lo ≤ n → between m k xs lo hi ≡ between n k xs lo hi
 unfolding between _if_else_
 spare zero zero k xs lo hi p q = refl
 spare zero (suc n) k xs lo hi p q = rw (le-ltb lo hi (omega arith)) refl
@@ -39,15 +39,15 @@ module _ (k : ℕ) (xs : List ℕ) (lo hi : ℕ) (l : lo < hi) where
       let left : hi - lo - 1 ≡ n = omega arith in
       rw (lt-ltb lo hi l, left) refl
 
-  pub upper : getD xs (middle lo hi) 0 < k → between (hi - lo) k xs lo hi ≡ between (hi - (middle lo hi + 1)) k xs (middle lo hi + 1) hi
+  upper : getD xs (middle lo hi) 0 < k → between (hi - lo) k xs lo hi ≡ between (hi - (middle lo hi + 1)) k xs (middle lo hi + 1) hi
   unfolding _if_else_
   upper h = once (hi - lo) refl ∙ rw (lt-ltb (getD xs (middle lo hi) 0) k h) (spare _ _ k xs (middle lo hi + 1) hi (omega arith) (omega arith))
 
-  pub lower : k ≤ getD xs (middle lo hi) 0 → between (hi - lo) k xs lo hi ≡ between (middle lo hi - lo) k xs lo (middle lo hi)
+  lower : k ≤ getD xs (middle lo hi) 0 → between (hi - lo) k xs lo hi ≡ between (middle lo hi - lo) k xs lo (middle lo hi)
   unfolding _if_else_
   lower h = once (hi - lo) refl ∙ rw (le-ltb (getD xs (middle lo hi) 0) k h) (spare _ _ k xs lo (middle lo hi) (omega arith) (omega arith))
 
-pub between-le : (n k : ℕ) (xs : List ℕ) (lo hi : ℕ) → lo ≤ hi → between n k xs lo hi ≤ hi
+between-le : (n k : ℕ) (xs : List ℕ) (lo hi : ℕ) → lo ≤ hi → between n k xs lo hi ≤ hi
 unfolding between _if_else_
 between-le zero k xs lo hi l = l
 between-le (suc n) k xs lo hi l =
@@ -59,7 +59,7 @@ between-le (suc n) k xs lo hi l =
     (λ _. l)
 
 -- on any list the place is at most the length
-pub halves-le : (k : ℕ) (xs : List ℕ) → halves k xs ≤ length xs
+halves-le : (k : ℕ) (xs : List ℕ) → halves k xs ≤ length xs
 unfolding halves
 halves-le k xs = between-le (length xs) k xs 0 (length xs) zero-le
 
@@ -89,13 +89,13 @@ module _ (ranks : List ℕ) (n k : ℕ) (within : n ≤ length ranks) where
 
 -- ---- the search by halves, on an ascending list
 
-pub over-at : (k : ℕ) (ns : List ℕ) (i : ℕ) → Over k ns → i < length ns → k < getD ns i 0
+over-at : (k : ℕ) (ns : List ℕ) (i : ℕ) → Over k ns → i < length ns → k < getD ns i 0
 over-at k [] i o l = absurd (not-suc-le-zero l)
 over-at k (n ∷ ns) zero o l = o .0
 over-at k (n ∷ ns) (suc i) o l = over-at k ns i (o .1) (le-of-suc-le-suc l)
 
 -- a number below k stands before k's place
-pub place-past : (k : ℕ) (ns : List ℕ) (i : ℕ) → Rising ns → i < length ns → getD ns i 0 < k → i < place k ns
+place-past : (k : ℕ) (ns : List ℕ) (i : ℕ) → Rising ns → i < length ns → getD ns i 0 < k → i < place k ns
 unfolding _if_else_
 place-past k [] i r l h = absurd (not-suc-le-zero l)
 place-past k (n ∷ ns) zero r l h = rw (lt-ltb n k h) (suc-le-suc zero-le)
@@ -103,14 +103,14 @@ place-past k (n ∷ ns) (suc i) r l h =
     rw (lt-ltb n k (lt-trans (over-at n ns i (r .0) (le-of-suc-le-suc l)) h)) (suc-le-suc (place-past k ns i (r .1) (le-of-suc-le-suc l) h))
 
 -- a number that is not below k stands at k's place or behind it
-pub place-within : (k : ℕ) (ns : List ℕ) (i : ℕ) → i < length ns → k ≤ getD ns i 0 → place k ns ≤ i
+place-within : (k : ℕ) (ns : List ℕ) (i : ℕ) → i < length ns → k ≤ getD ns i 0 → place k ns ≤ i
 unfolding _if_else_
 place-within k [] i l h = absurd (not-suc-le-zero l)
 place-within k (n ∷ ns) zero l h = rw (le-ltb n k h) zero-le
 place-within k (n ∷ ns) (suc i) l h =
     by-lt n k (λ (b : Bool). (suc (place k ns) if b else 0) ≤ suc i) (λ _. suc-le-suc (place-within k ns i (le-of-suc-le-suc l) h)) (λ _. zero-le)
 
-pub place-le : (k : ℕ) (ns : List ℕ) → place k ns ≤ length ns
+place-le : (k : ℕ) (ns : List ℕ) → place k ns ≤ length ns
 unfolding _if_else_
 place-le k [] = zero-le
 place-le k (n ∷ ns) = by-lt n k (λ (b : Bool). (suc (place k ns) if b else 0) ≤ suc (length ns)) (λ _. suc-le-suc (place-le k ns)) (λ _. zero-le)

@@ -206,14 +206,7 @@ module _ (n : ℕ) (r : Row) (rs : List Row) where
       (λ _ _ h. absurd (zero-one (cc)))
       (λ _ _ h. let e : m ≡ above (rank r) rs = cc in (length-insert r rs, omega (arith, above-le (rank r) rs)))
 
-  -- an inserted row is found, and a registration that is not refused leaves its key finding its index
-  pub find-inserted : (m : ℕ) → register n r rs ≡ Inserted m → find (rank r) (registered n r rs) ≡ At r
-  find-inserted m = by-registered (λ (l : List Row) (a : Registered). a ≡ Inserted m → find (rank r) l ≡ At r) n r rs
-      (λ _ _ _ h. absurd (zero-one (cc)))
-      (λ _ _ _ h. absurd (zero-one (cc)))
-      (λ _ _ h. absurd (zero-one (cc)))
-      (λ none _ _. find-insert-same r rs none)
-
+  -- a registration that is not refused leaves its key finding its index
   pub find-registered-same : (register n r rs ≡ Collision → ⊥) → (register n r rs ≡ Full → ⊥) → Repeats r (registered n r rs)
   find-registered-same = by-registered (λ (l : List Row) (a : Registered). (a ≡ Collision → ⊥) → (a ≡ Full → ⊥) → Repeats r l) n r rs
       (λ x e s _ _. (x, e, s))
@@ -237,7 +230,7 @@ module _ (n : ℕ) (r : Row) (rs : List Row) where
       (λ _ _ _. refl) (λ _ _ _. refl) (λ _ _. refl) (λ _ _. find-insert-other k r rs ne)
 
   -- the key itself is held afterwards, unless the table was full
-  pub held-registered : (register n r rs ≡ Full → ⊥) → Held (rank r) (registered n r rs)
+  held-registered : (register n r rs ≡ Full → ⊥) → Held (rank r) (registered n r rs)
   held-registered = by-registered (λ (l : List Row) (a : Registered). (a ≡ Full → ⊥) → Held (rank r) l) n r rs
       (λ x e _ _. (x, e)) (λ x e _ _. (x, e)) (λ _ _ h. absurd (h refl)) (λ none _ _. (r, find-insert-same r rs none))
 

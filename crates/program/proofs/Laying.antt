@@ -51,20 +51,20 @@ module _ (f : Row → ℕ) (rs : List Row) (n : ℕ) where
   unfolding column
   length-column h = simp (length-append, length-replicate, length-map) (omega arith)
 
-  pub getD-column : (z : Row) (i : ℕ) → i < length rs → f z ≡ 0 → getD (column f rs n) i 0 ≡ f (getD rs i z)
+  getD-column : (z : Row) (i : ℕ) → i < length rs → f z ≡ 0 → getD (column f rs n) i 0 ≡ f (getD rs i z)
   unfolding column
   getD-column z i l e =
       List·getD-append (map f rs) _ 0 i (rw length-map l)
       ∙ rw (← e) (List·getD-map f rs i z)
 
-  pub opened-column : (at : ℕ) (r : Row) → at ≤ length rs → length rs < n → opened at (length rs) (f r) (column f rs n) ≡ column f (take at rs ++ (r ∷ drop at rs)) n
+  opened-column : (at : ℕ) (r : Row) → at ≤ length rs → length rs < n → opened at (length rs) (f r) (column f rs n) ≡ column f (take at rs ++ (r ∷ drop at rs)) n
   unfolding column
   opened-column at r l h =
       let more : n - length rs ≡ suc (n - suc (length rs)) = omega arith in
       let left : n - length (take at rs ++ (r ∷ drop at rs)) ≡ n - suc (length rs) = simp (length-append, length-take, length-drop) (omega arith) in
       rw (more, left, map-with, ← length-map rs f) (opened-seam at (f r) (map f rs) 0 _ (rw length-map l))
 
-  pub closed-column : (at : ℕ) → at < length rs → length rs ≤ n → closed at (length rs) (column f rs n) ≡ column f (take at rs ++ drop (suc at) rs) n
+  closed-column : (at : ℕ) → at < length rs → length rs ≤ n → closed at (length rs) (column f rs n) ≡ column f (take at rs ++ drop (suc at) rs) n
   unfolding column
   closed-column at l h =
       let left : n - length (take at rs ++ drop (suc at) rs) ≡ suc (n - length rs) = simp (length-append, length-take, length-drop) (omega arith) in
@@ -86,7 +86,7 @@ lent-capacity t n l = l .is
 abbrev pub zero-row : Row
 zero-row = record { key = 0; index = 0; kind = 0; start = 0; length = 0 }
 
-pub length-tab : (n : ℕ) (f : ℕ → Row) → length (tab n f) ≡ n
+length-tab : (n : ℕ) (f : ℕ → Row) → length (tab n f) ≡ n
 length-tab zero f = refl
 length-tab (suc n) f = ap suc (length-tab n (λ (k : ℕ). f (suc k)))
 

@@ -19,11 +19,11 @@ pub moves-step : (n : ℕ) (r : Row) (rs : List Row) → movesOf (register n r r
 moves-step n r rs = by-registered (λ (l : List Row) (a : Registered). movesOf a + triangle (length rs) ≤ triangle (length l)) n r rs
     (λ _ _ _. omega arith) (λ _ _ _. omega arith) (λ _ _. omega arith) (λ _ _. rw (length-insert r rs) (omega (arith, above-le (rank r) rs)))
 
-pub moves-triangle : (n : ℕ) (more rs : List Row) → movesIn n more rs + triangle (length rs) ≤ triangle (length (rowsAfter n more rs))
+moves-triangle : (n : ℕ) (more rs : List Row) → movesIn n more rs + triangle (length rs) ≤ triangle (length (rowsAfter n more rs))
 moves-triangle n [] rs = omega arith
 moves-triangle n (a ∷ more) rs = omega (arith, moves-step n a rs, moves-triangle n more (registered n a rs))
 
-pub rowsAfter-room : (n : ℕ) (more rs : List Row) → length rs ≤ n → length (rowsAfter n more rs) ≤ n
+rowsAfter-room : (n : ℕ) (more rs : List Row) → length rs ≤ n → length (rowsAfter n more rs) ≤ n
 rowsAfter-room n [] rs h = h
 rowsAfter-room n (a ∷ more) rs h = rowsAfter-room n more (registered n a rs) (registered-room n a rs h)
 

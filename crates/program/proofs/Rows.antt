@@ -28,7 +28,7 @@ unfolding _if_else_
 find-over k [] o = refl
 find-over k (r ∷ rs) o = rw (ne-eqb (rank r) k (omega arith)) (find-over k rs (o .1))
 
-pub above-over : (k : ℕ) (rs : List Row) → Over k (map rank rs) → above k rs ≡ length rs
+above-over : (k : ℕ) (rs : List Row) → Over k (map rank rs) → above k rs ≡ length rs
 unfolding _if_else_
 above-over k [] o = refl
 above-over k (r ∷ rs) o = rw (lt-ltb k (rank r) (o .0)) (ap suc (above-over k rs (o .1)))

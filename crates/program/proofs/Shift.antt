@@ -20,7 +20,7 @@ opening-start (suc n) [] = refl
 opening-start (suc n) (x ∷ s) = ap (λ (l : List ℕ). x ∷ l) (opening-start n s)
 
 -- a turn
-pub opening-step : (i n : ℕ) (s : List ℕ) → i < n → n < length s → set (opening (suc i) n s) (suc i) (getD (opening (suc i) n s) i 0) ≡ opening i n s
+opening-step : (i n : ℕ) (s : List ℕ) → i < n → n < length s → set (opening (suc i) n s) (suc i) (getD (opening (suc i) n s) i 0) ≡ opening i n s
 unfolding opening
 opening-step i zero s l h = absurd (not-suc-le-zero l)
 opening-step i (suc u) [] l h = absurd (not-suc-le-zero h)
@@ -58,7 +58,7 @@ closing-front i [] x h = absurd (not-suc-le-zero (le-of-suc-le-suc h))
 closing-front zero (y ∷ s) x h = refl
 closing-front (suc i) (y ∷ s) x h = ap (λ (l : List ℕ). y ∷ l) (closing-front i s y (le-of-suc-le-suc h))
 
-pub closing-step : (at i : ℕ) (s : List ℕ) → at ≤ i → suc i < length s → set (closing at i s) i (getD (closing at i s) (suc i) 0) ≡ closing at (suc i) s
+closing-step : (at i : ℕ) (s : List ℕ) → at ≤ i → suc i < length s → set (closing at i s) i (getD (closing at i s) (suc i) 0) ≡ closing at (suc i) s
 unfolding closing
 closing-step at i [] l h = absurd (not-suc-le-zero h)
 closing-step zero i (x ∷ s) l h = closing-front i s x h
@@ -71,7 +71,7 @@ closed-front (suc i) [] x h = absurd (not-suc-le-zero (le-of-suc-le-suc h))
 closed-front (suc i) (y ∷ s) x h = ap (λ (l : List ℕ). y ∷ l) (closed-front i s y (le-of-suc-le-suc h))
 
 -- the last store
-pub closing-end : (at i : ℕ) (s : List ℕ) → at ≤ i → i < length s → set (closing at i s) i 0 ≡ closed at (suc i) s
+closing-end : (at i : ℕ) (s : List ℕ) → at ≤ i → i < length s → set (closing at i s) i 0 ≡ closed at (suc i) s
 unfolding closing closed
 closing-end at i [] l h = absurd (not-suc-le-zero h)
 closing-end zero i (x ∷ s) l h = closed-front i s x h

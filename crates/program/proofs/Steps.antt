@@ -1,5 +1,5 @@
 -- What each way out of a registration, `unregister_function` and `lookup_by_key` answers and leaves, in the words of the contract: one
--- lemma for each return, whatever the slices hold. Assumes nothing.
+-- law for each return, whatever the slices hold. Assumes nothing.
 use mathlib.Core.Path.{_≡_, refl, sym, ap, _∙_}
 use mathlib.Core.Bool.{Bool, true, false}
 use mathlib.Core.Logic.{⊎-elim}
@@ -40,11 +40,11 @@ counts-rows t used rows n l e = record {
 }
 
 module _ (t : Slices) (used rows n : ℕ) (c : Counts t used rows n) where
-  pub is-counted : n ≡ counted t used
+  is-counted : n ≡ counted t used
   unfolding counted
   is-counted = c .counts ∙ ap (min used) (c .lent)
 
-  pub in-slices : Within n t
+  in-slices : Within n t
   in-slices =
       let w = c .within in
       let e = c .counts in
@@ -52,11 +52,11 @@ module _ (t : Slices) (used rows n : ℕ) (c : Counts t used rows n) where
 
 -- the row at a place, of rank k or not
 module _ (t : Slices) (n at k : ℕ) where
-  pub here : at < n → getD (t .keys) at 0 ≡ k → holds t n at k ≡ true
+  here : at < n → getD (t .keys) at 0 ≡ k → holds t n at k ≡ true
   unfolding holds rank _if_else_
   here l e = rw (lt-ltb at n l, eq-eqb (getD (t .keys) at 0) k e) refl
 
-  pub not-here : (at < n → getD (t .keys) at 0 ≡ k → ⊥) → holds t n at k ≡ false
+  not-here : (at < n → getD (t .keys) at 0 ≡ k → ⊥) → holds t n at k ≡ false
   unfolding holds rank _if_else_
   not-here h = by-lt at n (λ (b : Bool). (at < n → getD (t .keys) at 0 ≡ k → ⊥) → (eqb (getD (t .keys) at 0) k if b else false) ≡ false)
       (λ l h. rw (ne-eqb (getD (t .keys) at 0) k (h l)) refl)

@@ -51,7 +51,7 @@ lay-same t u rs s = simp (s .keys-as, s .indices-as, s .kinds-as, s .starts-as, 
 -- ---- rows that were laid
 
 module _ (t : Slices) (rs : List Row) (room : length rs ≤ capacity t) where
-  pub same-lay : SameLens t (lay t rs)
+  same-lay : SameLens t (lay t rs)
   unfolding lay capacity least
   same-lay = record {
     keys-as = length-column (λ (r : Row). r .key) rs (length (t .keys)) (omega arith);
@@ -61,7 +61,7 @@ module _ (t : Slices) (rs : List Row) (room : length rs ≤ capacity t) where
     lengths-as = length-column (λ (r : Row). r .length) rs (length (t .lengths)) (omega arith);
   }
 
-  pub ready-lay : Ascending rs → Ready (lay t rs) (length rs)
+  ready-lay : Ascending rs → Ready (lay t rs) (length rs)
   ready-lay a = record {
     room = rw (capacity-lay t rs room) room;
     laid = rw (rows-lay t rs room) (sym (lay-same t (lay t rs) rs same-lay));
@@ -111,7 +111,7 @@ by-unregisteredAt P t n at k none one =
 -- ---- a table
 
 module _ (t : Slices) (used : ℕ) (ready : Ready t used) where
-  pub counted-ready : counted t used ≡ used
+  counted-ready : counted t used ≡ used
   unfolding counted
   counted-ready = let r = ready .room in omega arith
 

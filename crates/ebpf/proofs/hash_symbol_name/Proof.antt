@@ -4,9 +4,9 @@
 use mathlib.Core.Path.{_≡_}
 use Prim.Native.Nat.{_-_, _≤_}
 use lib.ListN.{length, drop}
-use borrow.Author.Needs.{needs}
 use Rattle.ebpf.specs.Murmur3.{body}
 use Rattle.ebpf.proofs.Blocks.{again, ended}
+use borrow.Author.Needs.{needs}
 use Rattle.ebpf.proofs.hash_symbol_name.Statement.{statement}
 use Rattle.ebpf.proofs.hash_symbol_name.Tie as tie
 

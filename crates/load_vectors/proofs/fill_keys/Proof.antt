@@ -3,8 +3,8 @@
 use Prim.Native.Nat.{_-_, _≤_}
 use mathlib.Core.Path.{_≡_}
 use native.Mathlib.Omega.{arith}
-use borrow.Author.Needs.{needs}
 use lib.ListN.{length, length-set}
+use borrow.Author.Needs.{needs}
 use Rattle.load_vectors.proofs.fill_keys.Statement.{statement}
 use Rattle.load_vectors.proofs.fill_keys.Tie as tie
 

@@ -1,7 +1,7 @@
 -- `load_vectors::lend` is safe: each part that is lent lies within its array.
 -- Assumes nothing.
-use borrow.Author.Needs.{needs}
 use lib.Seq.{length-take-le}
+use borrow.Author.Needs.{needs}
 use Rattle.load_vectors.proofs.lend.Statement.{statement}
 use Rattle.load_vectors.proofs.lend.Tie as tie
 

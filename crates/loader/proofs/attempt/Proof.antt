@@ -4,12 +4,12 @@ use denote.Ref.{now}
 use Prim.Native.Nat.{_≤_}
 use mathlib.Core.Path.{sym, _∙_}
 use lib.ListN.{length}
-use borrow.Author.Needs.{needs}
 use Rattle.program.specs.Table.{Slices, slices}
 use Rattle.program.proofs.Tables.{SameLens}
 use Rattle.loader.specs.Contracts.{InFile}
 use Rattle.loader.specs.Load.{allCount}
 use Rattle.loader.proofs.Loading.{behind-fits, behind-front, behind-rest, load-stops, job-in-file, file-fits, empty, as-lent, tried}
+use borrow.Author.Needs.{needs}
 use Rattle.loader.proofs.attempt.Statement.{statement}
 use Rattle.loader.proofs.attempt.Tie as tie
 

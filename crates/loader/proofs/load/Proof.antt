@@ -1,15 +1,16 @@
--- `loader::load` meets its contract: an attempt, and where it is refused everything cleared. Assumes nothing.
+-- `loader::load` meets its contract: an attempt, and where it is refused everything cleared.
+-- Assumes nothing.
 use denote.Ref.{now}
 use Prim.Native.Nat.{ℕ}
 use mathlib.Core.List.{List}
 use lib.ListN.{length}
-use borrow.Author.Needs.{needs}
 use Rattle.program.specs.Table.{Slices, slices, capacity}
 use Rattle.loader.specs.declared.answer.Load.{Load}
 use Rattle.loader.specs.Load.{Loading, loadOf, Loaded}
 use Rattle.loader.specs.Demand.{Demand3}
 use Rattle.loader.proofs.Loading.{load-held, load-refused}
 use Rattle.loader.proofs.Demanded.{demanded}
+use borrow.Author.Needs.{needs}
 use Rattle.loader.proofs.load.Statement.{statement}
 use Rattle.loader.proofs.load.Tie as tie
 

@@ -1,4 +1,4 @@
--- `program::answer_of` meets its contract: each way out is a lemma of `Steps`, at the place that the search came to.
+-- `program::answer_of` meets its contract: each way out is a law of `Steps`, at the place that the search came to.
 -- Assumes nothing.
 use mathlib.Core.Path.{_≡_}
 use mathlib.Core.Logic.{⊎-elim}
@@ -6,10 +6,10 @@ use Prim.Native.Nat.{_<_}
 use native.Mathlib.Nat.{not-le-of-lt}
 use native.Mathlib.Omega.{arith}
 use lib.ListN.{getD}
-use borrow.Author.Needs.{needs}
 use Rattle.program.specs.Rows.{rank}
 use Rattle.program.specs.Table.{Slices, slices}
 use Rattle.program.proofs.Steps.{Counts, counts-rows, place-within, repeats, collides, full, inserts}
+use borrow.Author.Needs.{needs}
 use Rattle.program.proofs.answer_of.Statement.{statement}
 use Rattle.program.proofs.answer_of.Tie as tie
 

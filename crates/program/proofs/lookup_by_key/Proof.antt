@@ -1,8 +1,8 @@
 -- `program::lookup_by_key` meets its contract: the first index of the key among the keys is the place of the first row with the key.
 -- Assumes nothing.
-use borrow.Author.Needs.{needs}
 use Rattle.program.specs.Table.{Slices, slices}
 use Rattle.program.proofs.Steps.{Counts, counts-rows, looks-up, finds-none}
+use borrow.Author.Needs.{needs}
 use Rattle.program.proofs.lookup_by_key.Statement.{statement}
 use Rattle.program.proofs.lookup_by_key.Tie as tie
 

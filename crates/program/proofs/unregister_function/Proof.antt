@@ -1,9 +1,10 @@
--- `program::unregister_function` meets its contract: each way out is a lemma of `Steps`, at the slices as they came and the place that the
--- search came to. Assumes nothing.
+-- `program::unregister_function` meets its contract: each way out is a law of `Steps`, at the slices as they came and the place that the
+-- search came to.
+-- Assumes nothing.
 use native.Mathlib.Nat.{not-le-of-lt}
-use borrow.Author.Needs.{needs}
 use Rattle.program.specs.Table.{Slices, slices}
 use Rattle.program.proofs.Steps.{Counts, counts-rows, absent, gone}
+use borrow.Author.Needs.{needs}
 use Rattle.program.proofs.unregister_function.Statement.{statement}
 use Rattle.program.proofs.unregister_function.Tie as tie
 

@@ -5,4 +5,10 @@ use Rattle.ebpf.proofs.index_keys.key_of.Statement.{statement}
 use Rattle.ebpf.proofs.index_keys.key_of.Tie as tie
 
 pub key-of-spec : {M : Type 1} → statement M
-key-of-spec = tie.close (tie.spec (search needs) (search needs) (search needs) (λ c. cc))
+key-of-spec =
+    tie.close
+    (tie.spec
+    (search needs)
+    (search needs)
+    (search needs)
+    (λ c. cc))

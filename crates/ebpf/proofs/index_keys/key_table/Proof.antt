@@ -12,4 +12,7 @@ unfolding firstKeys indexKey bytesOf murmur3 body
 returns c = refl
 
 pub key-table-spec : {M : Type 1} → statement M
-key-table-spec = tie.close (tie.spec returns)
+key-table-spec =
+    tie.close
+    (tie.spec
+    returns)

@@ -1,9 +1,20 @@
 -- `ebpf::little_endian::read_u64` meets its contract: zeros past the end, and a cut number by halves.
 -- Assumes nothing.
-use borrow.Author.Needs.{needs}
 use Rattle.ebpf.proofs.Reading.{past, halves}
+use borrow.Author.Needs.{needs}
 use Rattle.ebpf.proofs.little_endian.read_u64.Statement.{statement}
 use Rattle.ebpf.proofs.little_endian.read_u64.Tie as tie
 
 pub read-u64-spec : {M : Type 1} → statement M
-read-u64-spec = tie.close (tie.spec (λ c. search (needs, past)) (search needs) (search needs) (search needs) (search needs) (search needs) (λ c. search (needs, halves 4)) (search needs) (search needs))
+read-u64-spec =
+    tie.close
+    (tie.spec
+    (λ c. search (needs, past))
+    (search needs)
+    (search needs)
+    (search needs)
+    (search needs)
+    (search needs)
+    (λ c. search (needs, halves 4))
+    (search needs)
+    (search needs))

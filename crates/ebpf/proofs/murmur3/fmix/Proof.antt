@@ -5,4 +5,9 @@ use Rattle.ebpf.proofs.murmur3.fmix.Statement.{statement}
 use Rattle.ebpf.proofs.murmur3.fmix.Tie as tie
 
 pub fmix-spec : {M : Type 1} → statement M
-fmix-spec = tie.close (tie.spec (search needs) (search needs) (λ c. cc))
+fmix-spec =
+    tie.close
+    (tie.spec
+    (search needs)
+    (search needs)
+    (λ c. cc))

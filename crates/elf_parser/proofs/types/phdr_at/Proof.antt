@@ -1,7 +1,7 @@
 -- `elf_parser::types::phdr_at` meets its contract: each field is read at its place.
 -- Assumes nothing.
-use borrow.Author.Needs.{needs}
 use Rattle.elf_parser.proofs.Fields.{program-header-read}
+use borrow.Author.Needs.{needs}
 use Rattle.elf_parser.proofs.types.phdr_at.Statement.{statement}
 use Rattle.elf_parser.proofs.types.phdr_at.Tie as tie
 

@@ -1,7 +1,7 @@
 -- `elf_parser::types::sym_at` meets its contract: each field is read at its place.
 -- Assumes nothing.
-use borrow.Author.Needs.{needs}
 use Rattle.elf_parser.proofs.Fields.{symbol-read}
+use borrow.Author.Needs.{needs}
 use Rattle.elf_parser.proofs.types.sym_at.Statement.{statement}
 use Rattle.elf_parser.proofs.types.sym_at.Tie as tie
 

@@ -1,4 +1,5 @@
 -- `elf_view::Elf64::file` returns the file that the view holds.
+-- Assumes nothing.
 use mathlib.Core.Path.{refl}
 use mathlib.Core.List.{[], _∷_}
 use lib.ListN.{length}

@@ -1,4 +1,5 @@
 -- `elf_view::Elf64::layout` returns the layout that the view holds.
+-- Assumes nothing.
 use mathlib.Core.Path.{refl}
 use mathlib.Core.List.{[], _∷_}
 use mir.Syntax.{field}

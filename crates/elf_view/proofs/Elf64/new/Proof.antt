@@ -1,5 +1,6 @@
 -- `elf_view::Elf64::new` makes a view of the file and the layout passed: a walk of its MIR, by hand.
 -- Both are Copy, so what they own is had twice: once for the exit, and once inside the view.
+-- Assumes nothing.
 use mathlib.Core.Path.{refl}
 use Prim.Native.Nat.{ℕ}
 use mathlib.Core.List.{List, [], _∷_}

@@ -1,4 +1,5 @@
 -- `elf_view::Elf64::section_place` ensures what `elf_parser::section_place` says.
+-- Assumes nothing.
 use base.Logic.{emp}
 use contract.Monad.{factI}
 use Rattle.elf_parser.specs.Records.{sectionPlaceOf}

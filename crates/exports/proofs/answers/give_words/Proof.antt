@@ -7,8 +7,8 @@ use native.Mathlib.Nat.{le-antisymm}
 use native.Mathlib.Numerals.{add-one}
 use native.Mathlib.Omega.{arith}
 use lib.ListN.{length, length-set}
-use borrow.Author.Needs.{needs}
 use Rattle.exports.proofs.Writing.{soFar, so-far-start, so-far-turn, so-far-end}
+use borrow.Author.Needs.{needs}
 use Rattle.exports.proofs.answers.give_words.Statement.{statement}
 use Rattle.exports.proofs.answers.give_words.Tie as tie
 

@@ -10,4 +10,8 @@ unfolding bitOf
 returns c = search needs
 
 pub bit-spec : {M : Type 1} → statement M
-bit-spec = tie.close (tie.spec (search needs) returns)
+bit-spec =
+    tie.close
+    (tie.spec
+    (search needs)
+    returns)

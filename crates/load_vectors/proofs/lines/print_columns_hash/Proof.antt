@@ -2,8 +2,8 @@
 -- Assumes nothing.
 use mathlib.Core.Path.{sym}
 use native.Mathlib.Omega.{arith}
-use borrow.Author.Needs.{needs}
 use lib.Seq.{length-take-le}
+use borrow.Author.Needs.{needs}
 use Rattle.load_vectors.proofs.lines.print_columns_hash.Statement.{statement}
 use Rattle.load_vectors.proofs.lines.print_columns_hash.Tie as tie
 

@@ -1,9 +1,10 @@
 -- `load_vectors::lines::put_column` meets its contract: what is put stays within the bytes, and i counts up to the column's
--- length. Assumes nothing.
+-- length.
+-- Assumes nothing.
 use Prim.Native.Nat.{_-_, _≤_}
 use mathlib.Core.Path.{_≡_}
-use borrow.Author.Needs.{needs}
 use lib.ListN.{length}
+use borrow.Author.Needs.{needs}
 use Rattle.load_vectors.proofs.lines.put_column.Statement.{statement}
 use Rattle.load_vectors.proofs.lines.put_column.Tie as tie
 

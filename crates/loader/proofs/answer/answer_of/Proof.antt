@@ -1,7 +1,8 @@
--- `loader::answer::answer_of` meets its contract, by the outcome and the placing. Assumes nothing.
+-- `loader::answer::answer_of` meets its contract, by the outcome and the placing.
+-- Assumes nothing.
 use mathlib.Core.Path.{ap}
-use borrow.Author.Needs.{needs}
 use Rattle.loader.specs.declared.answer.Load.the-variants.{Accepted as Accepts}
+use borrow.Author.Needs.{needs}
 use Rattle.loader.proofs.answer.answer_of.Statement.{statement}
 use Rattle.loader.proofs.answer.answer_of.Tie as tie
 

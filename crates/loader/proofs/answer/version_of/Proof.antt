@@ -1,4 +1,5 @@
--- `loader::answer::version_of` meets its contract: two cases. Assumes nothing.
+-- `loader::answer::version_of` meets its contract: two cases.
+-- Assumes nothing.
 use Rattle.ebpf.specs.Choice.{_if_else_}
 use borrow.Author.Needs.{needs}
 use Rattle.loader.proofs.answer.version_of.Statement.{statement}
@@ -13,4 +14,8 @@ unfolding _if_else_
 returns-2 c = search needs
 
 pub version-of-spec : {M : Type 1} → statement M
-version-of-spec = tie.close (tie.spec returns returns-2)
+version-of-spec =
+    tie.close
+    (tie.spec
+    returns
+    returns-2)

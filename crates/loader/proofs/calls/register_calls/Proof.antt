@@ -4,7 +4,7 @@
 use denote.Ref.{now}
 use mathlib.Core.Path.{_≡_, sym, subst, _∙_}
 use mathlib.Core.List.{List}
-use Prim.Native.Nat.{ℕ, _+_, _-_, _*_, _/_, _<_, _≤_, min}
+use Prim.Native.Nat.{ℕ, _+_, _-_, _*_, _<_, _≤_, min}
 use native.Mathlib.Omega.{arith}
 use lib.ListN.{length, drop, length-replicate}
 use lib.Seq.{paste}
@@ -19,6 +19,7 @@ use Rattle.loader.specs.Contracts.{Begins, Settles}
 use Rattle.loader.proofs.Ahead.{ahead-more, ahead-all, ahead-length}
 use Rattle.loader.proofs.Targeting.{none-held}
 use Rattle.loader.proofs.Going.{Going, going-start, going-done, all-begin, all-lead, in-begins-run, in-run, in-run-stop}
+use Rattle.loader.proofs.Slots.{text-in}
 use borrow.Author.Needs.{needs}
 use Rattle.loader.proofs.calls.register_calls.Statement.{statement}
 use Rattle.loader.proofs.calls.register_calls.Tie as tie
@@ -54,9 +55,6 @@ step s = slotTrace (now (s .args .file)) (now (s .args .builtins)) (s .args .job
 -- the image with the file's bytes from slot number i on
 abbrev A : tie.Start Inv-loop μ-loop → ℕ → List ℕ → List ℕ
 A s i im = ahead (s .args .job .start + 8 * i) im (now (s .args .file))
-
-text-in : (start n i file : ℕ) → start + n ≤ file → i ≤ n / 8 → start + 8 * i ≤ file
-text-in start n i file h l = omega (arith, h, l)
 
 inside : (s : tie.Start Inv-loop μ-loop) (i : ℕ) → i ≤ slotCount (s .args .job) → s .args .job .start + 8 * i ≤ length (now (s .args .file))
 inside s i l = text-in (s .args .job .start) (s .args .job .length) i _ (s .pre .0 .text) l

@@ -18,7 +18,7 @@ use Rattle.loader.specs.Calls.{slotCount, slotTrace}
 use Rattle.loader.specs.CallLoop.{ahead, CallsHeld, StillHeld}
 use Rattle.loader.specs.Contracts.{Settles}
 use Rattle.loader.proofs.Ahead.{ahead-length, slot-ahead}
-use Rattle.loader.proofs.Slots.{next-bounds, calls-ahead}
+use Rattle.loader.proofs.Slots.{next-bounds, calls-ahead, text-in}
 use Rattle.loader.proofs.Going.{GoingIn, in-start, in-begins, in-stop, in-on, in-done}
 use borrow.Author.Needs.{needs}
 use Rattle.loader.proofs.calls.register_slots.Statement.{statement}
@@ -61,9 +61,6 @@ A s im = ahead (q s) im (now (s .args .file))
 
 abbrev step : tie.Start Inv-loop μ-loop → ℕ → List ℕ → Trace
 step s = slotTrace (now (s .args .file)) (now (s .args .builtins)) (s .args .job)
-
-text-in : (start n to file : ℕ) → start + n ≤ file → to ≤ n / 8 → start + 8 * to ≤ file
-text-in start n to file h l = omega (arith, h, l)
 
 inside : (s : tie.Start Inv-loop μ-loop) → q s ≤ length (now (s .args .file))
 inside s = text-in (s .args .job .start) (s .args .job .length) (s .args .to) _ (s .pre .0 .text) (s .pre .4)

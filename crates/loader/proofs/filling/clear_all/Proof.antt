@@ -1,7 +1,7 @@
 -- `loader::filling::clear_all` meets its contract: five slices of zeros are an empty table.
 -- Assumes nothing.
-use borrow.Author.Needs.{needs}
 use Rattle.program.proofs.Tables.{zeros-lay}
+use borrow.Author.Needs.{needs}
 use Rattle.loader.proofs.filling.clear_all.Statement.{statement}
 use Rattle.loader.proofs.filling.clear_all.Tie as tie
 
@@ -13,4 +13,21 @@ returns c = record {
 }
 
 pub clear-all-spec : {M : Type 1} → statement M
-clear-all-spec = tie.close (tie.spec (search needs) (search needs) (search needs) (search needs) (search needs) (search needs) (search needs) (search needs) (search needs) (search needs) (search needs) (search needs) (search needs) (search needs) returns)
+clear-all-spec =
+    tie.close
+    (tie.spec
+    (search needs)
+    (search needs)
+    (search needs)
+    (search needs)
+    (search needs)
+    (search needs)
+    (search needs)
+    (search needs)
+    (search needs)
+    (search needs)
+    (search needs)
+    (search needs)
+    (search needs)
+    (search needs)
+    returns)

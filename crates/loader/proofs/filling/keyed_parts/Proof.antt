@@ -1,7 +1,7 @@
 -- `loader::filling::keyed_parts` meets its contract: no table of keys is a right one, and so is that of the first keys.
 -- Assumes nothing.
-use borrow.Author.Needs.{needs}
 use Rattle.loader.proofs.Rowing.{none-keyed, first-keyed}
+use borrow.Author.Needs.{needs}
 use Rattle.loader.proofs.filling.keyed_parts.Statement.{statement}
 use Rattle.loader.proofs.filling.keyed_parts.Tie as tie
 

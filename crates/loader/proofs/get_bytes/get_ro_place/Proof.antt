@@ -14,4 +14,10 @@ unfolding _if_else_
 returns-2 c = rw (c .before .if1 .left) (c .ro-place2 .ensures)
 
 pub get-ro-place-spec : {M : Type 1} → statement M
-get-ro-place-spec = tie.close (tie.spec (search needs) returns (search needs) returns-2)
+get-ro-place-spec =
+    tie.close
+    (tie.spec
+    (search needs)
+    returns
+    (search needs)
+    returns-2)

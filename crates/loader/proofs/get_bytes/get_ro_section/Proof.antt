@@ -14,4 +14,10 @@ unfolding _if_else_
 returns-2 c = rw (c .before .if1 .left) (c .ro-bytes2 .ensures)
 
 pub get-ro-section-spec : {M : Type 1} → statement M
-get-ro-section-spec = tie.close (tie.spec (search needs) returns (search needs) returns-2)
+get-ro-section-spec =
+    tie.close
+    (tie.spec
+    (search needs)
+    returns
+    (search needs)
+    returns-2)

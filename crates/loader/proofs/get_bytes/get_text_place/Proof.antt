@@ -14,4 +14,10 @@ unfolding _if_else_
 returns-2 c = rw (c .before .if1 .left) (c .text-place2 .ensures)
 
 pub get-text-place-spec : {M : Type 1} → statement M
-get-text-place-spec = tie.close (tie.spec (search needs) returns (search needs) returns-2)
+get-text-place-spec =
+    tie.close
+    (tie.spec
+    (search needs)
+    returns
+    (search needs)
+    returns-2)

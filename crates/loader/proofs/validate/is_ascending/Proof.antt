@@ -1,8 +1,7 @@
 -- `loader::validate::is_ascending` meets its contract. The loop's invariant: what is left decides.
 -- Assumes nothing.
-use mathlib.Core.Path.{_≡_, sym, _∙_}
+use mathlib.Core.Path.{_≡_, refl, sym, _∙_}
 use native.Mathlib.Omega.{arith}
-use mathlib.Core.Path.{refl}
 use Prim.Native.Nat.{ℕ, _+_, _-_, _≤_}
 use mathlib.Core.List.{List}
 use denote.Ref.{now}

@@ -5,8 +5,8 @@ use Prim.Native.Nat.{_≤_, _-_}
 use native.Mathlib.Nat.{le-antisymm}
 use lib.ListN.{length, length-set}
 use Rattle.program.proofs.Shift.{closing, closing-start, closing-turn, closing-finish}
-use borrow.Author.Needs.{needs}
 use native.Mathlib.Omega.{arith}
+use borrow.Author.Needs.{needs}
 use Rattle.program.proofs.columns.close_at.Statement.{statement}
 use Rattle.program.proofs.columns.close_at.Tie as tie
 

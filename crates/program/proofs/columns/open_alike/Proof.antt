@@ -1,7 +1,8 @@
--- `program::columns::open_alike` meets its contract: two columns by a call each, and three by a store. Assumes nothing.
+-- `program::columns::open_alike` meets its contract: two columns by a call each, and three by a store.
+-- Assumes nothing.
 use lib.ListN.{set}
-use borrow.Author.Needs.{needs}
 use Rattle.program.specs.Table.{openedAlike}
+use borrow.Author.Needs.{needs}
 use Rattle.program.proofs.columns.open_alike.Statement.{statement}
 use Rattle.program.proofs.columns.open_alike.Tie as tie
 

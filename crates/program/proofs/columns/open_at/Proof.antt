@@ -5,8 +5,8 @@ use Prim.Native.Nat.{_≤_}
 use native.Mathlib.Nat.{le-antisymm}
 use native.Mathlib.Omega.{arith}
 use lib.ListN.{length, length-set}
-use borrow.Author.Needs.{needs}
 use Rattle.program.proofs.Shift.{opening, opening-start, opening-turn, opening-end}
+use borrow.Author.Needs.{needs}
 use Rattle.program.proofs.columns.open_at.Statement.{statement}
 use Rattle.program.proofs.columns.open_at.Tie as tie
 

@@ -1,8 +1,8 @@
 -- `program::hashed_legacy::is_taken` meets its contract.
 -- Assumes nothing.
-use borrow.Author.Needs.{needs}
 use Rattle.ebpf.specs.Choice.{_if_else_, choices}
 use Rattle.program.specs.HashedLegacy.{isTaken}
+use borrow.Author.Needs.{needs}
 use Rattle.program.proofs.hashed_legacy.is_taken.Statement.{statement}
 use Rattle.program.proofs.hashed_legacy.is_taken.Tie as tie
 
@@ -19,4 +19,10 @@ unfolding isTaken
 returns-3 c = search choices
 
 pub is-taken-spec : {M : Type 1} → statement M
-is-taken-spec = tie.close (tie.spec returns (search needs) returns-2 returns-3)
+is-taken-spec =
+    tie.close
+    (tie.spec
+    returns
+    (search needs)
+    returns-2
+    returns-3)

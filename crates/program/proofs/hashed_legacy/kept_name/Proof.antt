@@ -1,7 +1,7 @@
 -- `program::hashed_legacy::kept_name` meets its contract: an arm for each kind of name.
 -- Assumes nothing.
-use borrow.Author.Needs.{needs}
 use Rattle.ebpf.specs.Choice.{_if_else_}
+use borrow.Author.Needs.{needs}
 use Rattle.program.proofs.hashed_legacy.kept_name.Statement.{statement}
 use Rattle.program.proofs.hashed_legacy.kept_name.Tie as tie
 
@@ -20,4 +20,14 @@ returns-4 : tie.Need-returns-4
 returns-4 c = rw (c .enum-told2 .given .1)
 
 pub kept-name-spec : {M : Type 1} → statement M
-kept-name-spec = tie.close (tie.spec (search needs) (search needs) (search needs) (search needs) returns returns-2 returns-3 returns-4)
+kept-name-spec =
+    tie.close
+    (tie.spec
+    (search needs)
+    (search needs)
+    (search needs)
+    (search needs)
+    returns
+    returns-2
+    returns-3
+    returns-4)

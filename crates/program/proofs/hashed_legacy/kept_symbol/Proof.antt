@@ -18,4 +18,9 @@ unfolding keptSymbol
 returns-3 c = search choices
 
 pub kept-symbol-spec : {M : Type 1} → statement M
-kept-symbol-spec = tie.close (tie.spec returns returns-2 returns-3)
+kept-symbol-spec =
+    tie.close
+    (tie.spec
+    returns
+    returns-2
+    returns-3)

@@ -1,8 +1,8 @@
 -- `program::hashed_legacy::legacy_row` meets its contract: the key's collision, or the row.
 -- Assumes nothing.
-use borrow.Author.Needs.{needs}
 use Rattle.ebpf.specs.Choice.{_if_else_}
 use Rattle.program.specs.HashedLegacy.{legacyRow}
+use borrow.Author.Needs.{needs}
 use Rattle.program.proofs.hashed_legacy.legacy_row.Statement.{statement}
 use Rattle.program.proofs.hashed_legacy.legacy_row.Tie as tie
 
@@ -19,4 +19,11 @@ returns-2 c =
     rw (← k, ← c .before .before .is-taken .ensures, c .before .if1 .left, c .kept-name .ensures)
 
 pub legacy-row-spec : {M : Type 1} → statement M
-legacy-row-spec = tie.close (tie.spec (search needs) (search needs) returns (search needs) returns-2)
+legacy-row-spec =
+    tie.close
+    (tie.spec
+    (search needs)
+    (search needs)
+    returns
+    (search needs)
+    returns-2)

@@ -1,12 +1,13 @@
 -- `program::search::by_halves` meets its contract. The loop's invariant: the search between `lo` and `hi` comes to the whole search's
--- place. Assumes nothing.
+-- place.
+-- Assumes nothing.
 use mathlib.Core.Path.{_≡_}
 use Prim.Native.Nat.{_-_, _≤_}
 use lib.ListN.{take}
 use native.Mathlib.Omega.{arith}
-use borrow.Author.Needs.{needs}
 use Rattle.program.specs.Search.{between, halves}
 use Rattle.program.proofs.Halves.{search-starts, search-upper, search-lower, search-ends}
+use borrow.Author.Needs.{needs}
 use Rattle.program.proofs.search.by_halves.Statement.{statement}
 use Rattle.program.proofs.search.by_halves.Tie as tie
 

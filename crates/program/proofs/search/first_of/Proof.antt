@@ -5,8 +5,8 @@ use Prim.Native.Nat.{_≤_, _-_, _+_}
 use lib.ListN.{take, drop}
 use Rattle.program.specs.Search.{indexOf}
 use Rattle.program.proofs.Halves.{index-hit, index-miss, index-none}
-use borrow.Author.Needs.{needs}
 use native.Mathlib.Omega.{arith}
+use borrow.Author.Needs.{needs}
 use Rattle.program.proofs.search.first_of.Statement.{statement}
 use Rattle.program.proofs.search.first_of.Tie as tie
 
