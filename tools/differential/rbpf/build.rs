@@ -1,20 +1,20 @@
 //! Writes the list of modules that are the given files, by path and unchanged.
-//! The folder is DOCS_SRC, solana_rbpf 0.8.5's src/ (taken from the folder of the
+//! The folder is RBPF_SRC, solana_rbpf 0.8.5's src/ (taken from the folder of the
 //! comparison if relative). It must be set: the sources are not in this repository.
 use std::{env, fs, path::PathBuf};
 
 fn main() {
-    println!("cargo:rerun-if-env-changed=DOCS_SRC");
+    println!("cargo:rerun-if-env-changed=RBPF_SRC");
     println!("cargo:rerun-if-changed=build.rs");
     let project = PathBuf::from(env::var_os("CARGO_MANIFEST_DIR").unwrap())
         .parent()
         .unwrap()
         .to_path_buf();
-    let wanted = env::var_os("DOCS_SRC").expect("DOCS_SRC is not set: solana_rbpf 0.8.5's src/");
+    let wanted = env::var_os("RBPF_SRC").expect("RBPF_SRC is not set: solana_rbpf 0.8.5's src/");
     let folder = project
         .join(PathBuf::from(wanted))
         .canonicalize()
-        .expect("DOCS_SRC does not name a folder");
+        .expect("RBPF_SRC does not name a folder");
     let out_dir = PathBuf::from(env::var_os("OUT_DIR").unwrap());
     let mut text = String::new();
     for (module, file) in [

@@ -1,5 +1,5 @@
 //! The proved functions and the Rust, side by side. `outcome` has the Rust's answers
-//! in the scope's numbers: solana_rbpf 0.8.5, compiled unchanged from DOCS_SRC. `port` calls
+//! in the scope's numbers: solana_rbpf 0.8.5, compiled unchanged from RBPF_SRC. `port` calls
 //! the proved functions. `cases` makes the inputs, `compare` asks both, and `loads` does for whole
 //! loads, whose answers `expected` has in full. `worked` has the scope's examples.
 
