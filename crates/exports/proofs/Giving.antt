@@ -1,23 +1,26 @@
 -- A load's answer, given under the settings that its bits stand for. Assumes nothing.
 use Prim.Native.Nat.{ℕ}
-use mathlib.Core.Path.{_≡_, ap, _∙_, subst}
+use mathlib.Core.Path.{_≡_, refl, ap, _∙_, subst}
 use mathlib.Core.List.{List}
-use Rattle.program.specs.Table.{Slices}
+use lib.ListN.{length}
+use Rattle.program.specs.Table.{Slices, capacity}
 use Rattle.loader.specs.declared.answer.Load.{Load}
 use Rattle.loader.specs.declared.validate.Config.{Config}
-use Rattle.loader.specs.Load.{Loading, Loaded}
+use Rattle.loader.specs.Load.{Loading, loadOf, answerOf, Loaded}
+use Rattle.loader.specs.Demand.{Demand3}
 use Rattle.exports.specs.declared.answers.Answer.{Answer}
-use Rattle.exports.specs.Answers.{Gives, GivesLoad, loadAnswer}
+use Rattle.exports.specs.Answers.{Given, loadAnswer}
 
-pub load-gives : (x : Config → Loading) (c d : Config) → c ≡ d
-    → (im ro : List ℕ) (t : Slices) (im′ ro′ : List ℕ) (t′ : Slices) (a : Load) (b : Answer) (before after : List ℕ) (r : ℕ)
-    → Loaded (x c) im ro t im′ ro′ t′ a
-    → b ≡ loadAnswer a
-    → Gives b before after r
-    → GivesLoad (x d) im ro t im′ ro′ t′ before after r
-load-gives x c d e im ro t im′ ro′ t′ a b before after r did is g =
-    subst (λ (k : Config). GivesLoad (x k) im ro t im′ ro′ t′ before after r) e
-    (record {
-      demand-1 = did .demand-1;
-      gives = subst (λ (y : Answer). Gives y before after r) (is ∙ ap loadAnswer (did .answers)) g;
-    })
+module _ (file builtins im ro : List ℕ) (t : Slices) where
+  abbrev whole : Config → Loading
+  whole c = loadOf file builtins c (length im) (length ro) (capacity t)
+
+  module _ (c d : Config) (e : c ≡ d) (im′ ro′ : List ℕ) (t′ : Slices) (a : Load) (did : Loaded (whole c) im ro t im′ ro′ t′ a) where
+    pub loaded-by : Loaded (whole d) im ro t im′ ro′ t′ (answerOf (whole d))
+    loaded-by = subst (λ (k : Config). Loaded (whole k) im ro t im′ ro′ t′ (answerOf (whole k))) e (record { answers = refl; demand-1 = did .demand-1 })
+
+    pub keyed-by : Demand3 file builtins c (length im) (length ro) t im′ t′ a → Demand3 file builtins d (length im) (length ro) t im′ t′ (answerOf (whole d))
+    keyed-by k = subst (λ (z : Config). Demand3 file builtins z (length im) (length ro) t im′ t′ (answerOf (whole z))) e (subst (λ (b : Load). Demand3 file builtins c (length im) (length ro) t im′ t′ b) (did .answers) k)
+
+    pub given-by : (b : Answer) (before after : List ℕ) (r : ℕ) → b ≡ loadAnswer a → Given b before after r → Given (loadAnswer (answerOf (whole d))) before after r
+    given-by b before after r is g = subst (λ (y : Answer). Given y before after r) (is ∙ ap loadAnswer (did .answers) ∙ ap (λ (k : Config). loadAnswer (answerOf (whole k))) e) g

@@ -5,6 +5,7 @@ use mathlib.Core.Bool.{Bool, true, false}
 use lib.Dec.{eqb}
 use mathlib.Core.List.{List, [], _∷_}
 use lib.ListN.{length}
+use denote.Ref.{now}
 use Rattle.elf_parser.specs.declared.error.ElfParserError.{ElfParserError}
 use Rattle.elf_parser.specs.declared.error.Report.{Report}
 use Rattle.elf_parser.specs.declared.layout.Layout.{Layout}
@@ -15,9 +16,10 @@ use Rattle.elf_parser.specs.declared.parts.Place.the-variants.{At as Stands, Re
 use Rattle.elf_parser.specs.declared.records.Sliced.{Sliced}
 use Rattle.elf_parser.specs.declared.records.Sliced.the-variants.{At as Slice, Refused as NoSlice}
 use Rattle.elf_parser.specs.Errors.{reportOf}
+use Rattle.elf_parser.specs.Parse.{parsed}
 use Rattle.program.specs.declared.Found.{Found}
 use Rattle.program.specs.declared.Found.the-variants.{At, Nothing}
-use Rattle.program.specs.Table.{Slices}
+use Rattle.program.specs.Table.{Lent}
 use Rattle.loader.specs.declared.answer.Accepted.{Accepted}
 use Rattle.loader.specs.declared.answer.Load.{Load}
 use Rattle.loader.specs.declared.answer.Load.the-variants.{Accepted as Accepts, Refused as Refuses}
@@ -25,7 +27,8 @@ use Rattle.loader.specs.declared.validate.Config.{Config}
 use Rattle.loader.specs.declared.get_bytes.PartPlace.{PartPlace}
 use Rattle.loader.specs.declared.get_bytes.PartPlace.the-variants.{At as TextAt, Refused as NoText}
 use Rattle.loader.specs.Errors as load
-use Rattle.loader.specs.Load.{Loading, answerOf, WholeOrZeros}
+use Rattle.loader.specs.Load.{loadOfLent, answerOf}
+use Rattle.loader.specs.Loads.{Loads}
 use Rattle.exports.specs.declared.answers.Answer.{Answer}
 
 -- the words of an answer, all sixteen
@@ -38,10 +41,13 @@ written zero ws = []
 written (suc n) [] = 0 ∷ written n []
 written (suc n) (w ∷ ws) = w ∷ written n ws
 
--- a lent slice that held `before` holds `after`, and the result is r: an answer given
-pub record Gives (a : Answer) (before after : List ℕ) (r : ℕ) : Type 0 where
+-- an answer given: its number is the result r, and a lent slice that held `before` holds its words
+pub record Given (a : Answer) (before after : List ℕ) (r : ℕ) : Type 0 where
   pub number : r ≡ a .number
   pub words : after ≡ written (length before) (wordsOf a)
+
+abbrev pub Gives : Answer → Lent → ℕ → Type 0
+Gives a answer r = Given a (now (answer .entry)) (now (answer .exit)) r
 
 -- ---- the answers, with zeros where a word is not used
 
@@ -97,6 +103,10 @@ abbrev pub asked : Parsed → (Layout → Answer) → Answer
 asked (File l) question = question l
 asked (NoFile e) question = refused e
 
+-- WHAT A QUESTION TO A FILE GIVES
+abbrev pub GivesAsked : Lent → (List ℕ → Layout → Answer) → Lent → ℕ → Type 0
+GivesAsked file question answer r = Gives (asked (parsed (now (file .entry))) (question (now (file .entry)))) answer r
+
 -- a row: its index, and its name's kind, start and length. 1 where there is none
 abbrev pub rowAnswer : Found → Answer
 rowAnswer (At r) = record { number = 0; words = r .index ∷ r .kind ∷ r .start ∷ r .length ∷ 0 ∷ 0 ∷ 0 ∷ 0 ∷ 0 ∷ 0 ∷ 0 ∷ 0 ∷ 0 ∷ 0 ∷ 0 ∷ [] }
@@ -150,10 +160,10 @@ abbrev pub loadAnswer : Load → Answer
 loadAnswer (Accepts a) = acceptedAnswer a
 loadAnswer (Refuses e) = reported (load.reportOf e)
 
--- the seven slices and the answer after a load
-pub record GivesLoad (x : Loading) (im ro : List ℕ) (t : Slices) (im′ ro′ : List ℕ) (t′ : Slices) (before after : List ℕ) (r : ℕ) : Type 0 where
-  pub demand-1 : WholeOrZeros x im ro t im′ ro′ t′
-  pub gives : Gives (loadAnswer (answerOf x)) before after r
+-- WHAT `sbpf_load` PROMISES: what `load` promises, with demands 1 and 3, and its answer in words
+pub record GivesLoad (file builtins : Lent) (settings : ℕ) (image ro keys indices kinds starts lengths answer : Lent) (r : ℕ) : Type 0 where
+  pub loads : Loads file builtins (configOf settings) image ro keys indices kinds starts lengths (answerOf (loadOfLent file builtins (configOf settings) image ro keys indices kinds starts lengths))
+  pub gives : Gives (loadAnswer (answerOf (loadOfLent file builtins (configOf settings) image ro keys indices kinds starts lengths))) answer r
 
 -- the text's place: after three zeros its start and its length
 abbrev pub textAnswer : PartPlace → Answer

@@ -192,7 +192,7 @@ fn give_words(answer: &mut [u64], number: u32, words: &[u64])
 
 // Fills the lent slice with an answer's words.
 pub(crate) fn give(answer: &mut [u64], a: Answer) -> u32
-    ensures { λ r. ⌜ Gives a (now (answer .entry)) (now (answer .exit)) r ⌝ }
+    ensures { λ r. ⌜ Gives a answer r ⌝ }
 {
     let words = a.words;
     give_words(answer, a.number, &words);

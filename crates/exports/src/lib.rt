@@ -18,15 +18,13 @@ use loading::load_answer;
 use loading::text_answer;
 use program::lookup_by_key;
 ghost use mathlib.Core.Path.{_≡_};
-ghost use lib.ListN.{length};
 ghost use Rattle.ebpf.specs.Murmur3.{murmur3};
 ghost use Rattle.elf_parser.specs.Names.{sectionName, symbolName, dynamicSymbolName};
 ghost use Rattle.elf_parser.specs.Parse.{parsed};
 ghost use Rattle.elf_parser.specs.Records.{sectionPlaceOf, symbolTableOf};
-ghost use Rattle.program.specs.Table.{slices, lookupIn, capacity};
-ghost use Rattle.loader.specs.Load.{loadOf};
+ghost use Rattle.program.specs.Table.{lookupIn, tableBefore};
 ghost use Rattle.loader.specs.GetBytes.{textPlace};
-ghost use Rattle.exports.specs.Answers.{Gives, GivesLoad, configOf, textAnswer, parseAnswer, asked, placeAnswer, tableAnswer, rowAnswer};
+ghost use Rattle.exports.specs.Answers.{Gives, GivesAsked, GivesLoad, textAnswer, parseAnswer, placeAnswer, tableAnswer, rowAnswer};
 
 mod answers;
 mod asked;
@@ -43,7 +41,7 @@ pub extern "C" fn sbpf_hash(name: &[u8]) -> u32
 // Where things stand in a file, or why it is refused.
 #[no_mangle]
 pub extern "C" fn sbpf_parse(file: &[u8], answer: &mut [u64]) -> u32
-    ensures { λ r. ⌜ Gives (parseAnswer (parsed (now (file .entry)))) (now (answer .entry)) (now (answer .exit)) r ⌝ }
+    ensures { λ r. ⌜ Gives (parseAnswer (parsed (now (file .entry)))) answer r ⌝ }
 {
     give(answer, parse_answer(parse(file)))
 }
@@ -51,7 +49,7 @@ pub extern "C" fn sbpf_parse(file: &[u8], answer: &mut [u64]) -> u32
 // Where the contents of a section stand.
 #[no_mangle]
 pub extern "C" fn sbpf_section_place(file: &[u8], index: u32, answer: &mut [u64]) -> u32
-    ensures { λ r. ⌜ Gives (asked (parsed (now (file .entry))) (λ l. placeAnswer (sectionPlaceOf (now (file .entry)) l index))) (now (answer .entry)) (now (answer .exit)) r ⌝ }
+    ensures { λ r. ⌜ GivesAsked file (λ f l. placeAnswer (sectionPlaceOf f l index)) answer r ⌝ }
 {
     give(answer, section_place_answer(file, parse(file), index))
 }
@@ -59,7 +57,7 @@ pub extern "C" fn sbpf_section_place(file: &[u8], index: u32, answer: &mut [u64]
 // Where the section name at a string offset stands.
 #[no_mangle]
 pub extern "C" fn sbpf_section_name(file: &[u8], sh_name: u32, answer: &mut [u64]) -> u32
-    ensures { λ r. ⌜ Gives (asked (parsed (now (file .entry))) (λ l. placeAnswer (sectionName (now (file .entry)) l «sh_name»))) (now (answer .entry)) (now (answer .exit)) r ⌝ }
+    ensures { λ r. ⌜ GivesAsked file (λ f l. placeAnswer (sectionName f l «sh_name»)) answer r ⌝ }
 {
     give(answer, section_name_answer(file, parse(file), sh_name))
 }
@@ -67,7 +65,7 @@ pub extern "C" fn sbpf_section_name(file: &[u8], sh_name: u32, answer: &mut [u64
 // Where the symbol name at a string offset stands.
 #[no_mangle]
 pub extern "C" fn sbpf_symbol_name(file: &[u8], st_name: u32, answer: &mut [u64]) -> u32
-    ensures { λ r. ⌜ Gives (asked (parsed (now (file .entry))) (λ l. placeAnswer (symbolName (now (file .entry)) l «st_name»))) (now (answer .entry)) (now (answer .exit)) r ⌝ }
+    ensures { λ r. ⌜ GivesAsked file (λ f l. placeAnswer (symbolName f l «st_name»)) answer r ⌝ }
 {
     give(answer, symbol_name_answer(file, parse(file), st_name))
 }
@@ -75,7 +73,7 @@ pub extern "C" fn sbpf_symbol_name(file: &[u8], st_name: u32, answer: &mut [u64]
 // Where the dynamic symbol name at a string offset stands.
 #[no_mangle]
 pub extern "C" fn sbpf_dynamic_symbol_name(file: &[u8], st_name: u32, answer: &mut [u64]) -> u32
-    ensures { λ r. ⌜ Gives (asked (parsed (now (file .entry))) (λ l. placeAnswer (dynamicSymbolName (now (file .entry)) l «st_name»))) (now (answer .entry)) (now (answer .exit)) r ⌝ }
+    ensures { λ r. ⌜ GivesAsked file (λ f l. placeAnswer (dynamicSymbolName f l «st_name»)) answer r ⌝ }
 {
     give(
         answer,
@@ -86,7 +84,7 @@ pub extern "C" fn sbpf_dynamic_symbol_name(file: &[u8], st_name: u32, answer: &m
 // Where the symbols of .symtab stand: none where there is no such section.
 #[no_mangle]
 pub extern "C" fn sbpf_symbol_table(file: &[u8], answer: &mut [u64]) -> u32
-    ensures { λ r. ⌜ Gives (asked (parsed (now (file .entry))) (λ l. tableAnswer (symbolTableOf (now (file .entry)) l))) (now (answer .entry)) (now (answer .exit)) r ⌝ }
+    ensures { λ r. ⌜ GivesAsked file (λ f l. tableAnswer (symbolTableOf f l)) answer r ⌝ }
 {
     give(answer, symbol_table_answer(file, parse(file)))
 }
@@ -103,7 +101,7 @@ pub extern "C" fn sbpf_lookup(
     key: u32,
     answer: &mut [u64],
 ) -> u32
-    ensures { λ r. ⌜ Gives (rowAnswer (lookupIn (slices (now (keys .entry)) (now (indices .entry)) (now (kinds .entry)) (now (starts .entry)) (now (lengths .entry))) used key)) (now (answer .entry)) (now (answer .exit)) r ⌝ }
+    ensures { λ r. ⌜ Gives (rowAnswer (lookupIn (tableBefore keys indices kinds starts lengths) used key)) answer r ⌝ }
 {
     give(
         answer,
@@ -126,7 +124,7 @@ pub extern "C" fn sbpf_load(
     lengths: &mut [u32],
     answer: &mut [u64],
 ) -> u32
-    ensures { λ r. ⌜ GivesLoad (loadOf (now (file .entry)) (now (builtins .entry)) (configOf settings) (length (now (image .entry))) (length (now (ro .entry))) (capacity (slices (now (keys .entry)) (now (indices .entry)) (now (kinds .entry)) (now (starts .entry)) (now (lengths .entry))))) (now (image .entry)) (now (ro .entry)) (slices (now (keys .entry)) (now (indices .entry)) (now (kinds .entry)) (now (starts .entry)) (now (lengths .entry))) (now (image .exit)) (now (ro .exit)) (slices (now (keys .exit)) (now (indices .exit)) (now (kinds .exit)) (now (starts .exit)) (now (lengths .exit))) (now (answer .entry)) (now (answer .exit)) r ⌝ }
+    ensures { λ r. ⌜ GivesLoad file builtins settings image ro keys indices kinds starts lengths answer r ⌝ }
 {
     let a = load(
         file,
@@ -156,7 +154,7 @@ pub extern "C" fn sbpf_text_place(
     text_length: u64,
     answer: &mut [u64],
 ) -> u32
-    ensures { λ r. ⌜ Gives (textAnswer (textPlace lent «ro_offset» «ro_start» «ro_length» «text_addr» «text_length»)) (now (answer .entry)) (now (answer .exit)) r ⌝ }
+    ensures { λ r. ⌜ Gives (textAnswer (textPlace lent «ro_offset» «ro_start» «ro_length» «text_addr» «text_length»)) answer r ⌝ }
 {
     give(
         answer,

@@ -29,12 +29,12 @@ use Rattle.loader.specs.declared.validate.Job.{Job}
 use Rattle.loader.specs.Functions.{rowFor, symbolFunction, indexOf}
 use Rattle.loader.specs.Deeds.{written, deedTrace}
 use Rattle.loader.specs.Calls.{callAt, textOf, slotCount, immediate, callRow, callBy, callDeed, slotTrace, callsTrace}
-use Rattle.loader.specs.Relocations.{placeAt, relocationDeed, relocationTrace, relocationsTrace}
+use Rattle.loader.specs.Relocations.{relocationCount, placeAt, relocationDeed, relocationTrace, relocationsTrace}
 use Rattle.loader.specs.Labels.{labelRow, namedLabel, labelOf, labelBy, labelDeed, labelSymbols, labelTrace, labelsTrace}
 use Rattle.loader.specs.Entry.{entryDeed, forgetTrace, entryTrace}
 use Rattle.loader.specs.Parts.{writingTrace, namingTrace, placedTrace, jobTrace}
 use Rattle.loader.specs.Contracts.{InFile}
-use Rattle.loader.specs.Demand.{CallsTo, isIn, relocationCount, infoOf, Unnamed, keyOf, Bytes}
+use Rattle.loader.specs.Demand.{CallsTo, isIn, infoOf, Unnamed, keyOf, Bytes}
 use Rattle.loader.proofs.Ends.{Ends, ends-then, ends-each}
 use Rattle.loader.proofs.Kept.{not-in, in-places, le-put, le-same, writes, written-other, deed-ends, step-ends, step-length, deeds-length, deeds-other, deeds-nothing}
 use Rattle.loader.proofs.Named.{unnamed-clear}

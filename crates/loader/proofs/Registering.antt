@@ -37,13 +37,13 @@ use Rattle.loader.specs.Deeds.{entryOf, written, entryTrace, deedTrace}
 use Rattle.loader.specs.Functions.{rowFor, symbolFunction, indexOf}
 use Rattle.loader.specs.Addresses.{sumUpTo}
 use Rattle.loader.specs.Calls.{callAt, textOf, slotCount, immediate, callRow, callBy, callDeed, slotTrace, callsTrace}
-use Rattle.loader.specs.Relocations.{isFunction, halvesDeed, wordDeed, addressDeed, symbolDeed, plan6464, relativeText, planRelative, registerDeed, functionCall, builtinCall, callByName, namedCall, symbolCall, plan6432, planAt, planOf, placeAt, relocationDeed, relocationTrace, relocationsTrace}
+use Rattle.loader.specs.Relocations.{relocationCount, isFunction, halvesDeed, wordDeed, addressDeed, symbolDeed, plan6464, relativeText, planRelative, registerDeed, functionCall, builtinCall, callByName, namedCall, symbolCall, plan6432, planAt, planOf, placeAt, relocationDeed, relocationTrace, relocationsTrace}
 use Rattle.loader.specs.Labels.{labelRow, namedLabel, labelOf, labelBy, labelDeed, labelSymbols, labelTrace, labelsTrace}
 use Rattle.loader.specs.Entry.{entryDeed}
 use Rattle.loader.specs.Parts.{writingTrace}
 use Rattle.loader.proofs.Ends.{Ends, ends-then}
 use Rattle.loader.proofs.Asked.{Asks, Keeps, AsksFor}
-use Rattle.loader.specs.Demand.{CallsTo, OfCall, OfRelocation, OfLabel, OfEntry, relocationCount, infoOf, entryIndex, earlyTrace}
+use Rattle.loader.specs.Demand.{CallsTo, OfCall, OfRelocation, OfLabel, OfEntry, infoOf, entryIndex, earlyTrace}
 use Rattle.loader.proofs.Traces.{asks-then, keeps-then, keeps-each, ends-turn, asks-each}
 
 -- ---- a deed

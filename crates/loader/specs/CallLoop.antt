@@ -1,22 +1,24 @@
 -- What a loop over the slots of a text keeps, and what a run of slots leads to.
-use Prim.Native.Nat.{ℕ, suc, _-_, _≤_}
+use Prim.Native.Nat.{ℕ, suc, _+_, _-_, _*_, _≤_, _<_}
 use mathlib.Core.Path.{_≡_}
 use mathlib.Core.List.{List, [], _++_}
 use lib.ListN.{length, getD, take, drop}
+use denote.Ref.{RefT, now}
 use Rattle.program.specs.declared.Row.{Row}
 use Rattle.program.specs.declared.FunctionName.the-variants.{OfIndex}
 use Rattle.program.specs.declared.Legacy.{Legacy}
 use Rattle.program.specs.declared.Legacy.the-variants.{Free, Taken}
 use Rattle.program.specs.HashedLegacy.{legacyKey, keptName, rowOf}
 use Rattle.program.specs.Rows.{Repeats}
-use Rattle.program.specs.Table.{Slices, capacity, rowsOf, Alike}
+use Rattle.program.specs.Table.{Slices, Lent, tableOf, tableBefore, tableAfter, capacity, rowsOf, Alike}
 use Rattle.loader.specs.declared.error.ElfError.the-variants.{SymbolHashCollision}
 use Rattle.loader.specs.declared.deeds.Outcome.{Outcome}
 use Rattle.loader.specs.declared.deeds.Outcome.the-variants.{Holds, Refused}
 use Rattle.loader.specs.declared.validate.Job.{Job}
-use Rattle.loader.specs.Functions.{rowFor}
+use Rattle.loader.specs.Calls.{slotCount, slotTrace}
+use Rattle.loader.specs.Functions.{Keyed, rowFor}
 use Rattle.loader.specs.Trace.{Trace, done, stop, register, each, Settled, refused, settle}
-use Rattle.loader.specs.Contracts.{Sound, Near, Settles}
+use Rattle.loader.specs.Contracts.{InFile, Begins, Enters, Sound, Near, Settles}
 
 -- an image whose bytes from q on are still the file's
 abbrev pub ahead : ℕ → List ℕ → List ℕ → List ℕ
@@ -74,3 +76,54 @@ pub record Leads (step : ℕ → List ℕ → Trace) (n i k : ℕ) (im im′ : L
       ≡ leadsTo a (λ (used′ moves′ : ℕ). settle (capacity t′) (each step (n - k) k im′) (rowsOf t′ used′) moves′)
   pub sound : Sound a t′
   pub near : Near (k - i) used moves a
+
+-- ---- over the lent slices of a function: keys, indices, kinds, starts and lengths, in this order
+
+-- a row registered whose name every row has: so it is afterwards
+abbrev pub EntersAlike : Row → Lent → Lent → Lent → Lent → Lent → ℕ → ℕ → Outcome → Type 0
+EntersAlike row k i d s l used moves a = Enters row (tableBefore k i d s l) (tableAfter k i d s l) used moves a × StillAlike row (tableAfter k i d s l) a
+
+-- a target: what its registration asks, and what it leaves
+abbrev pub TargetAsks : Job → ℕ → ℕ → RefT (List ℕ) → RefT (List ℕ) → RefT (List ℕ) → RefT (List ℕ) → RefT (List ℕ) → ℕ → ℕ → ℕ → Type 0
+TargetAsks j key index k i d s l rows used moves = (key ≡ targetKey j index) × Begins 1 (tableOf k i d s l) rows used moves × Alike (tableOf k i d s l) used (targetRow j)
+
+abbrev pub TargetSettles : Legacy → Job → Lent → Lent → Lent → Lent → Lent → ℕ → ℕ → Outcome → Type 0
+TargetSettles target j k i d s l used moves a = Targets target (tableBefore k i d s l) (tableAfter k i d s l) used moves a × StillAlike (targetRow j) (tableAfter k i d s l) a
+
+-- slot number `at`: what its call asks, and what it leaves
+abbrev pub SlotAsks :
+    ℕ → RefT (List ℕ) → RefT (List ℕ) → RefT (List ℕ) → Job → RefT (List ℕ) → RefT (List ℕ)
+    → RefT (List ℕ) → RefT (List ℕ) → RefT (List ℕ) → RefT (List ℕ) → RefT (List ℕ) → ℕ → ℕ → ℕ → Type 0
+SlotAsks at file builtins table j seen image k i d s l rows used moves =
+    InFile (now file) j
+    × Keyed (now table)
+    × (length (now image) ≡ length (now file))
+    × (at < slotCount j)
+    × Begins 1 (tableOf k i d s l) rows used moves
+    × CallsHeld (now builtins) j (now seen) (tableOf k i d s l) used
+
+abbrev pub SlotSettles : ℕ → Lent → Lent → Job → Lent → Lent → Lent → Lent → Lent → Lent → Lent → ℕ → ℕ → Outcome → Type 0
+SlotSettles at file builtins j seen image k i d s l used moves a =
+    Settles (slotTrace (now (file .entry)) (now (builtins .entry)) j at (now (image .entry))) (now (image .exit)) (tableBefore k i d s l) (tableAfter k i d s l) 1 used moves a
+    × StillHeld (now (builtins .entry)) j (now (seen .exit)) (tableAfter k i d s l) a
+
+-- the slots from number `from` up to `to`
+abbrev pub SlotsAsk :
+    ℕ → ℕ → RefT (List ℕ) → RefT (List ℕ) → RefT (List ℕ) → Job → RefT (List ℕ) → RefT (List ℕ)
+    → RefT (List ℕ) → RefT (List ℕ) → RefT (List ℕ) → RefT (List ℕ) → RefT (List ℕ) → ℕ → ℕ → ℕ → Type 0
+SlotsAsk from to file builtins table j seen image k i d s l rows used moves =
+    InFile (now file) j
+    × Keyed (now table)
+    × (length (now image) ≡ length (now file))
+    × (from ≤ to)
+    × (to ≤ slotCount j)
+    × Begins (to - from) (tableOf k i d s l) rows used moves
+    × CallsHeld (now builtins) j (now seen) (tableOf k i d s l) used
+
+abbrev pub SlotsLead : ℕ → ℕ → Lent → Lent → Job → Lent → Lent → Lent → Lent → Lent → Lent → Lent → ℕ → ℕ → Outcome → Type 0
+SlotsLead from to file builtins j seen image k i d s l used moves a =
+    Leads (slotTrace (now (file .entry)) (now (builtins .entry)) j) (slotCount j) from to
+    (ahead (j .start + 8 * to) (now (image .entry)) (now (file .entry)))
+    (ahead (j .start + 8 * to) (now (image .exit)) (now (file .entry)))
+    (tableBefore k i d s l) (tableAfter k i d s l) used moves a
+    × StillHeld (now (builtins .entry)) j (now (seen .exit)) (tableAfter k i d s l) a

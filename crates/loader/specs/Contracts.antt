@@ -4,15 +4,17 @@ use mathlib.Core.Path.{_≡_}
 use mathlib.Core.List.{List}
 use mathlib.Core.Bool.{Bool, true, false}
 use lib.ListN.{length}
+use denote.Ref.{RefT, now}
 use Rattle.loader.specs.declared.validate.Job.{Job}
 use Rattle.program.specs.declared.Row.{Row}
 use Rattle.program.specs.declared.Registered.{Registered}
 use Rattle.program.specs.declared.Registered.the-variants.{Inserted, Repeat, Collision, Full}
-use Rattle.program.specs.Table.{Slices, capacity, rowsOf, Ready}
+use Rattle.program.specs.Table.{Slices, Lent, tableOf, tableBefore, tableAfter, capacity, rowsOf, Ready, Alike}
 use Rattle.loader.specs.declared.error.ElfError.the-variants.{SymbolHashCollision, TableFull, ValueOutOfBounds}
 use Rattle.loader.specs.declared.deeds.Outcome.{Outcome}
 use Rattle.loader.specs.declared.deeds.Outcome.the-variants.{Holds, Refused}
 use Rattle.loader.specs.Entry.{forgetTrace}
+use Rattle.loader.specs.Functions.{Keyed}
 use Rattle.loader.specs.Trace.{Trace, done, register, Settled, accepted, refused, settle}
 
 -- a registration's answer, with the rows and moves up to there
@@ -77,3 +79,18 @@ Enters row t t′ used moves a = (im : List ℕ) → Settles (register row (done
 -- the key of the name entrypoint forgotten in version 1, whatever the image
 abbrev pub Forgets : Bool → Slices → Slices → ℕ → ℕ → Outcome → Type 0
 Forgets version2 t t′ used moves a = (im : List ℕ) → Settles (forgetTrace version2 im) im t t′ 1 used moves a
+
+-- ---- over the lent slices of a function: image, keys, indices, kinds, starts and lengths, in this order
+
+-- what a part of a load asks: a job in the file, the right table of keys, an image as long as the file, and room for n registrations more
+abbrev pub PartAsks : ℕ → RefT (List ℕ) → RefT (List ℕ) → Job → RefT (List ℕ) → RefT (List ℕ) → RefT (List ℕ) → RefT (List ℕ) → RefT (List ℕ) → RefT (List ℕ) → ℕ → ℕ → ℕ → Type 0
+PartAsks n file table j image k i d s l rows used moves =
+    InFile (now file) j × Keyed (now table) × (length (now image) ≡ length (now file)) × Begins n (tableOf k i d s l) rows used moves
+
+-- what it leaves
+abbrev pub PartSettles : Trace → Lent → Lent → Lent → Lent → Lent → Lent → ℕ → ℕ → ℕ → Outcome → Type 0
+PartSettles trace image k i d s l n used moves a = Settles trace (now (image .exit)) (tableBefore k i d s l) (tableAfter k i d s l) n used moves a
+
+-- the same of a trace by file, built-ins and job, from an image on
+abbrev pub FileSettles : (List ℕ → List ℕ → Job → List ℕ → Trace) → Lent → Lent → Job → List ℕ → Lent → Lent → Lent → Lent → Lent → Lent → ℕ → ℕ → ℕ → Outcome → Type 0
+FileSettles trace file builtins j from image k i d s l n used moves a = PartSettles (trace (now (file .entry)) (now (builtins .entry)) j from) image k i d s l n used moves a

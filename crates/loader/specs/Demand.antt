@@ -40,7 +40,7 @@ use Rattle.loader.specs.declared.validate.Prepared.the-variants.{Ready, 
 use Rattle.loader.specs.Calls.{callAt, textOf, slotCount, immediate}
 use Rattle.loader.specs.Functions.{rowFor, symbolFunction, indexOf}
 use Rattle.loader.specs.Labels.{labelSymbols, labelsTrace}
-use Rattle.loader.specs.Relocations.{relocationAt, placeAt, textHolds, isFunction}
+use Rattle.loader.specs.Relocations.{relocationAt, relocationCount, placeAt, textHolds, isFunction}
 use Rattle.loader.specs.Parts.{writingTrace, jobTrace}
 use Rattle.loader.specs.Trace.{Trace, done, stop, register, forget, andThen}
 use Rattle.loader.specs.Validate.{prepared}
@@ -72,9 +72,6 @@ namedBy version2 in-text type r b =
 abbrev pub namedAt : Job → Mapped → ℕ → ℕ → Bool
 namedAt j (Placed r) type b = namedBy (j .version2) (textHolds j r) type r b
 namedAt j Unmapped type b = false
-
-abbrev pub relocationCount : Job → ℕ
-relocationCount j = j .layout .«dynamic_relocations» .count
 
 abbrev pub infoOf : List ℕ → Job → ℕ → ℕ
 infoOf file j i = relocationAt file (j .layout) i .«r_info»

@@ -3,10 +3,12 @@ use Prim.Native.Nat.{ℕ, _+_, _-_, _≤_}
 use native.Mathlib.Omega.{arith}
 use mathlib.Core.Path.{_≡_}
 use mathlib.Core.List.{List, []}
-use lib.ListN.{take, drop}
+use lib.ListN.{length, take, drop}
+use denote.Ref.{now}
 use lib.Dec.{ltb}
 use borrow.Author.Tests.{ltb-false}
 use Rattle.ebpf.specs.Choice.{_if_else_, not-first, row-rest}
+use Rattle.program.specs.Table.{Lent}
 use Rattle.loader.specs.declared.error.ElfError.{ElfError}
 use Rattle.loader.specs.declared.error.ElfError.the-variants.{TextOutsideReadOnly}
 use Rattle.loader.specs.declared.answer.Accepted.{Accepted}
@@ -35,6 +37,9 @@ roPlace lent start n =
 abbrev pub lentFor : {A : Type 0} → Accepted → A → A → A
 lentFor a image ro = ro if a .«ro_copied» else image
 
+abbrev pub bytesFor : Accepted → Lent → Lent → List ℕ
+bytesFor a image ro = lentFor a (now (image .entry)) (now (ro .entry))
+
 -- the places that an accepted load's answer gives, in so many lent bytes
 abbrev pub roOf : Accepted → ℕ → PartPlace
 roOf a lent = roPlace lent (a .«ro_start») (a .«ro_length»)
@@ -46,6 +51,10 @@ textPlaceOf a lent = textPlace lent (a .«ro_offset») (a .«ro_start») (a .«r
 abbrev pub partOf : List ℕ → PartPlace → List ℕ
 partOf s (At start n) = take n (drop start s)
 partOf s (Refused r) = []
+
+-- the part that an accepted load's answer gives, of the lent image or of the lent buffer, by its place there
+abbrev pub partFor : Accepted → Lent → Lent → (ℕ → PartPlace) → List ℕ
+partFor a image ro place = partOf (bytesFor a image ro) (place (length (bytesFor a image ro)))
 
 -- ---- laws
 

@@ -67,6 +67,9 @@ symbolsBy (NoSlice e) = no-entries
 unfoldable pub labelSymbols : List ℕ → Job → Entries
 labelSymbols s j = symbolsBy (symbolTableOf s (j .layout)) if j .labels else no-entries
 
+abbrev pub labelCount : List ℕ → Job → ℕ
+labelCount s j = labelSymbols s j .count
+
 unfoldable pub labelTrace : List ℕ → List ℕ → Job → ℕ → List ℕ → Trace
 labelTrace s builtins j i im = deedTrace (labelDeed s builtins j (labelSymbols s j) i) im
 

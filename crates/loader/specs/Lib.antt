@@ -21,3 +21,4 @@ pub mod Worked
 pub mod Parts
 pub mod Load
 pub mod Demand
+pub mod Loads

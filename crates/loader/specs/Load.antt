@@ -4,9 +4,10 @@ use mathlib.Core.Path.{_≡_}
 use mathlib.Core.Bool.{Bool, true, false}
 use mathlib.Core.List.{List, [], _++_}
 use lib.ListN.{length, replicate}
+use denote.Ref.{RefT, now}
 use Rattle.ebpf.specs.Choice.{_if_else_}
 use Rattle.program.specs.declared.Row.{Row}
-use Rattle.program.specs.Table.{Slices, lay}
+use Rattle.program.specs.Table.{Slices, Lent, tableOf, tableBefore, tableAfter, capacity, lay}
 use Rattle.loader.specs.declared.error.ElfError.{ElfError}
 use Rattle.loader.specs.declared.answer.Accepted.{Accepted}
 use Rattle.loader.specs.declared.answer.Load.{Load}
@@ -23,14 +24,22 @@ use Rattle.loader.specs.declared.validate.Job.{Job}
 use Rattle.loader.specs.declared.deeds.Outcome.{Outcome}
 use Rattle.loader.specs.declared.deeds.Outcome.the-variants.{Holds, Refused}
 use Rattle.loader.specs.Calls.{slotCount}
-use Rattle.loader.specs.Labels.{labelSymbols}
+use Rattle.loader.specs.Contracts.{InFile, Settles}
+use Rattle.loader.specs.Labels.{labelCount}
+use Rattle.loader.specs.Relocations.{relocationCount}
 use Rattle.elf_parser.specs.declared.layout.Layout.{Layout}
 use Rattle.elf_parser.specs.Types.{fileHeader}
 use Rattle.loader.specs.ReadOnly.{copiedFrom}
 
--- the registrations that a job may make, at most: calls and relocations, labels, and the entry's removal and registration
+-- the registrations that a job may make, at most: of calls and relocations; of labels, with the entry's removal and registration
+abbrev pub writingCount : Job → ℕ
+writingCount j = slotCount j + relocationCount j
+
+abbrev pub namingCount : List ℕ → Job → ℕ
+namingCount file j = labelCount file j + 2
+
 abbrev pub allCount : List ℕ → Job → ℕ
-allCount file j = (slotCount j + j .layout .«dynamic_relocations» .count) + (labelSymbols file j .count + 2)
+allCount file j = writingCount j + namingCount file j
 
 -- the outcome once all is registered: refused where the placing of the read-only sections is
 abbrev pub placedBy : Placing → ℕ → ℕ → Outcome
@@ -149,3 +158,27 @@ pub record Loaded (x : Loading) (im ro : List ℕ) (t : Slices) (im′ ro′ : L
 abbrev pub Tried : Loading → List ℕ → List ℕ → Slices → List ℕ → List ℕ → Slices → Load → Type 0
 Tried x im ro t im′ ro′ t′ (Accepts a) = Loaded x im ro t im′ ro′ t′ (Accepts a)
 Tried x im ro t im′ ro′ t′ (Refuses r) = x ≡ refuses r
+
+-- ---- over the lent slices of a function: image, read-only buffer, keys, indices, kinds, starts and lengths, in this order
+
+abbrev pub Clears : Lent → Lent → Lent → Lent → Lent → Lent → Lent → Type 0
+Clears image ro k i d s l = Cleared (now (image .entry)) (now (ro .entry)) (tableBefore k i d s l) (now (image .exit)) (now (ro .exit)) (tableAfter k i d s l)
+
+-- the parts of a job in cleared slices: what they ask, and what they leave
+abbrev pub FillAsks : RefT (List ℕ) → Job → RefT (List ℕ) → RefT (List ℕ) → RefT (List ℕ) → RefT (List ℕ) → RefT (List ℕ) → RefT (List ℕ) → ℕ → Type 0
+FillAsks file j image k i d s l rows =
+    InFile (now file) j × (length (now image) ≡ length (now file)) × (rows ≡ capacity (tableOf k i d s l)) × (tableOf k i d s l ≡ lay (tableOf k i d s l) [])
+
+abbrev pub Fills : Lent → Lent → Job → Lent → Lent → Lent → Lent → Lent → Lent → Lent → Outcome → Type 0
+Fills file builtins j image ro k i d s l a =
+    Settles (jobTrace (now (file .entry)) (now (builtins .entry)) j (now (file .entry))) (now (image .exit)) (tableBefore k i d s l) (tableAfter k i d s l) (allCount (now (file .entry)) j) 0 0 a
+    × HeldBytes a (now (ro .exit)) (placedBytes (now (file .entry)) (j .layout) (j .placing) (now (image .exit)) (now (ro .entry)))
+
+-- what comes of a load of these
+abbrev pub loadOfLent : Lent → Lent → Config → Lent → Lent → Lent → Lent → Lent → Lent → Lent → Loading
+loadOfLent file builtins c image ro k i d s l =
+    loadOf (now (file .entry)) (now (builtins .entry)) c (length (now (image .entry))) (length (now (ro .entry))) (capacity (tableBefore k i d s l))
+
+abbrev pub Tries : Lent → Lent → Config → Lent → Lent → Lent → Lent → Lent → Lent → Lent → Load → Type 0
+Tries file builtins c image ro k i d s l a =
+    Tried (loadOfLent file builtins c image ro k i d s l) (now (image .entry)) (now (ro .entry)) (tableBefore k i d s l) (now (image .exit)) (now (ro .exit)) (tableAfter k i d s l) a

@@ -57,6 +57,9 @@ relocationOr (NoRel e) = record { «r_offset» = 0; «r_info» = 0 }
 unfoldable pub relocationAt : List ℕ → Layout → ℕ → Elf64Rel
 relocationAt s l i = relocationOr (dynamicRelocationOf s l i)
 
+abbrev pub relocationCount : Job → ℕ
+relocationCount j = j .layout .«dynamic_relocations» .count
+
 -- the program header number i; its addresses end at 2 ^ 64 - 1 at the latest
 abbrev pub headerBy : Phdr → Used
 headerBy (PHeader h) = Header (h .«p_vaddr») (sumUpTo (h .«p_vaddr») (h .«p_memsz»)) (h .«p_offset»)

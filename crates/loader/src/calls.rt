@@ -19,11 +19,10 @@ ghost use Prim.Native.Nat.{_+_, _-_, _*_, _%_, _≤_, _<_, _^_, min};
 ghost use lib.Dec.{eqb};
 ghost use lib.ListN.{length, getD, set};
 ghost use Rattle.program.specs.declared.FunctionName.the-variants.{OfIndex};
-ghost use Rattle.program.specs.Table.{slices, Alike};
-ghost use Rattle.loader.specs.Functions.{Keyed, rowFor};
-ghost use Rattle.loader.specs.Calls.{inside, target, callOf, callAt, slotCount, slotTrace, callsTrace, nextCall, PassesTo};
-ghost use Rattle.loader.specs.CallLoop.{ahead, targetKey, targetRow, CallsHeld, StillHeld, StillAlike, Targets, Leads};
-ghost use Rattle.loader.specs.Contracts.{InFile, Begins, Settles};
+ghost use Rattle.loader.specs.Functions.{rowFor};
+ghost use Rattle.loader.specs.Calls.{inside, target, callOf, callAt, slotCount, callsTrace, nextCall, PassesTo};
+ghost use Rattle.loader.specs.CallLoop.{TargetAsks, TargetSettles, SlotAsks, SlotSettles, SlotsAsk, SlotsLead};
+ghost use Rattle.loader.specs.Contracts.{PartAsks, FileSettles};
 
 // What a slot calls.
 pub enum Call {
@@ -193,8 +192,8 @@ fn register_target(
     key: u32,
     index: u32,
 ) -> Outcome
-    requires { ⌜ (key ≡ targetKey job index) × Begins 1 (slices (now keys) (now indices) (now kinds) (now starts) (now lengths)) rows used moves × Alike (slices (now keys) (now indices) (now kinds) (now starts) (now lengths)) used (targetRow job) ⌝ }
-    ensures { λ r. ⌜ Targets (rowFor (now (builtins .entry)) job OfIndex index) (slices (now (keys .entry)) (now (indices .entry)) (now (kinds .entry)) (now (starts .entry)) (now (lengths .entry))) (slices (now (keys .exit)) (now (indices .exit)) (now (kinds .exit)) (now (starts .exit)) (now (lengths .exit))) used moves r × StillAlike (targetRow job) (slices (now (keys .exit)) (now (indices .exit)) (now (kinds .exit)) (now (starts .exit)) (now (lengths .exit))) r ⌝ }
+    requires { ⌜ TargetAsks job key index keys indices kinds starts lengths rows used moves ⌝ }
+    ensures { λ r. ⌜ TargetSettles (rowFor (now (builtins .entry)) job OfIndex index) job keys indices kinds starts lengths used moves r ⌝ }
 {
     if is_taken(builtins, job.version2, job.check_collision, key) {
         return Outcome::Refused(ElfError::SymbolHashCollision { key });
@@ -238,8 +237,8 @@ fn call_step(
     moves: u64,
     i: usize,
 ) -> Outcome
-    requires { ⌜ InFile (now file) job × Keyed (now table) × (length (now image) ≡ length (now file)) × (i < slotCount job) × Begins 1 (slices (now keys) (now indices) (now kinds) (now starts) (now lengths)) rows used moves × CallsHeld (now builtins) job (now seen) (slices (now keys) (now indices) (now kinds) (now starts) (now lengths)) used ⌝ }
-    ensures { λ r. ⌜ Settles (slotTrace (now (file .entry)) (now (builtins .entry)) job i (now (image .entry))) (now (image .exit)) (slices (now (keys .entry)) (now (indices .entry)) (now (kinds .entry)) (now (starts .entry)) (now (lengths .entry))) (slices (now (keys .exit)) (now (indices .exit)) (now (kinds .exit)) (now (starts .exit)) (now (lengths .exit))) 1 used moves r × StillHeld (now (builtins .entry)) job (now (seen .exit)) (slices (now (keys .exit)) (now (indices .exit)) (now (kinds .exit)) (now (starts .exit)) (now (lengths .exit))) r ⌝ }
+    requires { ⌜ SlotAsks i file builtins table job seen image keys indices kinds starts lengths rows used moves ⌝ }
+    ensures { λ r. ⌜ SlotSettles i file builtins job seen image keys indices kinds starts lengths used moves r ⌝ }
 {
     let start = job.start;
     let end = start + job.length;
@@ -291,8 +290,8 @@ fn register_slots(
     from: usize,
     to: usize,
 ) -> Outcome
-    requires { ⌜ InFile (now file) job × Keyed (now table) × (length (now image) ≡ length (now file)) × (from ≤ to) × (to ≤ slotCount job) × Begins (to - from) (slices (now keys) (now indices) (now kinds) (now starts) (now lengths)) rows held moved × CallsHeld (now builtins) job (now seen) (slices (now keys) (now indices) (now kinds) (now starts) (now lengths)) held ⌝ }
-    ensures { λ r. ⌜ Leads (slotTrace (now (file .entry)) (now (builtins .entry)) job) (slotCount job) from to (ahead (job .start + 8 * to) (now (image .entry)) (now (file .entry))) (ahead (job .start + 8 * to) (now (image .exit)) (now (file .entry))) (slices (now (keys .entry)) (now (indices .entry)) (now (kinds .entry)) (now (starts .entry)) (now (lengths .entry))) (slices (now (keys .exit)) (now (indices .exit)) (now (kinds .exit)) (now (starts .exit)) (now (lengths .exit))) held moved r × StillHeld (now (builtins .entry)) job (now (seen .exit)) (slices (now (keys .exit)) (now (indices .exit)) (now (kinds .exit)) (now (starts .exit)) (now (lengths .exit))) r ⌝ }
+    requires { ⌜ SlotsAsk from to file builtins table job seen image keys indices kinds starts lengths rows held moved ⌝ }
+    ensures { λ r. ⌜ SlotsLead from to file builtins job seen image keys indices kinds starts lengths held moved r ⌝ }
 {
     let start = job.start;
     let mut used = held;
@@ -354,8 +353,8 @@ pub(crate) fn register_calls(
     job: Job,
     rows: u64,
 ) -> Outcome
-    requires { ⌜ InFile (now file) job × Keyed (now table) × (length (now image) ≡ length (now file)) × Begins (slotCount job) (slices (now keys) (now indices) (now kinds) (now starts) (now lengths)) rows 0 0 ⌝ }
-    ensures { λ r. ⌜ Settles (callsTrace (now (file .entry)) (now (builtins .entry)) job (now (file .entry))) (now (image .exit)) (slices (now (keys .entry)) (now (indices .entry)) (now (kinds .entry)) (now (starts .entry)) (now (lengths .entry))) (slices (now (keys .exit)) (now (indices .exit)) (now (kinds .exit)) (now (starts .exit)) (now (lengths .exit))) (slotCount job) 0 0 r ⌝ }
+    requires { ⌜ PartAsks (slotCount job) file table job image keys indices kinds starts lengths rows 0 0 ⌝ }
+    ensures { λ r. ⌜ FileSettles callsTrace file builtins job (now (file .entry)) image keys indices kinds starts lengths (slotCount job) 0 0 r ⌝ }
 {
     let start = job.start;
     let count = job.length / 8;

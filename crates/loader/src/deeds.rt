@@ -8,12 +8,12 @@ use program::register_function;
 ghost use mathlib.Core.Path.{_≡_};
 ghost use Prim.Native.Nat.{_+_, _/_, _%_, _≤_, _<_, _^_};
 ghost use lib.ListN.{length};
-ghost use Rattle.program.specs.Table.{slices, Alike};
+ghost use Rattle.program.specs.Table.{Alike, tableBefore, tableAfter, tableOf};
 ghost use Rattle.program.specs.Runs.{movesOf};
 ghost use Rattle.loader.specs.Bytes.{put};
 ghost use Rattle.loader.specs.Deeds.{DeedFits, written, entryOf, deedTrace};
-ghost use Rattle.loader.specs.CallLoop.{StillAlike};
-ghost use Rattle.loader.specs.Contracts.{enteredBy, finishedBy, Begins, Enters, Settles};
+ghost use Rattle.loader.specs.CallLoop.{EntersAlike};
+ghost use Rattle.loader.specs.Contracts.{enteredBy, finishedBy, Begins, Enters, PartSettles};
 
 pub enum Deed {
     Skip,
@@ -153,8 +153,8 @@ fn enter(
     moves: u64,
     row: Row,
 ) -> Outcome
-    requires { ⌜ Begins 1 (slices (now keys) (now indices) (now kinds) (now starts) (now lengths)) rows used moves ⌝ }
-    ensures { λ r. ⌜ Enters row (slices (now (keys .entry)) (now (indices .entry)) (now (kinds .entry)) (now (starts .entry)) (now (lengths .entry))) (slices (now (keys .exit)) (now (indices .exit)) (now (kinds .exit)) (now (starts .exit)) (now (lengths .exit))) used moves r ⌝ }
+    requires { ⌜ Begins 1 (tableOf keys indices kinds starts lengths) rows used moves ⌝ }
+    ensures { λ r. ⌜ Enters row (tableBefore keys indices kinds starts lengths) (tableAfter keys indices kinds starts lengths) used moves r ⌝ }
 {
     let key = row.key;
     let answer = register_function(keys, indices, kinds, starts, lengths, used, row);
@@ -173,8 +173,8 @@ pub(crate) fn enter_alike(
     moves: u64,
     row: Row,
 ) -> Outcome
-    requires { ⌜ Begins 1 (slices (now keys) (now indices) (now kinds) (now starts) (now lengths)) rows used moves × Alike (slices (now keys) (now indices) (now kinds) (now starts) (now lengths)) used row ⌝ }
-    ensures { λ r. ⌜ Enters row (slices (now (keys .entry)) (now (indices .entry)) (now (kinds .entry)) (now (starts .entry)) (now (lengths .entry))) (slices (now (keys .exit)) (now (indices .exit)) (now (kinds .exit)) (now (starts .exit)) (now (lengths .exit))) used moves r × StillAlike row (slices (now (keys .exit)) (now (indices .exit)) (now (kinds .exit)) (now (starts .exit)) (now (lengths .exit))) r ⌝ }
+    requires { ⌜ Begins 1 (tableOf keys indices kinds starts lengths) rows used moves × Alike (tableOf keys indices kinds starts lengths) used row ⌝ }
+    ensures { λ r. ⌜ EntersAlike row keys indices kinds starts lengths used moves r ⌝ }
 {
     let key = row.key;
     let answer = register_alike(keys, indices, kinds, starts, lengths, used, row);
@@ -194,8 +194,8 @@ pub(crate) fn perform(
     moves: u64,
     deed: Deed,
 ) -> Outcome
-    requires { ⌜ DeedFits (length (now image)) deed × Begins 1 (slices (now keys) (now indices) (now kinds) (now starts) (now lengths)) rows used moves ⌝ }
-    ensures { λ r. ⌜ Settles (deedTrace deed (now (image .entry))) (now (image .exit)) (slices (now (keys .entry)) (now (indices .entry)) (now (kinds .entry)) (now (starts .entry)) (now (lengths .entry))) (slices (now (keys .exit)) (now (indices .exit)) (now (kinds .exit)) (now (starts .exit)) (now (lengths .exit))) 1 used moves r ⌝ }
+    requires { ⌜ DeedFits (length (now image)) deed × Begins 1 (tableOf keys indices kinds starts lengths) rows used moves ⌝ }
+    ensures { λ r. ⌜ PartSettles (deedTrace deed (now (image .entry))) image keys indices kinds starts lengths 1 used moves r ⌝ }
 {
     write(image, deed);
     match entry_of(deed) {

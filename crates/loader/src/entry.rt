@@ -13,11 +13,11 @@ use program::Removed;
 use program::unregister_function;
 ghost use mathlib.Core.Path.{_≡_};
 ghost use Prim.Native.Nat.{_+_, _-_, _≤_, _<_, _^_};
-ghost use Rattle.program.specs.Table.{slices};
+ghost use Rattle.program.specs.Table.{tableBefore, tableAfter, tableOf};
 ghost use Rattle.program.specs.Runs.{movesGone};
 ghost use Rattle.loader.specs.Functions.{Keyed};
 ghost use Rattle.loader.specs.Entry.{entryDeed, forgottenBy, entryTrace};
-ghost use Rattle.loader.specs.Contracts.{Begins, Forgets, Settles};
+ghost use Rattle.loader.specs.Contracts.{Begins, Forgets, PartSettles};
 
 // What a load does about the entry.
 fn entry_deed(builtins: &[u32], table: &[u32], job: Job) -> Deed
@@ -64,8 +64,8 @@ fn forget_entrypoint(
     used: usize,
     moves: u64,
 ) -> Outcome
-    requires { ⌜ Begins 1 (slices (now keys) (now indices) (now kinds) (now starts) (now lengths)) rows used moves ⌝ }
-    ensures { λ r. ⌜ Forgets version2 (slices (now (keys .entry)) (now (indices .entry)) (now (kinds .entry)) (now (starts .entry)) (now (lengths .entry))) (slices (now (keys .exit)) (now (indices .exit)) (now (kinds .exit)) (now (starts .exit)) (now (lengths .exit))) used moves r ⌝ }
+    requires { ⌜ Begins 1 (tableOf keys indices kinds starts lengths) rows used moves ⌝ }
+    ensures { λ r. ⌜ Forgets version2 (tableBefore keys indices kinds starts lengths) (tableAfter keys indices kinds starts lengths) used moves r ⌝ }
 {
     if version2 {
         return Outcome::Holds(used, moves);
@@ -89,8 +89,8 @@ pub(crate) fn register_entry(
     used: usize,
     moves: u64,
 ) -> Outcome
-    requires { ⌜ Keyed (now table) × (job .«e_entry» - job .«sh_addr» ≤ 2 ^ 24) × Begins 2 (slices (now keys) (now indices) (now kinds) (now starts) (now lengths)) rows used moves ⌝ }
-    ensures { λ r. ⌜ Settles (entryTrace (now (builtins .entry)) job (now (image .entry))) (now (image .exit)) (slices (now (keys .entry)) (now (indices .entry)) (now (kinds .entry)) (now (starts .entry)) (now (lengths .entry))) (slices (now (keys .exit)) (now (indices .exit)) (now (kinds .exit)) (now (starts .exit)) (now (lengths .exit))) 2 used moves r ⌝ }
+    requires { ⌜ Keyed (now table) × (job .«e_entry» - job .«sh_addr» ≤ 2 ^ 24) × Begins 2 (tableOf keys indices kinds starts lengths) rows used moves ⌝ }
+    ensures { λ r. ⌜ PartSettles (entryTrace (now (builtins .entry)) job (now (image .entry))) image keys indices kinds starts lengths 2 used moves r ⌝ }
 {
     let deed = entry_deed(builtins, table, job);
     match forget_entrypoint(

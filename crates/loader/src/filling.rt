@@ -9,13 +9,11 @@ use ebpf::key_table;
 use elf_parser::Layout;
 use elf_parser::file_header;
 ghost use mathlib.Core.Path.{_≡_};
-ghost use mathlib.Core.List.{[]};
 ghost use lib.ListN.{length, replicate};
-ghost use Rattle.program.specs.Table.{slices, capacity, lay};
-ghost use Rattle.loader.specs.Functions.{Keyed};
+ghost use Rattle.program.specs.Table.{tableOf};
 ghost use Rattle.loader.specs.Parts.{jobTrace};
-ghost use Rattle.loader.specs.Load.{allCount, afterPlacing, Cleared, placedBytes, HeldBytes};
-ghost use Rattle.loader.specs.Contracts.{InFile, Begins, Settles};
+ghost use Rattle.loader.specs.Load.{allCount, afterPlacing, placedBytes, Clears, FillAsks, Fills};
+ghost use Rattle.loader.specs.Contracts.{InFile, Begins, PartAsks, FileSettles};
 
 // Every byte zero.
 fn clear_bytes(s: &mut [u8])
@@ -49,7 +47,7 @@ pub(crate) fn clear_all(
     starts: &mut [u32],
     lengths: &mut [u32],
 )
-    ensures { λ _. ⌜ Cleared (now (image .entry)) (now (ro .entry)) (slices (now (keys .entry)) (now (indices .entry)) (now (kinds .entry)) (now (starts .entry)) (now (lengths .entry))) (now (image .exit)) (now (ro .exit)) (slices (now (keys .exit)) (now (indices .exit)) (now (kinds .exit)) (now (starts .exit)) (now (lengths .exit))) ⌝ }
+    ensures { λ _. ⌜ Clears image ro keys indices kinds starts lengths ⌝ }
 {
     clear_bytes(image);
     clear_bytes(ro);
@@ -96,8 +94,8 @@ fn all_parts(
     job: Job,
     rows: u64,
 ) -> Outcome
-    requires { ⌜ InFile (now file) job × Keyed (now table) × (length (now image) ≡ length (now file)) × Begins (allCount (now file) job) (slices (now keys) (now indices) (now kinds) (now starts) (now lengths)) rows 0 0 ⌝ }
-    ensures { λ r. ⌜ Settles (jobTrace (now (file .entry)) (now (builtins .entry)) job (now (file .entry))) (now (image .exit)) (slices (now (keys .entry)) (now (indices .entry)) (now (kinds .entry)) (now (starts .entry)) (now (lengths .entry))) (slices (now (keys .exit)) (now (indices .exit)) (now (kinds .exit)) (now (starts .exit)) (now (lengths .exit))) (allCount (now (file .entry)) job) 0 0 r ⌝ }
+    requires { ⌜ PartAsks (allCount (now file) job) file table job image keys indices kinds starts lengths rows 0 0 ⌝ }
+    ensures { λ r. ⌜ FileSettles jobTrace file builtins job (now (file .entry)) image keys indices kinds starts lengths (allCount (now (file .entry)) job) 0 0 r ⌝ }
 {
     match calls_and_relocations(
         image,
@@ -149,8 +147,8 @@ fn keyed_parts(
     job: Job,
     rows: u64,
 ) -> Outcome
-    requires { ⌜ InFile (now file) job × (length (now image) ≡ length (now file)) × Begins (allCount (now file) job) (slices (now keys) (now indices) (now kinds) (now starts) (now lengths)) rows 0 0 ⌝ }
-    ensures { λ r. ⌜ Settles (jobTrace (now (file .entry)) (now (builtins .entry)) job (now (file .entry))) (now (image .exit)) (slices (now (keys .entry)) (now (indices .entry)) (now (kinds .entry)) (now (starts .entry)) (now (lengths .entry))) (slices (now (keys .exit)) (now (indices .exit)) (now (kinds .exit)) (now (starts .exit)) (now (lengths .exit))) (allCount (now (file .entry)) job) 0 0 r ⌝ }
+    requires { ⌜ InFile (now file) job × (length (now image) ≡ length (now file)) × Begins (allCount (now file) job) (tableOf keys indices kinds starts lengths) rows 0 0 ⌝ }
+    ensures { λ r. ⌜ FileSettles jobTrace file builtins job (now (file .entry)) image keys indices kinds starts lengths (allCount (now (file .entry)) job) 0 0 r ⌝ }
 {
     if job.version2 {
         let none = [0u32; 0];
@@ -221,8 +219,8 @@ pub(crate) fn fill_all(
     job: Job,
     rows: u64,
 ) -> Outcome
-    requires { ⌜ InFile (now file) job × (length (now image) ≡ length (now file)) × (rows ≡ capacity (slices (now keys) (now indices) (now kinds) (now starts) (now lengths))) × ((slices (now keys) (now indices) (now kinds) (now starts) (now lengths)) ≡ lay (slices (now keys) (now indices) (now kinds) (now starts) (now lengths)) []) ⌝ }
-    ensures { λ r. ⌜ Settles (jobTrace (now (file .entry)) (now (builtins .entry)) job (now (file .entry))) (now (image .exit)) (slices (now (keys .entry)) (now (indices .entry)) (now (kinds .entry)) (now (starts .entry)) (now (lengths .entry))) (slices (now (keys .exit)) (now (indices .exit)) (now (kinds .exit)) (now (starts .exit)) (now (lengths .exit))) (allCount (now (file .entry)) job) 0 0 r × HeldBytes r (now (ro .exit)) (placedBytes (now (file .entry)) (job .layout) (job .placing) (now (image .exit)) (now (ro .entry))) ⌝ }
+    requires { ⌜ FillAsks file job image keys indices kinds starts lengths rows ⌝ }
+    ensures { λ r. ⌜ Fills file builtins job image ro keys indices kinds starts lengths r ⌝ }
 {
     let layout = job.layout;
     let placing = job.placing;

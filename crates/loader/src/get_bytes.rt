@@ -7,7 +7,7 @@ use crate::error::ElfError;
 use ebpf::MM_PROGRAM_START;
 ghost use mathlib.Core.Path.{_≡_};
 ghost use lib.ListN.{length};
-ghost use Rattle.loader.specs.GetBytes.{textPlace, roPlace, lentFor, roOf, textPlaceOf, partOf};
+ghost use Rattle.loader.specs.GetBytes.{textPlace, roPlace, lentFor, roOf, textPlaceOf, partOf, partFor};
 
 // A place in the lent bytes.
 pub enum PartPlace {
@@ -73,7 +73,7 @@ pub fn ro_bytes(lent: &[u8], start: u64, n: u64) -> &[u8]
 
 // The read-only bytes of an accepted load, of the lent image or of the lent buffer.
 pub fn get_ro_section<'a>(a: Accepted, image: &'a [u8], ro_section: &'a [u8]) -> &'a [u8]
-    ensures { λ r. ⌜ now r ≡ partOf (lentFor a (now (image .entry)) (now («ro_section» .entry))) (roOf a (length (lentFor a (now (image .entry)) (now («ro_section» .entry))))) ⌝ }
+    ensures { λ r. ⌜ now r ≡ partFor a image «ro_section» (roOf a) ⌝ }
 {
     if a.ro_copied {
         return ro_bytes(ro_section, a.ro_start, a.ro_length);
@@ -93,7 +93,7 @@ pub fn get_ro_place(a: Accepted, image: u64, ro_section: u64) -> PartPlace
 
 // The text's bytes of an accepted load.
 pub fn get_text_bytes<'a>(a: Accepted, image: &'a [u8], ro_section: &'a [u8]) -> &'a [u8]
-    ensures { λ r. ⌜ now r ≡ partOf (lentFor a (now (image .entry)) (now («ro_section» .entry))) (textPlaceOf a (length (lentFor a (now (image .entry)) (now («ro_section» .entry))))) ⌝ }
+    ensures { λ r. ⌜ now r ≡ partFor a image «ro_section» (textPlaceOf a) ⌝ }
 {
     let size = a.text_length as u64;
     if a.ro_copied {

@@ -4,12 +4,8 @@ use crate::deeds::perform;
 use crate::labels::label_deed;
 use crate::labels::label_symbols;
 use crate::validate::Job;
-ghost use mathlib.Core.Path.{_≡_};
-ghost use lib.ListN.{length};
-ghost use Rattle.program.specs.Table.{slices};
-ghost use Rattle.loader.specs.Functions.{Keyed};
-ghost use Rattle.loader.specs.Labels.{labelSymbols, labelsTrace};
-ghost use Rattle.loader.specs.Contracts.{InFile, Begins, Settles};
+ghost use Rattle.loader.specs.Labels.{labelsTrace, labelCount};
+ghost use Rattle.loader.specs.Contracts.{PartAsks, FileSettles};
 
 // Every symbol in turn, up to the first refusal.
 pub(crate) fn register_labels(
@@ -27,8 +23,8 @@ pub(crate) fn register_labels(
     held: usize,
     moved: u64,
 ) -> Outcome
-    requires { ⌜ InFile (now file) job × Keyed (now table) × (length (now image) ≡ length (now file)) × Begins (labelSymbols (now file) job .count) (slices (now keys) (now indices) (now kinds) (now starts) (now lengths)) rows held moved ⌝ }
-    ensures { λ r. ⌜ Settles (labelsTrace (now (file .entry)) (now (builtins .entry)) job (now (image .entry))) (now (image .exit)) (slices (now (keys .entry)) (now (indices .entry)) (now (kinds .entry)) (now (starts .entry)) (now (lengths .entry))) (slices (now (keys .exit)) (now (indices .exit)) (now (kinds .exit)) (now (starts .exit)) (now (lengths .exit))) (labelSymbols (now (file .entry)) job .count) held moved r ⌝ }
+    requires { ⌜ PartAsks (labelCount (now file) job) file table job image keys indices kinds starts lengths rows held moved ⌝ }
+    ensures { λ r. ⌜ FileSettles labelsTrace file builtins job (now (image .entry)) image keys indices kinds starts lengths (labelCount (now (file .entry)) job) held moved r ⌝ }
 {
     let symbols = label_symbols(file, job);
     let count = symbols.count as u32;

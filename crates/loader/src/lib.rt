@@ -5,10 +5,8 @@ use filling::fill_all;
 use program::rows_lent;
 use validate::Prepared;
 use validate::prepare;
-ghost use lib.ListN.{length};
-ghost use Rattle.program.specs.Table.{slices, capacity};
-ghost use Rattle.loader.specs.Load.{loadOf, Tried, Loaded};
-ghost use Rattle.loader.specs.Demand.{Demand3};
+ghost use Rattle.loader.specs.Load.{Tries};
+ghost use Rattle.loader.specs.Loads.{Loads};
 
 mod addresses;
 mod answer;
@@ -59,7 +57,7 @@ fn attempt(
     builtins: &[u32],
     config: Config,
 ) -> Load
-    ensures { λ r. ⌜ Tried (loadOf (now (file .entry)) (now (builtins .entry)) config (length (now (image .entry))) (length (now («ro_section» .entry))) (capacity (slices (now (keys .entry)) (now (indices .entry)) (now (kinds .entry)) (now (starts .entry)) (now (lengths .entry))))) (now (image .entry)) (now («ro_section» .entry)) (slices (now (keys .entry)) (now (indices .entry)) (now (kinds .entry)) (now (starts .entry)) (now (lengths .entry))) (now (image .exit)) (now («ro_section» .exit)) (slices (now (keys .exit)) (now (indices .exit)) (now (kinds .exit)) (now (starts .exit)) (now (lengths .exit))) r ⌝ }
+    ensures { λ r. ⌜ Tries file builtins config image «ro_section» keys indices kinds starts lengths r ⌝ }
 {
     match prepare(file, builtins, config, image.len(), ro_section.len()) {
         Prepared::Refused(r) => Load::Refused(r),
@@ -113,7 +111,7 @@ pub fn load(
     starts: &mut [u32],
     lengths: &mut [u32],
 ) -> Load
-    ensures { λ r. ⌜ Loaded (loadOf (now (file .entry)) (now (builtins .entry)) config (length (now (image .entry))) (length (now («ro_section» .entry))) (capacity (slices (now (keys .entry)) (now (indices .entry)) (now (kinds .entry)) (now (starts .entry)) (now (lengths .entry))))) (now (image .entry)) (now («ro_section» .entry)) (slices (now (keys .entry)) (now (indices .entry)) (now (kinds .entry)) (now (starts .entry)) (now (lengths .entry))) (now (image .exit)) (now («ro_section» .exit)) (slices (now (keys .exit)) (now (indices .exit)) (now (kinds .exit)) (now (starts .exit)) (now (lengths .exit))) r × Demand3 (now (file .entry)) (now (builtins .entry)) config (length (now (image .entry))) (length (now («ro_section» .entry))) (slices (now (keys .entry)) (now (indices .entry)) (now (kinds .entry)) (now (starts .entry)) (now (lengths .entry))) (now (image .exit)) (slices (now (keys .exit)) (now (indices .exit)) (now (kinds .exit)) (now (starts .exit)) (now (lengths .exit))) r ⌝ }
+    ensures { λ r. ⌜ Loads file builtins config image «ro_section» keys indices kinds starts lengths r ⌝ }
 {
     match attempt(
         image,

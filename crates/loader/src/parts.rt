@@ -6,15 +6,9 @@ use crate::entry::register_entry;
 use crate::labelling::register_labels;
 use crate::relocating::apply_relocations;
 use crate::validate::Job;
-ghost use mathlib.Core.Path.{_≡_};
-ghost use Prim.Native.Nat.{_+_};
-ghost use lib.ListN.{length};
-ghost use Rattle.program.specs.Table.{slices};
-ghost use Rattle.loader.specs.Functions.{Keyed};
-ghost use Rattle.loader.specs.Calls.{slotCount};
-ghost use Rattle.loader.specs.Labels.{labelSymbols};
 ghost use Rattle.loader.specs.Parts.{writingTrace, namingTrace};
-ghost use Rattle.loader.specs.Contracts.{InFile, Begins, Settles};
+ghost use Rattle.loader.specs.Contracts.{PartAsks, FileSettles};
+ghost use Rattle.loader.specs.Load.{writingCount, namingCount};
 
 // Calls, then relocations.
 pub(crate) fn calls_and_relocations(
@@ -30,8 +24,8 @@ pub(crate) fn calls_and_relocations(
     job: Job,
     rows: u64,
 ) -> Outcome
-    requires { ⌜ InFile (now file) job × Keyed (now table) × (length (now image) ≡ length (now file)) × Begins (slotCount job + job .layout .«dynamic_relocations» .count) (slices (now keys) (now indices) (now kinds) (now starts) (now lengths)) rows 0 0 ⌝ }
-    ensures { λ r. ⌜ Settles (writingTrace (now (file .entry)) (now (builtins .entry)) job (now (file .entry))) (now (image .exit)) (slices (now (keys .entry)) (now (indices .entry)) (now (kinds .entry)) (now (starts .entry)) (now (lengths .entry))) (slices (now (keys .exit)) (now (indices .exit)) (now (kinds .exit)) (now (starts .exit)) (now (lengths .exit))) (slotCount job + job .layout .«dynamic_relocations» .count) 0 0 r ⌝ }
+    requires { ⌜ PartAsks (writingCount job) file table job image keys indices kinds starts lengths rows 0 0 ⌝ }
+    ensures { λ r. ⌜ FileSettles writingTrace file builtins job (now (file .entry)) image keys indices kinds starts lengths (writingCount job) 0 0 r ⌝ }
 {
     match register_calls(
         image,
@@ -81,8 +75,8 @@ pub(crate) fn labels_and_entry(
     used: usize,
     moves: u64,
 ) -> Outcome
-    requires { ⌜ InFile (now file) job × Keyed (now table) × (length (now image) ≡ length (now file)) × Begins (labelSymbols (now file) job .count + 2) (slices (now keys) (now indices) (now kinds) (now starts) (now lengths)) rows used moves ⌝ }
-    ensures { λ r. ⌜ Settles (namingTrace (now (file .entry)) (now (builtins .entry)) job (now (image .entry))) (now (image .exit)) (slices (now (keys .entry)) (now (indices .entry)) (now (kinds .entry)) (now (starts .entry)) (now (lengths .entry))) (slices (now (keys .exit)) (now (indices .exit)) (now (kinds .exit)) (now (starts .exit)) (now (lengths .exit))) (labelSymbols (now (file .entry)) job .count + 2) used moves r ⌝ }
+    requires { ⌜ PartAsks (namingCount (now file) job) file table job image keys indices kinds starts lengths rows used moves ⌝ }
+    ensures { λ r. ⌜ FileSettles namingTrace file builtins job (now (image .entry)) image keys indices kinds starts lengths (namingCount (now (file .entry)) job) used moves r ⌝ }
 {
     match register_labels(
         image,

@@ -6,12 +6,8 @@ use crate::relocations::plan_relocation;
 use crate::relocations::relocation_at;
 use crate::relocations::used_header;
 use crate::validate::Job;
-ghost use mathlib.Core.Path.{_≡_};
-ghost use lib.ListN.{length};
-ghost use Rattle.program.specs.Table.{slices};
-ghost use Rattle.loader.specs.Functions.{Keyed};
-ghost use Rattle.loader.specs.Relocations.{relocationsTrace};
-ghost use Rattle.loader.specs.Contracts.{InFile, Begins, Settles};
+ghost use Rattle.loader.specs.Relocations.{relocationsTrace, relocationCount};
+ghost use Rattle.loader.specs.Contracts.{PartAsks, FileSettles};
 
 // Every relocation in turn, up to the first refusal. `header` is the program header used last.
 pub(crate) fn apply_relocations(
@@ -29,8 +25,8 @@ pub(crate) fn apply_relocations(
     held: usize,
     moved: u64,
 ) -> Outcome
-    requires { ⌜ InFile (now file) job × Keyed (now table) × (length (now image) ≡ length (now file)) × Begins (job .layout .«dynamic_relocations» .count) (slices (now keys) (now indices) (now kinds) (now starts) (now lengths)) rows held moved ⌝ }
-    ensures { λ r. ⌜ Settles (relocationsTrace (now (file .entry)) (now (builtins .entry)) job (now (image .entry))) (now (image .exit)) (slices (now (keys .entry)) (now (indices .entry)) (now (kinds .entry)) (now (starts .entry)) (now (lengths .entry))) (slices (now (keys .exit)) (now (indices .exit)) (now (kinds .exit)) (now (starts .exit)) (now (lengths .exit))) (job .layout .«dynamic_relocations» .count) held moved r ⌝ }
+    requires { ⌜ PartAsks (relocationCount job) file table job image keys indices kinds starts lengths rows held moved ⌝ }
+    ensures { λ r. ⌜ FileSettles relocationsTrace file builtins job (now (image .entry)) image keys indices kinds starts lengths (relocationCount job) held moved r ⌝ }
 {
     let layout = job.layout;
     let version2 = job.version2;

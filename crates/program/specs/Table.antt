@@ -5,6 +5,8 @@ use mathlib.Core.Bool.{Bool, false}
 use mathlib.Core.List.{List, [], _∷_, _++_, map}
 use lib.ListN.{length, getD, set, replicate, take, drop}
 use lib.Dec.{ltb, leb, eqb}
+use denote.Triple.Both.{Both}
+use denote.Ref.{RefT, now}
 use Rattle.ebpf.specs.Choice.{_if_else_}
 use Rattle.program.specs.Search.{halves}
 use Rattle.program.specs.Rows.{rank, Ascending, find, register, registered, remove, unregister}
@@ -25,6 +27,20 @@ pub record Slices : Type 0 where
 
 abbrev pub slices : List ℕ → List ℕ → List ℕ → List ℕ → List ℕ → Slices
 slices a b c d e = record { keys = a; indices = b; kinds = c; starts = d; lengths = e }
+
+-- a lent slice, at the call and on return
+abbrev pub Lent : Type 0
+Lent = Both (RefT (List ℕ)) (RefT (List ℕ))
+
+-- the table that five lent slices hold: in a `requires`; in an `ensures` at the call, and on return
+abbrev pub tableOf : RefT (List ℕ) → RefT (List ℕ) → RefT (List ℕ) → RefT (List ℕ) → RefT (List ℕ) → Slices
+tableOf k i n s l = slices (now k) (now i) (now n) (now s) (now l)
+
+abbrev pub tableBefore : Lent → Lent → Lent → Lent → Lent → Slices
+tableBefore k i n s l = slices (now (k .entry)) (now (i .entry)) (now (n .entry)) (now (s .entry)) (now (l .entry))
+
+abbrev pub tableAfter : Lent → Lent → Lent → Lent → Lent → Slices
+tableAfter k i n s l = slices (now (k .exit)) (now (i .exit)) (now (n .exit)) (now (s .exit)) (now (l .exit))
 
 unfoldable pub least : ℕ → ℕ → ℕ → ℕ → ℕ → ℕ
 least a b c d e = min a (min b (min c (min d e)))

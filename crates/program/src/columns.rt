@@ -3,7 +3,7 @@ use crate::Row;
 ghost use mathlib.Core.Path.{_≡_};
 ghost use Prim.Native.Nat.{_+_, _≤_, _<_, min};
 ghost use lib.ListN.{length};
-ghost use Rattle.program.specs.Table.{Least, Within, slices, opened, closed, openedRow, openedAlike, closedRow};
+ghost use Rattle.program.specs.Table.{Least, Within, opened, closed, openedRow, openedAlike, closedRow, tableBefore, tableAfter, tableOf};
 
 pub(crate) fn smaller(a: usize, b: usize) -> usize
     ensures { λ r. ⌜ r ≡ min a b ⌝ }
@@ -62,8 +62,8 @@ pub(crate) fn open_row(
     n: usize,
     row: Row,
 )
-    requires { ⌜ (at ≤ n) × Within (n + 1) (slices (now keys) (now indices) (now kinds) (now starts) (now lengths)) ⌝ }
-    ensures { λ _. ⌜ slices (now (keys .exit)) (now (indices .exit)) (now (kinds .exit)) (now (starts .exit)) (now (lengths .exit)) ≡ openedRow at n row (slices (now (keys .entry)) (now (indices .entry)) (now (kinds .entry)) (now (starts .entry)) (now (lengths .entry))) ⌝ }
+    requires { ⌜ (at ≤ n) × Within (n + 1) (tableOf keys indices kinds starts lengths) ⌝ }
+    ensures { λ _. ⌜ tableAfter keys indices kinds starts lengths ≡ openedRow at n row (tableBefore keys indices kinds starts lengths) ⌝ }
 {
     open_at(keys, at, n, row.key);
     open_at(indices, at, n, row.index);
@@ -84,8 +84,8 @@ pub(crate) fn open_alike(
     n: usize,
     row: Row,
 )
-    requires { ⌜ (at ≤ n) × Within (n + 1) (slices (now keys) (now indices) (now kinds) (now starts) (now lengths)) ⌝ }
-    ensures { λ _. ⌜ slices (now (keys .exit)) (now (indices .exit)) (now (kinds .exit)) (now (starts .exit)) (now (lengths .exit)) ≡ openedAlike at n row (slices (now (keys .entry)) (now (indices .entry)) (now (kinds .entry)) (now (starts .entry)) (now (lengths .entry))) ⌝ }
+    requires { ⌜ (at ≤ n) × Within (n + 1) (tableOf keys indices kinds starts lengths) ⌝ }
+    ensures { λ _. ⌜ tableAfter keys indices kinds starts lengths ≡ openedAlike at n row (tableBefore keys indices kinds starts lengths) ⌝ }
 {
     open_at(keys, at, n, row.key);
     open_at(indices, at, n, row.index);
@@ -104,8 +104,8 @@ pub(crate) fn close_row(
     at: usize,
     n: usize,
 )
-    requires { ⌜ (at < n) × Within n (slices (now keys) (now indices) (now kinds) (now starts) (now lengths)) ⌝ }
-    ensures { λ _. ⌜ slices (now (keys .exit)) (now (indices .exit)) (now (kinds .exit)) (now (starts .exit)) (now (lengths .exit)) ≡ closedRow at n (slices (now (keys .entry)) (now (indices .entry)) (now (kinds .entry)) (now (starts .entry)) (now (lengths .entry))) ⌝ }
+    requires { ⌜ (at < n) × Within n (tableOf keys indices kinds starts lengths) ⌝ }
+    ensures { λ _. ⌜ tableAfter keys indices kinds starts lengths ≡ closedRow at n (tableBefore keys indices kinds starts lengths) ⌝ }
 {
     close_at(keys, at, n);
     close_at(indices, at, n);

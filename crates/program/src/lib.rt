@@ -1,7 +1,7 @@
 // The function registry: the port of src/program.rs. A table of rows in five lent slices, ascending
 // by key, with zeros behind the used rows; it has as many rows as the shortest slice has numbers.
 ghost use mathlib.Core.Path.{_≡_};
-ghost use Rattle.program.specs.Table.{slices, registerIn, lookupIn, Registers, RegistersAlike, Unregisters};
+ghost use Rattle.program.specs.Table.{registerIn, lookupIn, Registers, RegistersAlike, Unregisters, tableBefore, tableAfter};
 
 mod columns;
 mod hashed_legacy;
@@ -96,7 +96,7 @@ fn answer_of(
     used: usize,
     row: Row,
 ) -> Registered
-    ensures { λ r. ⌜ r ≡ registerIn (slices (now (keys .entry)) (now (indices .entry)) (now (kinds .entry)) (now (starts .entry)) (now (lengths .entry))) used row ⌝ }
+    ensures { λ r. ⌜ r ≡ registerIn (tableBefore keys indices kinds starts lengths) used row ⌝ }
 {
     let key = row.key;
     let index = row.index;
@@ -134,7 +134,7 @@ pub fn register_function(
     used: usize,
     row: Row,
 ) -> Registered
-    ensures { λ r. ⌜ Registers (slices (now (keys .entry)) (now (indices .entry)) (now (kinds .entry)) (now (starts .entry)) (now (lengths .entry))) (slices (now (keys .exit)) (now (indices .exit)) (now (kinds .exit)) (now (starts .exit)) (now (lengths .exit))) used row r ⌝ }
+    ensures { λ r. ⌜ Registers (tableBefore keys indices kinds starts lengths) (tableAfter keys indices kinds starts lengths) used row r ⌝ }
 {
     let answer = answer_of(keys, indices, kinds, starts, lengths, used, row);
     let Registered::Inserted(moves) = answer else {
@@ -165,7 +165,7 @@ pub fn register_alike(
     used: usize,
     row: Row,
 ) -> Registered
-    ensures { λ r. ⌜ RegistersAlike (slices (now (keys .entry)) (now (indices .entry)) (now (kinds .entry)) (now (starts .entry)) (now (lengths .entry))) (slices (now (keys .exit)) (now (indices .exit)) (now (kinds .exit)) (now (starts .exit)) (now (lengths .exit))) used row r ⌝ }
+    ensures { λ r. ⌜ RegistersAlike (tableBefore keys indices kinds starts lengths) (tableAfter keys indices kinds starts lengths) used row r ⌝ }
 {
     let answer = answer_of(keys, indices, kinds, starts, lengths, used, row);
     let Registered::Inserted(moves) = answer else {
@@ -195,7 +195,7 @@ pub fn unregister_function(
     used: usize,
     key: u32,
 ) -> Removed
-    ensures { λ r. ⌜ Unregisters (slices (now (keys .entry)) (now (indices .entry)) (now (kinds .entry)) (now (starts .entry)) (now (lengths .entry))) (slices (now (keys .exit)) (now (indices .exit)) (now (kinds .exit)) (now (starts .exit)) (now (lengths .exit))) used key r ⌝ }
+    ensures { λ r. ⌜ Unregisters (tableBefore keys indices kinds starts lengths) (tableAfter keys indices kinds starts lengths) used key r ⌝ }
 {
     let rows = columns::rows_lent(
         keys.len(),
@@ -227,7 +227,7 @@ pub fn lookup_by_key(
     used: usize,
     key: u32,
 ) -> Found
-    ensures { λ r. ⌜ r ≡ lookupIn (slices (now (keys .entry)) (now (indices .entry)) (now (kinds .entry)) (now (starts .entry)) (now (lengths .entry))) used key ⌝ }
+    ensures { λ r. ⌜ r ≡ lookupIn (tableBefore keys indices kinds starts lengths) used key ⌝ }
 {
     let rows = columns::rows_lent(
         keys.len(),

@@ -30,15 +30,16 @@ abbrev whole : tie.Start → Loading
 whole s = loadOf (now (s .args .file)) (now (s .args .builtins)) (s .args .config) (length (s .args .image .now)) (length (s .args .«ro-section» .now)) (capacity (T s))
 
 -- demand 3 follows from the rest
-both : (s : tie.Start) (im ro : List ℕ) (t : Slices) (a : Load) → Loaded (whole s) (s .args .image .now) (s .args .«ro-section» .now) (T s) im ro t a
-    → Loaded (whole s) (s .args .image .now) (s .args .«ro-section» .now) (T s) im ro t a × Demand3 (now (s .args .file)) (now (s .args .builtins)) (s .args .config) (length (s .args .image .now)) (length (s .args .«ro-section» .now)) (T s) im t a
-both s im ro t a l = (l, demanded (now (s .args .file)) (now (s .args .builtins)) (s .args .config) (s .args .image .now) (s .args .«ro-section» .now) (T s) im ro t a l)
+demands : (s : tie.Start) (im ro : List ℕ) (t : Slices) (a : Load) → Loaded (whole s) (s .args .image .now) (s .args .«ro-section» .now) (T s) im ro t a
+    → Demand3 (now (s .args .file)) (now (s .args .builtins)) (s .args .config) (length (s .args .image .now)) (length (s .args .«ro-section» .now)) (T s) im t a
+demands s im ro t a l = demanded (now (s .args .file)) (now (s .args .builtins)) (s .args .config) (s .args .image .now) (s .args .«ro-section» .now) (T s) im ro t a l
 
 returns : tie.Need-returns
 returns c =
     let p = c .before .before .before .before .before .before .before .before .before .before .before .before .before .before .before .before .before in
     let s = st p in
-    both s (p .attempt .last .0) (p .attempt .last .1 .0) (T₁ p) _ (load-held (whole s) (s .args .image .now) (s .args .«ro-section» .now) (T s) (p .attempt .last .0) (p .attempt .last .1 .0) (T₁ p) (p .attempt .result) (p .attempt .ensures) _ (c .before .a .given .1))
+    let l = load-held (whole s) (s .args .image .now) (s .args .«ro-section» .now) (T s) (p .attempt .last .0) (p .attempt .last .1 .0) (T₁ p) (p .attempt .result) (p .attempt .ensures) _ (c .before .a .given .1) in
+    record { loaded = l; keyed = demands s (p .attempt .last .0) (p .attempt .last .1 .0) (T₁ p) _ l }
 
 returns-2 : tie.Need-returns-2
 returns-2 c =
@@ -46,9 +47,11 @@ returns-2 c =
     let p = c .before .before .before .before .before .before .before .before .before .before .before .before .before .before .before .before .before .before .before .before .before .before .before .before .before .before .before .before .before .before .before .before .before .before .before .before .before .before .before in
     let s = st p in
     let k = p .attempt .kept in
-    both s (q .clear-all .last .0) (q .clear-all .last .1 .0) (T₂ q) _
-    (load-refused (whole s) (s .args .image .now) (s .args .«ro-section» .now) (T s) (p .attempt .last .0) (p .attempt .last .1 .0) (T₁ p) (p .attempt .result) (p .attempt .ensures) (q .clear-all .last .0) (q .clear-all .last .1 .0) (T₂ q) _ (c .before .before .before .before .before .before .before .before .before .before .before .before .before .before .before .before .before .before .before .before .before .before .before .r .given .1)
-    (k .0) (k .1 .0) (record { keys-as = k .1 .1 .0; indices-as = k .1 .1 .1 .0; kinds-as = k .1 .1 .1 .1 .0; starts-as = k .1 .1 .1 .1 .1 .0; lengths-as = k .1 .1 .1 .1 .1 .1 .0 }) (q .clear-all .ensures))
+    let l =
+    load-refused (whole s) (s .args .image .now) (s .args .«ro-section» .now) (T s) (p .attempt .last .0) (p .attempt .last .1 .0) (T₁ p) (p .attempt .result) (p .attempt .ensures) (q .clear-all .last .0) (q .clear-all .last .1 .0) (T₂ q) _ (c .before .before .before .before .before .before .before .before .before .before .before .before .before .before .before .before .before .before .before .before .before .before .before .r .given .1)
+    (k .0) (k .1 .0) (record { keys-as = k .1 .1 .0; indices-as = k .1 .1 .1 .0; kinds-as = k .1 .1 .1 .1 .0; starts-as = k .1 .1 .1 .1 .1 .0; lengths-as = k .1 .1 .1 .1 .1 .1 .0 }) (q .clear-all .ensures)
+    in
+    record { loaded = l; keyed = demands s (q .clear-all .last .0) (q .clear-all .last .1 .0) (T₂ q) _ l }
 
 pub load-spec : {M : Type 1} → statement M
 load-spec =

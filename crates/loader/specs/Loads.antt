@@ -1,0 +1,20 @@
+-- What `load` promises.
+use mathlib.Core.List.{List}
+use denote.Ref.{now}
+use lib.ListN.{length}
+use Rattle.program.specs.Table.{Lent, tableBefore, tableAfter}
+use Rattle.loader.specs.declared.answer.Load.{Load}
+use Rattle.loader.specs.declared.validate.Config.{Config}
+use Rattle.loader.specs.Load.{loadOfLent, Loaded}
+use Rattle.loader.specs.Demand.{Demand3}
+
+-- WHAT `load` PROMISES, for every file, list of built-in keys and settings, whatever the lent image, read-only buffer and the five columns of the table
+-- hold at the call (`.entry`); `.exit` is what they hold on return, and a is the answer
+pub record Loads (file builtins : Lent) (c : Config) (image ro keys indices kinds starts lengths : Lent) (a : Load) : Type 0 where
+  -- the answer and, by demand 1, every lent byte and number: what comes of the load, whole or only zeros
+  pub loaded : Loaded (loadOfLent file builtins c image ro keys indices kinds starts lengths)
+      (now (image .entry)) (now (ro .entry)) (tableBefore keys indices kinds starts lengths)
+      (now (image .exit)) (now (ro .exit)) (tableAfter keys indices kinds starts lengths) a
+  -- demand 3: calls, keys and bytes of an accepted load; collisions and full tables
+  pub keyed : Demand3 (now (file .entry)) (now (builtins .entry)) c (length (now (image .entry))) (length (now (ro .entry))) (tableBefore keys indices kinds starts lengths)
+      (now (image .exit)) (tableAfter keys indices kinds starts lengths) a
