@@ -18,6 +18,11 @@ pub key-in : (table : List ℕ) (n i : ℕ) → table ≡ firstKeys n → keyIn 
 unfolding keyIn firstKeys
 key-in table n i e = rw e (simp zero-add at (from indexKey n 0 i))
 
+-- no table at all gives every index its key too
+pub key-in-none : (i : ℕ) → keyIn [] i ≡ indexKey i
+unfolding keyIn
+key-in-none i = refl
+
 -- what a table answers, in the shapes of the code
 pub inside : (table : List ℕ) (i : ℕ) → i < length table → getD table i 0 ≡ keyIn table i
 unfolding keyIn

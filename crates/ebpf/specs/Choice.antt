@@ -33,6 +33,12 @@ module _ {A : Type 0} where
   row-rest true x y z h e = absurd (h e)
   row-rest false x y z h e = e
 
+  -- a choice by its two sides
+  pub row-cases : (b : Bool) (x y z : A) (G : Type 0) → (b ≡ true → x ≡ z → G) → (b ≡ false → y ≡ z → G) → (x if b else y) ≡ z → G
+  unfolding _if_else_
+  row-cases true x y z G f g e = f refl e
+  row-cases false x y z G f g e = g refl e
+
 -- what a joined test says of its parts
 pub and-left : (a b : Bool) → (a && b) ≡ true → a ≡ true
 and-left true b e = refl

@@ -1,14 +1,14 @@
 -- Records by index, and the contents of sections. In a layout that no parse made, a place outside the file is refused.
 use Prim.Native.Nat.{ℕ, _+_, _*_, _/_, _%_, _≤_}
-use mathlib.Core.Bool.{_&&_, not}
+use mathlib.Core.Bool.{Bool, true, false, _&&_, not}
 use mathlib.Core.List.{List}
-use mathlib.Core.Path.{_≡_}
+use mathlib.Core.Path.{_≡_, refl}
 use lib.ListN.{length}
 use lib.Dec.{ltb, leb, eqb}
-use borrow.Author.Tests.{ltb-false}
+use borrow.Author.Tests.{ltb-false, le-ltb}
 use native.Mathlib.Nat.{div-add-mod}
 use native.Mathlib.Omega.{arith}
-use Rattle.ebpf.specs.Choice.{_if_else_, not-first, row-rest, pastWord}
+use Rattle.ebpf.specs.Choice.{_if_else_, not-first, row-rest, row-cases, pastWord}
 use Rattle.elf_parser.specs.declared.error.ElfParserError.{ElfParserError}
 use Rattle.elf_parser.specs.declared.error.ElfParserError.the-variants.{OutOfBounds, InvalidSize, InvalidAlignment, InvalidSectionHeader, NoSuchIndex}
 use Rattle.elf_parser.specs.declared.parts.Place.{Place}
@@ -28,6 +28,7 @@ use Rattle.elf_parser.specs.declared.records.Sym.{Sym}
 use Rattle.elf_parser.specs.declared.records.Sym.the-variants.{Symbol, Refused as NoSym}
 use Rattle.elf_parser.specs.declared.records.Rel.{Rel}
 use Rattle.elf_parser.specs.declared.records.Rel.the-variants.{Relocation, Refused as NoRel}
+use Rattle.elf_parser.specs.Parts.{no-place}
 use Rattle.elf_parser.specs.Types.{programHeader, sectionHeader, sym, rel, SHT-SYMTAB, SHT-DYNSYM, SHT-NOBITS}
 
 -- where an entry of a table starts, the entries `width` bytes each
@@ -103,19 +104,23 @@ symbolTableOf s l =
     NoSlice OutOfBounds if ltb (length s) (l .symtab + 64) else
     symbolTableIn (length s) (sectionHeader s (l .symtab))
 
--- where a section's contents stand
-unfoldable pub contentsPlace : ℕ → Elf64Shdr → Place
-contentsPlace len h =
+-- where a section's bytes stand in the file: none for NOBITS
+unfoldable pub fileRange : ℕ → Elf64Shdr → Place
+fileRange len h =
     Stands 0 0 if eqb (h .«sh_type») SHT-NOBITS else
     NoPlace OutOfBounds if ltb len (h .«sh_offset» + h .«sh_size») else
     Stands (h .«sh_offset») (h .«sh_size»)
 
-abbrev pub placeBy : ℕ → Shdr → Place
-placeBy len (SHeader h) = contentsPlace len h
-placeBy len (NoShdr r) = NoPlace r
+abbrev pub rangeBy : ℕ → Shdr → Place
+rangeBy len (SHeader h) = fileRange len h
+rangeBy len (NoShdr r) = NoPlace r
 
+abbrev pub fileRangeOf : List ℕ → Layout → ℕ → Place
+fileRangeOf s l index = rangeBy (length s) (sectionHeaderOf s l index)
+
+-- contents by index
 abbrev pub sectionPlaceOf : List ℕ → Layout → ℕ → Place
-sectionPlaceOf s l index = placeBy (length s) (sectionHeaderOf s l index)
+sectionPlaceOf s l index = fileRangeOf s l index
 
 -- ---- laws
 
@@ -153,3 +158,52 @@ slice-in-file len offset size width x e =
 pub symbol-table-in-file : (len : ℕ) (h : Elf64Shdr) → InFile len 24 (symbolTableIn len h)
 unfolding symbolTableIn
 symbol-table-in-file len h x e = slice-in-file len (h .«sh_offset») (h .«sh_size») 24 x (row-rest _ _ _ _ (no-slice _ _) e)
+
+pub symbol-table-few : (s : List ℕ) (l : Layout) (x : Entries) → symbolTableOf s l ≡ Slice x → 24 * x .count ≤ length s
+unfolding symbolTableOf
+symbol-table-few s l x e =
+    row-cases _ _ _ _ _
+    (λ b q. let p : 0 ≡ x .count = cc in omega (arith, p))
+    (λ b q. omega (arith, symbol-table-in-file (length s) (sectionHeader s (l .symtab)) x (row-rest _ _ _ _ (no-slice _ _) q)))
+    e
+
+-- a section's bytes: where the whole range lies in the file, they are that range or none
+pub range-stands : (len : ℕ) (h : Elf64Shdr) → h .«sh_offset» + h .«sh_size» ≤ len
+    → fileRange len h ≡ Stands (0 if eqb (h .«sh_type») SHT-NOBITS else h .«sh_offset») (0 if eqb (h .«sh_type») SHT-NOBITS else h .«sh_size»)
+unfolding fileRange _if_else_
+range-stands len h lies = rw (le-ltb len (h .«sh_offset» + h .«sh_size») lies) (go (eqb (h .«sh_type») SHT-NOBITS))
+  where
+    go : (b : Bool) → (Stands 0 0 if b else Stands (h .«sh_offset») (h .«sh_size»)) ≡ Stands (0 if b else h .«sh_offset») (0 if b else h .«sh_size»)
+    go true = refl
+    go false = refl
+
+-- their end stays in the file also from the section's own offset on
+pub range-lies : (len : ℕ) (h : Elf64Shdr) (start k : ℕ) → h .«sh_offset» + h .«sh_size» ≤ len → fileRange len h ≡ Stands start k → h .«sh_offset» + k ≤ len
+unfolding fileRange
+range-lies len h start k lies e =
+    row-cases _ _ _ _ _
+    (λ b q. let r : 0 ≡ k = cc in omega (arith, r, lies))
+    (λ b q. let p = row-rest _ _ _ _ (no-place _ _ _) q in let r : h .«sh_size» ≡ k = cc in omega (arith, r, lies))
+    e
+
+range-in : (len : ℕ) (h : Elf64Shdr) (start k : ℕ) → fileRange len h ≡ Stands start k → start + k ≤ len
+unfolding fileRange
+range-in len h start k e =
+    row-cases _ _ _ _ _
+    (λ b q. let p : 0 ≡ start = cc in let r : 0 ≡ k = cc in omega arith)
+    (λ b q. row-cases _ _ _ _ _ (λ c p. absurd (no-place _ _ _ p)) (λ c p. last c p) q)
+    e
+  where
+    last : ltb len (h .«sh_offset» + h .«sh_size») ≡ false → Stands (h .«sh_offset») (h .«sh_size») ≡ Stands start k → start + k ≤ len
+    last c p =
+        let a : h .«sh_offset» ≡ start = cc in
+        let b : h .«sh_size» ≡ k = cc in
+        omega (arith, ltb-false len (h .«sh_offset» + h .«sh_size») c)
+
+-- and they lie in the file
+pub range-within : (s : List ℕ) (l : Layout) (index start k : ℕ) → fileRangeOf s l index ≡ Stands start k → start + k ≤ length s
+range-within s l index start k e = go (sectionHeaderOf s l index) e
+  where
+    go : (h : Shdr) → rangeBy (length s) h ≡ Stands start k → start + k ≤ length s
+    go (SHeader h) q = range-in (length s) h start k q
+    go (NoShdr r) q = absurd (no-place _ _ _ q)

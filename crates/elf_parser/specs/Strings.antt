@@ -15,6 +15,7 @@ use Rattle.elf_parser.specs.declared.parts.Place.{Place}
 use Rattle.elf_parser.specs.declared.parts.Place.the-variants.{At, Refused as NoPlace}
 use Rattle.elf_parser.specs.declared.types.Elf64Shdr.{Elf64Shdr}
 use Rattle.elf_parser.specs.Errors.{apart}
+use Rattle.elf_parser.specs.Parts.{no-place}
 use Rattle.elf_parser.specs.Types.{SHT-STRTAB}
 
 -- where the bytes end that are searched: at the limit or the table's end
@@ -104,7 +105,18 @@ terminated-within n s from start k e = go (ltb (beforeZero n s from) n) refl e
         let p : from ≡ start = cc in
         let r : beforeZero n s from ≡ k = cc in
         omega (arith, ltb-true (beforeZero n s from) n h)
-    go false h q = let z : _≡_ {A = ℕ} 0 1 = cc in omega arith
+    go false h q = absurd (no-place _ _ _ q)
+
+-- and has fewer bytes than were searched
+terminated-short : (n : ℕ) (s : List ℕ) (from start k : ℕ) → terminated n s from ≡ At start k → k < n
+unfolding terminated _if_else_
+terminated-short n s from start k e = go (ltb (beforeZero n s from) n) refl e
+  where
+    go : (b : Bool) → ltb (beforeZero n s from) n ≡ b → (At from (beforeZero n s from) if b else NoPlace (StringTooLong from (beforeZero n s from))) ≡ At start k → k < n
+    go true h q =
+        let r : beforeZero n s from ≡ k = cc in
+        omega (arith, ltb-true (beforeZero n s from) n h)
+    go false h q = absurd (no-place _ _ _ q)
 
 pub string-within : (s : List ℕ) (h : Elf64Shdr) (offset most start k : ℕ) → stringIn s h offset most ≡ At start k → start + k < length s
 unfolding stringIn gives
@@ -115,4 +127,14 @@ string-within s h offset most start k e = go (stringCheck (length s) (h .«sh_ty
         → gives d (terminated (searchEnd (h .«sh_offset») (h .«sh_size») offset most - (h .«sh_offset» + offset)) s (h .«sh_offset» + offset)) ≡ At start k
         → start + k < length s
     go Pass p q = omega (arith, terminated-within _ _ _ _ _ q, readable _ _ _ _ _ _ p)
-    go (Refused r) p q = let z : _≡_ {A = ℕ} 0 1 = cc in omega arith
+    go (Refused r) p q = absurd (no-place _ _ _ q)
+
+pub string-short : (s : List ℕ) (h : Elf64Shdr) (offset most start k : ℕ) → stringIn s h offset most ≡ At start k → k < most
+unfolding stringIn gives
+string-short s h offset most start k e = go (stringCheck (length s) (h .«sh_type») (h .«sh_offset») (h .«sh_size») offset most) e
+  where
+    go : (d : Check)
+        → gives d (terminated (searchEnd (h .«sh_offset») (h .«sh_size») offset most - (h .«sh_offset» + offset)) s (h .«sh_offset» + offset)) ≡ At start k
+        → k < most
+    go Pass q = omega (arith, terminated-short _ _ _ _ _ q)
+    go (Refused r) q = absurd (no-place _ _ _ q)

@@ -12,7 +12,7 @@ pub enum Place {
 }
 
 // The bytes at a place; none where it is refused, or does not lie in the file.
-pub(crate) fn part_of(file: &[u8], place: Place) -> &[u8]
+pub fn part_of(file: &[u8], place: Place) -> &[u8]
     ensures { λ r. ⌜ now r ≡ partOf (now (file .entry)) place ⌝ }
 {
     let len = file.len();

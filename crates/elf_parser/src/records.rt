@@ -18,7 +18,7 @@ use crate::types::shdr_at;
 use crate::types::sym_at;
 ghost use mathlib.Core.Path.{_≡_};
 ghost use Prim.Native.Nat.{_+_, _≤_, _<_};
-ghost use Rattle.elf_parser.specs.Records.{entryAt, phdrOf, shdrOf, symOf, relOf, programHeaderOf, sectionHeaderOf, dynamicSymbolOf, dynamicRelocationOf, sliced, symbolTableIn, symbolTableOf, contentsPlace, sectionPlaceOf};
+ghost use Rattle.elf_parser.specs.Records.{entryAt, phdrOf, shdrOf, symOf, relOf, programHeaderOf, sectionHeaderOf, dynamicSymbolOf, dynamicRelocationOf, sliced, symbolTableIn, symbolTableOf, fileRange, fileRangeOf, sectionPlaceOf};
 ghost use Rattle.elf_parser.specs.Parts.{partOf};
 
 // Entries of one kind that stand one after another in the file.
@@ -190,8 +190,8 @@ pub fn symbol_table(file: &[u8], layout: Layout) -> Sliced
 }
 
 // A section of type SHT_NOBITS has no bytes in the file.
-fn contents_place(len: u64, header: Elf64Shdr) -> Place
-    ensures { λ r. ⌜ r ≡ contentsPlace len header ⌝ }
+fn range_in_file(len: u64, header: Elf64Shdr) -> Place
+    ensures { λ r. ⌜ r ≡ fileRange len header ⌝ }
 {
     if header.sh_type == SHT_NOBITS {
         return Place::At {
@@ -208,14 +208,21 @@ fn contents_place(len: u64, header: Elf64Shdr) -> Place
     }
 }
 
+// Where the bytes of section `index` stand in the file.
+pub fn file_range(file: &[u8], layout: Layout, index: u32) -> Place
+    ensures { λ r. ⌜ r ≡ fileRangeOf (now (file .entry)) layout index ⌝ }
+{
+    match section_header(file, layout, index) {
+        Shdr::Header(header) => range_in_file(file.len() as u64, header),
+        Shdr::Refused(r) => Place::Refused(r),
+    }
+}
+
 // Where the contents of section `index` stand.
 pub fn section_place(file: &[u8], layout: Layout, index: u32) -> Place
     ensures { λ r. ⌜ r ≡ sectionPlaceOf (now (file .entry)) layout index ⌝ }
 {
-    match section_header(file, layout, index) {
-        Shdr::Header(header) => contents_place(file.len() as u64, header),
-        Shdr::Refused(r) => Place::Refused(r),
-    }
+    file_range(file, layout, index)
 }
 
 // The contents of section `index`; none where they are refused.

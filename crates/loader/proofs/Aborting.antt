@@ -9,7 +9,7 @@ use mathlib.Core.Logic.{⊎-elim, _↔_}
 use mathlib.Core.Bool.{Bool, true, false, not, true≢false}
 use mathlib.Core.List.{List}
 use lib.ListN.{length}
-use lib.Dec.{ltb, eqb}
+use lib.Dec.{eqb}
 use borrow.Author.Tests.{ltb-false, lt-ltb, le-ltb, le-leb, lt-leb, not-false}
 use Rattle.ebpf.specs.Choice.{_if_else_, yes, no-go, not-first, row-rest, or-false, and-false}
 use Rattle.elf_parser.specs.declared.types.Elf64Ehdr.{Elf64Ehdr}
@@ -22,7 +22,7 @@ use Rattle.elf_parser.specs.declared.records.Shdr.{Shdr}
 use Rattle.elf_parser.specs.declared.records.Shdr.the-variants.{Header, Refused as NoShdr}
 use Rattle.elf_parser.specs.Types.{fileHeader, SHT-NOBITS}
 use Rattle.elf_parser.specs.Parse.{parsed}
-use Rattle.elf_parser.specs.Records.{contentsPlace, placeBy, sectionHeaderOf, sectionPlaceOf}
+use Rattle.elf_parser.specs.Records.{rangeBy, sectionHeaderOf, fileRangeOf, range-stands}
 use Rattle.elf_parser.specs.SectionNames.{sameBytes}
 use Rattle.program.proofs.Cases.{by-test, by-le}
 use Rattle.loader.specs.declared.answer.Accepted.{Accepted}
@@ -95,13 +95,8 @@ text-read-only name e = rw e refl
 -- ---- the text's bytes have a place: no section without a header holds the entry
 
 text-stands : (len e : ℕ) (h : Shdr) → e < headerOr h .«sh_addr» + headerOr h .«sh_size» → headerOr h .«sh_offset» + headerOr h .«sh_size» ≤ len
-    → placeBy len h ≡ Stands (0 if eqb (headerOr h .«sh_type») SHT-NOBITS else headerOr h .«sh_offset») (0 if eqb (headerOr h .«sh_type») SHT-NOBITS else headerOr h .«sh_size»)
-unfolding contentsPlace _if_else_
-text-stands len e (Header h) below lies =
-    let f : ltb len (h .«sh_offset» + h .«sh_size») ≡ false = le-ltb _ _ lies in
-    rw f (by-test (eqb (h .«sh_type») SHT-NOBITS)
-    (λ b. (Stands 0 0 if b else Stands (h .«sh_offset») (h .«sh_size»)) ≡ Stands (0 if b else h .«sh_offset») (0 if b else h .«sh_size»))
-    (λ b. refl) (λ b. refl))
+    → rangeBy len h ≡ Stands (0 if eqb (headerOr h .«sh_type») SHT-NOBITS else headerOr h .«sh_offset») (0 if eqb (headerOr h .«sh_type») SHT-NOBITS else headerOr h .«sh_size»)
+text-stands len e (Header h) below lies = range-stands len h lies
 text-stands len e (NoShdr r) below lies = absurd (omega (arith, below))
 
 -- ---- the checks
@@ -144,7 +139,7 @@ record Texts (s : List ℕ) (c : Config) (j : Job) : Type 0 where
   index : ℕ
   listed : index < fileHeader s .«e_shnum»
   named : readOnly (nameOf s (j .layout) (sectionAt s (j .layout) index)) ≡ true
-  stands : sectionPlaceOf s (j .layout) index ≡ Stands (j .start) (j .length)
+  stands : fileRangeOf s (j .layout) index ≡ Stands (j .start) (j .length)
   addr-is : j .«sh_addr» ≡ sectionAt s (j .layout) index .«sh_addr»
   machine : j .addr ≡ machineAddr (j .version2) (j .«sh_addr»)
   low : j .version2 ≡ false → j .«sh_addr» ≤ MM-PROGRAM-START

@@ -10,7 +10,7 @@ use Rattle.ebpf.specs.Choice.{_if_else_}
 use Rattle.elf_parser.specs.declared.layout.Layout.{Layout}
 use Rattle.elf_parser.specs.declared.parts.Place.{Place}
 use Rattle.elf_parser.specs.declared.parts.Place.the-variants.{At, Refused as NoPlace}
-use Rattle.elf_parser.specs.Records.{sectionPlaceOf}
+use Rattle.elf_parser.specs.Records.{fileRangeOf}
 use Rattle.loader.specs.declared.read_only.Placing.the-variants.{Owned}
 use Rattle.loader.specs.Sections.{sectionAt, nameOf}
 use Rattle.loader.specs.ReadOnly.{readOnly, placing, copyStep, copiedFrom}
@@ -27,9 +27,9 @@ module _ (image s : List ℕ) (l : Layout) (count : ℕ) (version2 reject-broken
   -- one section
   front-step : (i : ℕ) → i < count → (ro rest : List ℕ) → length ro ≡ n → copyStep image s l lowest i (ro ++ rest) ≡ copyStep image s l lowest i ro ++ rest
   unfolding copyStep _if_else_
-  front-step i below ro rest len = go (readOnly (nameOf s l (sectionAt s l i))) refl (sectionPlaceOf s l i) refl
+  front-step i below ro rest len = go (readOnly (nameOf s l (sectionAt s l i))) refl (fileRangeOf s l i) refl
     where
-      go : (b : Bool) → readOnly (nameOf s l (sectionAt s l i)) ≡ b → (p : Place) → sectionPlaceOf s l i ≡ p → copyStep image s l lowest i (ro ++ rest) ≡ copyStep image s l lowest i ro ++ rest
+      go : (b : Bool) → readOnly (nameOf s l (sectionAt s l i)) ≡ b → (p : Place) → fileRangeOf s l i ≡ p → copyStep image s l lowest i (ro ++ rest) ≡ copyStep image s l lowest i ro ++ rest
       go false e p q = rw e refl
       go true e (NoPlace r) q = rw (e, q) refl
       go true e (At start k) q =

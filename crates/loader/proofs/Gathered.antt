@@ -11,8 +11,7 @@ use mathlib.Core.List.{List}
 use lib.ListN.{length}
 use lib.Dec.{eqb}
 use borrow.Author.Tests.{ltb-false, eqb-true, le-leb, not-false, not-true}
-use Rattle.ebpf.specs.Choice.{_if_else_, not-first, row-rest, and-left, and-right, or-false, yes, and-false}
-use Rattle.elf_parser.specs.declared.error.ElfParserError.{ElfParserError}
+use Rattle.ebpf.specs.Choice.{_if_else_, not-first, row-rest, and-left, and-right, or-false, yes, and-false, row-cases}
 use Rattle.elf_parser.specs.declared.layout.Layout.{Layout}
 use Rattle.elf_parser.specs.declared.parts.Place.{Place}
 use Rattle.elf_parser.specs.declared.parts.Place.the-variants.{At, Refused as NoPlace}
@@ -20,7 +19,8 @@ use Rattle.elf_parser.specs.declared.records.Shdr.{Shdr}
 use Rattle.elf_parser.specs.declared.records.Shdr.the-variants.{Header, Refused as NoShdr}
 use Rattle.elf_parser.specs.declared.types.Elf64Shdr.{Elf64Shdr}
 use Rattle.elf_parser.specs.Loops.{Turn, goes, ends, _into_, over, not-ends}
-use Rattle.elf_parser.specs.Records.{contentsPlace, placeBy, sectionHeaderOf, sectionPlaceOf}
+use Rattle.elf_parser.specs.Parts.{no-place}
+use Rattle.elf_parser.specs.Records.{rangeBy, sectionHeaderOf, fileRangeOf, range-lies}
 use Rattle.program.proofs.Cases.{by-test}
 use Rattle.loader.specs.declared.error.ElfError.{ElfError}
 use Rattle.loader.specs.declared.read_only.Extent.{Extent}
@@ -30,7 +30,7 @@ use Rattle.loader.specs.declared.read_only.Placing.the-variants.{Borrowe
 use Rattle.loader.specs.Addresses.{MM-PROGRAM-START, MM-STACK-START}
 use Rattle.loader.specs.Sections.{headerOr, sectionAt, nameOf}
 use Rattle.loader.specs.ReadOnly.{readOnly, gives, invalidBy, endOf, grown, taken, takenAt, gatherStep, nothing, gatherTurn, gatherBy, gathered, fromStart, canBorrow, borrowed, owned, placed, placingBy, placing}
-use Rattle.loader.specs.Placed.{row-cases, Inside, no-owned, not-borrowed, no-next, end-ahead}
+use Rattle.loader.specs.Placed.{Inside, no-owned, not-borrowed, no-next, end-ahead}
 use Rattle.loader.proofs.Readied.{Lies}
 
 -- ---- rows and tests
@@ -122,19 +122,8 @@ grown-keeps false i addr offset n len x lies ahead s = grown-plain i addr offset
 -- ---- where a section stands that was taken
 
 -- its bytes end in the file where its whole range does
-no-place : (r : ElfParserError) (a n : ℕ) → NoPlace r ≡ At a n → ⊥
-no-place r a n p = let z : _≡_ {A = ℕ} 0 1 = cc in omega arith
-
-place-lies : (len : ℕ) (h : Elf64Shdr) (start k : ℕ) → h .«sh_offset» + h .«sh_size» ≤ len → contentsPlace len h ≡ At start k → h .«sh_offset» + k ≤ len
-unfolding contentsPlace
-place-lies len h start k lies e =
-    row-cases _ _ _ _ _
-    (λ b q. let r : 0 ≡ k = cc in omega (arith, r, lies))
-    (λ b q. let p = row-rest _ _ _ _ (no-place _ _ _) q in let r : h .«sh_size» ≡ k = cc in omega (arith, r, lies))
-    e
-
-by-lies : (len : ℕ) (h : Shdr) (start k : ℕ) → headerOr h .«sh_offset» + headerOr h .«sh_size» ≤ len → placeBy len h ≡ At start k → headerOr h .«sh_offset» + k ≤ len
-by-lies len (Header h) start k lies e = place-lies len h start k lies e
+by-lies : (len : ℕ) (h : Shdr) (start k : ℕ) → headerOr h .«sh_offset» + headerOr h .«sh_size» ≤ len → rangeBy len h ≡ At start k → headerOr h .«sh_offset» + k ≤ len
+by-lies len (Header h) start k lies e = range-lies len h start k lies e
 by-lies len (NoShdr r) start k lies e = absurd (no-place _ _ _ e)
 
 module _ (version2 : Bool) (i : ℕ) (h : Elf64Shdr) (n : ℕ) (x : Extent) where
@@ -166,10 +155,10 @@ pub record Spans (s : List ℕ) (l : Layout) (version2 : Bool) (t k i : ℕ) (x 
   pub shifts : Shifts version2 (length s) x
   pub text : t < i → Inside (sectionAt s l t) k x
 
-module _ (s : List ℕ) (l : Layout) (version2 reject-broken : Bool) (count t start k : ℕ) (lie : (i : ℕ) → i < count → Lies s l i) (named : readOnly (nameOf s l (sectionAt s l t)) ≡ true) (stands : sectionPlaceOf s l t ≡ At start k) where
+module _ (s : List ℕ) (l : Layout) (version2 reject-broken : Bool) (count t start k : ℕ) (lie : (i : ℕ) → i < count → Lies s l i) (named : readOnly (nameOf s l (sectionAt s l t)) ≡ true) (stands : fileRangeOf s l t ≡ At start k) where
   place-spans : (i : ℕ) (x z : Extent) → i < count
       → (p : Place)
-      → sectionPlaceOf s l i ≡ p
+      → fileRangeOf s l i ≡ p
       → takenAt version2 reject-broken i (sectionAt s l i) x p ≡ Next z
       → Spans s l version2 t k i x
       → Spans s l version2 t k (i + 1) z
@@ -190,16 +179,16 @@ module _ (s : List ℕ) (l : Layout) (version2 reject-broken : Bool) (count t st
       at-most : t < i + 1 → t ≤ i
       at-most lt = omega (arith, lt)
 
-      own : t ≡ i → (a b : ℕ) → sectionPlaceOf s l i ≡ At a b → sectionAt s l i .«sh_addr» ≤ MM-STACK-START → Inside (sectionAt s l t) k (grown version2 i (sectionAt s l i .«sh_addr») (sectionAt s l i .«sh_offset») b x)
+      own : t ≡ i → (a b : ℕ) → fileRangeOf s l i ≡ At a b → sectionAt s l i .«sh_addr» ≤ MM-STACK-START → Inside (sectionAt s l t) k (grown version2 i (sectionAt s l i .«sh_addr») (sectionAt s l i .«sh_offset») b x)
       own same a b at ahead =
-          let q : At start k ≡ At a b = sym stands ∙ ap (sectionPlaceOf s l) same ∙ at in
+          let q : At start k ≡ At a b = sym stands ∙ ap (fileRangeOf s l) same ∙ at in
           let r : k ≡ b = cc in
           rw (same, r) (grown-inside version2 i (sectionAt s l i) b x ahead)
   place-spans i x z below (NoPlace r) at e g = absurd (no-next _ _ e)
 
   step-spans : (i : ℕ) (x z : Extent) → i < count → gatherStep s l version2 reject-broken i x ≡ Next z → Spans s l version2 t k i x → Spans s l version2 t k (i + 1) z
   unfolding gatherStep
-  step-spans i x z below e g = row-cases _ _ _ _ _ (λ b q. passed b q) (λ b q. place-spans i x z below (sectionPlaceOf s l i) refl q g) e
+  step-spans i x z below e g = row-cases _ _ _ _ _ (λ b q. passed b q) (λ b q. place-spans i x z below (fileRangeOf s l i) refl q g) e
     where
       at-most : t < i + 1 → t ≤ i
       at-most lt = omega (arith, lt)

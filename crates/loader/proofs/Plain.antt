@@ -18,7 +18,7 @@ use Rattle.elf_parser.specs.declared.parts.Place.the-variants.{At, Refused as N
 use Rattle.elf_parser.specs.Loops.{Turn, goes, ends, _into_, over}
 use Rattle.elf_parser.specs.Names.{sectionName}
 use Rattle.elf_parser.specs.Parse.{parsed}
-use Rattle.elf_parser.specs.Records.{sectionPlaceOf}
+use Rattle.elf_parser.specs.Records.{fileRangeOf}
 use Rattle.elf_parser.specs.Types.{fileHeader}
 use Rattle.loader.specs.declared.error.ElfError.{ElfError}
 use Rattle.loader.specs.declared.error.ElfError.the-variants.{FailedToParse, EntrypointOutOfBounds, InvalidEntrypoint, UnresolvedSymbol, RelativeJumpOutOfBounds, SymbolHashCollision, WrongAbi, WrongMachine, NotOneTextSection, WritableSectionNotSupported, InvalidVirtualAddress, UnknownRelocation, WrongType, UnknownSymbol, ValueOutOfBounds, UnsupportedSBPFVersion, FileTooLong, BufferShort, BuiltinsNotAscending, TableFull, TextOutsideReadOnly}
@@ -165,7 +165,7 @@ taken-plain version2 reject-broken i h x (NoPlace r) = refl
 gather-plain : (s : List ℕ) (l : Layout) (version2 reject-broken : Bool) (i : ℕ) (x : Extent) → PlainGathering (gatherStep s l version2 reject-broken i x)
 unfolding gatherStep
 gather-plain s l version2 reject-broken i x =
-    picks PlainGathering _ _ _ (λ _. tt) (λ _. taken-plain version2 reject-broken i (sectionAt s l i) x (sectionPlaceOf s l i))
+    picks PlainGathering _ _ _ (λ _. tt) (λ _. taken-plain version2 reject-broken i (sectionAt s l i) x (fileRangeOf s l i))
 
 gathered-plain : (s : List ℕ) (l : Layout) (count : ℕ) (version2 reject-broken : Bool) → PlainGathering (gathered s l count version2 reject-broken)
 gathered-plain s l count version2 reject-broken =

@@ -5,7 +5,7 @@ use mathlib.Core.List.{List, []}
 use Prim.Native.Nat.{ℕ}
 use Rattle.ebpf.specs.Choice.{_if_else_}
 use Rattle.ebpf.specs.IndexKeys.{keyIn, firstKeys}
-use Rattle.ebpf.proofs.Table.{key-in}
+use Rattle.ebpf.proofs.Table.{key-in, key-in-none}
 use Rattle.program.specs.declared.FunctionName.{FunctionName}
 use Rattle.program.specs.declared.FunctionName.the-variants.{OfIndex}
 use Rattle.program.specs.declared.Row.{Row}
@@ -17,8 +17,7 @@ use Rattle.loader.specs.Functions.{Keyed, rowFor}
 use Rattle.loader.specs.Demand.{keyOf}
 
 pub none-keyed : Keyed []
-unfolding keyIn
-none-keyed i = refl
+none-keyed i = key-in-none i
 
 pub same-key : (t : List ℕ) (version2 : Bool) (name : FunctionName) (index : ℕ) → Keyed t → legacyKey t version2 name index ≡ legacyKey [] version2 name index
 unfolding legacyKey
@@ -47,5 +46,5 @@ row-is builtins j name index row e = go (isTaken builtins (j .version2) (j .«ch
 
 -- a call's key is its target's
 pub call-key : (version2 : Bool) (index : ℕ) → legacyKey [] version2 OfIndex index ≡ keyOf version2 index
-unfolding legacyKey keyOf keyIn _if_else_
-call-key version2 index = refl
+unfolding legacyKey keyOf _if_else_
+call-key version2 index = rw (key-in-none index) refl

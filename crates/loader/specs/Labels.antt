@@ -1,16 +1,14 @@
 -- Labels: what a symbol of .symtab asks for where labels are kept.
-use Prim.Native.Nat.{ℕ, _+_, _*_, _≤_}
+use Prim.Native.Nat.{ℕ, _*_, _≤_}
 use native.Mathlib.Omega.{arith}
 use mathlib.Core.Path.{_≡_, refl}
 use mathlib.Core.Bool.{Bool, true, false, not}
 use mathlib.Core.List.{List}
 use lib.ListN.{length, take, drop}
-use lib.Dec.{ltb, eqb}
+use lib.Dec.{eqb}
 use lib.Bits.{bitAnd}
 use Rattle.ebpf.specs.Choice.{_if_else_}
-use Rattle.elf_parser.specs.declared.error.ElfParserError.the-variants.{OutOfBounds}
 use Rattle.elf_parser.specs.declared.types.Elf64Sym.{Elf64Sym}
-use Rattle.elf_parser.specs.declared.layout.Layout.{Layout}
 use Rattle.elf_parser.specs.declared.parts.Place.{Place}
 use Rattle.elf_parser.specs.declared.parts.Place.the-variants.{At, Refused as NoPlace}
 use Rattle.elf_parser.specs.declared.records.Entries.{Entries}
@@ -18,8 +16,7 @@ use Rattle.elf_parser.specs.declared.records.Sliced.{Sliced}
 use Rattle.elf_parser.specs.declared.records.Sliced.the-variants.{At as Slice, Refused as NoSlice}
 use Rattle.elf_parser.specs.declared.records.Sym.{Sym}
 use Rattle.elf_parser.specs.declared.records.Sym.the-variants.{Symbol, Refused as NoSym}
-use Rattle.elf_parser.specs.Types.{sectionHeader}
-use Rattle.elf_parser.specs.Records.{no-entries, symOf, symbolTableIn, symbolTableOf, no-slice, symbol-table-in-file}
+use Rattle.elf_parser.specs.Records.{no-entries, symOf, symbolTableOf, symbol-table-few}
 use Rattle.elf_parser.specs.Names.{symbolName}
 use Rattle.program.specs.declared.Legacy.{Legacy}
 use Rattle.program.specs.declared.Legacy.the-variants.{Free, Taken}
@@ -103,22 +100,11 @@ unfolding labelDeed
 label-fits n s builtins j symbols i = by-fits n s builtins j (symOf s symbols i)
 
 -- a file has few symbols
-table-few : (s : List ℕ) (l : Layout) (x : Entries) → symbolTableOf s l ≡ Slice x → 24 * x .count ≤ length s
-unfolding symbolTableOf _if_else_
-table-few s l x e = go (eqb (l .symtab) 0) (ltb (length s) (l .symtab + 64)) e
-  where
-    go : (b d : Bool)
-        → (Slice no-entries if b else NoSlice OutOfBounds if d else symbolTableIn (length s) (sectionHeader s (l .symtab))) ≡ Slice x
-        → 24 * x .count ≤ length s
-    go true d q = let p : no-entries ≡ x = cc in rw (← p) (omega arith)
-    go false true q = absurd (no-slice OutOfBounds x q)
-    go false false q = omega (arith, symbol-table-in-file (length s) (sectionHeader s (l .symtab)) x q)
-
 pub few-symbols : (s : List ℕ) (j : Job) → 24 * labelSymbols s j .count ≤ length s
 unfolding labelSymbols _if_else_
 few-symbols s j = go (j .labels) (symbolTableOf s (j .layout)) refl
   where
     go : (b : Bool) (t : Sliced) → symbolTableOf s (j .layout) ≡ t → 24 * (symbolsBy t if b else no-entries) .count ≤ length s
     go false t e = omega arith
-    go true (Slice x) e = table-few s (j .layout) x e
+    go true (Slice x) e = symbol-table-few s (j .layout) x e
     go true (NoSlice r) e = omega arith

@@ -10,16 +10,13 @@ use lib.ListN.{length, drop, length-drop}
 use lib.Seq.{paste, length-paste}
 use lib.Dec.{ltb, leb}
 use borrow.Author.Tests.{ltb-false, le-ltb}
-use Rattle.ebpf.specs.Choice.{_if_else_, no-go, not-first, row-rest}
-use Rattle.elf_parser.specs.declared.error.ElfParserError.{ElfParserError}
+use Rattle.ebpf.specs.Choice.{_if_else_, no-go, not-first, row-rest, row-cases}
 use Rattle.elf_parser.specs.declared.layout.Layout.{Layout}
 use Rattle.elf_parser.specs.declared.parts.Place.{Place}
 use Rattle.elf_parser.specs.declared.parts.Place.the-variants.{At, Refused as NoPlace}
-use Rattle.elf_parser.specs.declared.records.Shdr.{Shdr}
-use Rattle.elf_parser.specs.declared.records.Shdr.the-variants.{Header, Refused as NoShdr}
 use Rattle.elf_parser.specs.declared.types.Elf64Shdr.{Elf64Shdr}
 use Rattle.elf_parser.specs.Loops.{Turn, goes, ends, _into_, over, not-ends}
-use Rattle.elf_parser.specs.Records.{contentsPlace, placeBy, sectionHeaderOf, sectionPlaceOf}
+use Rattle.elf_parser.specs.Records.{fileRangeOf, range-within}
 use Rattle.loader.specs.declared.error.ElfError.{ElfError}
 use Rattle.loader.specs.declared.read_only.Extent.{Extent}
 use Rattle.loader.specs.declared.read_only.Gathering.{Gathering}
@@ -28,13 +25,6 @@ use Rattle.loader.specs.declared.read_only.Placing.the-variants.{Owned, 
 use Rattle.loader.specs.Addresses.{sumUpTo, machineAddr, MM-PROGRAM-START, MM-STACK-START}
 use Rattle.loader.specs.Sections.{sectionAt, nameOf}
 use Rattle.loader.specs.ReadOnly.{readOnly, endOf, grown, taken, takenAt, gatherStep, nothing, gatherTurn, gatherBy, gathered, fromStart, borrowed, owned, placed, placingBy, placing, copiedTo, copiedAt, copyStep}
-
--- a row by its first test
-module _ {A : Type 0} where
-  pub row-cases : (b : Bool) (x y z : A) (G : Type 0) → (b ≡ true → x ≡ z → G) → (b ≡ false → y ≡ z → G) → (x if b else y) ≡ z → G
-  unfolding _if_else_
-  row-cases true x y z G f g e = f refl e
-  row-cases false x y z G f g e = g refl e
 
 -- ---- the copy keeps the length
 
@@ -59,7 +49,7 @@ module _ (image s : List ℕ) (l : Layout) (lowest : ℕ) where
   step-length i ro = go (copyStep image s l lowest i ro) refl
     where
       go : (z : List ℕ) → copyStep image s l lowest i ro ≡ z → length z ≡ length ro
-      go z e = row-cases _ _ _ _ _ (λ b q. ap length (sym q)) (λ b q. ap length (sym q) ∙ at-length ro image (sectionAt s l i .«sh_addr» - lowest) (sectionPlaceOf s l i)) e
+      go z e = row-cases _ _ _ _ _ (λ b q. ap length (sym q)) (λ b q. ap length (sym q) ∙ at-length ro image (sectionAt s l i .«sh_addr» - lowest) (fileRangeOf s l i)) e
 
 -- ---- what `Owned` says
 
@@ -149,12 +139,12 @@ at-inside version2 reject-broken i h x z (NoPlace r) e = absurd (no-next _ _ e)
 
 module _ (s : List ℕ) (l : Layout) (version2 reject-broken : Bool) where
   abbrev Has : ℕ → Extent → Type 0
-  Has i x = readOnly (nameOf s l (sectionAt s l i)) ≡ true → (start k : ℕ) → sectionPlaceOf s l i ≡ At start k → Inside (sectionAt s l i) k x
+  Has i x = readOnly (nameOf s l (sectionAt s l i)) ≡ true → (start k : ℕ) → fileRangeOf s l i ≡ At start k → Inside (sectionAt s l i) k x
 
   step-inside : (i : ℕ) (x z : Extent) → gatherStep s l version2 reject-broken i x ≡ Next z → Wider x z × Has i z
   unfolding gatherStep
   step-inside i x z e =
-      row-cases _ _ _ _ _ (λ b q. passed b q) (λ b q. let t = at-inside version2 reject-broken i (sectionAt s l i) x z (sectionPlaceOf s l i) q in (t .0, λ ro. t .1)) e
+      row-cases _ _ _ _ _ (λ b q. passed b q) (λ b q. let t = at-inside version2 reject-broken i (sectionAt s l i) x z (fileRangeOf s l i) q in (t .0, λ ro. t .1)) e
     where
       passed : not (readOnly (nameOf s l (sectionAt s l i))) ≡ true → Next x ≡ Next z → Wider x z × Has i z
       passed b q =
@@ -184,29 +174,6 @@ module _ (s : List ℕ) (l : Layout) (version2 reject-broken : Bool) where
           (record { lower = omega arith; higher = omega arith }, λ j lo hi. ⊎-elim (λ p. subst (λ (k : ℕ). Has k y) p (λ ro start k at. still (sectionAt s l i) k z y v (a .1 ro start k at))) (λ p. r .1 j (omega arith) (omega arith)) (eq-or-lt-of-le lo))
       go (Stop r) h q rec = absurd (not-ends r y q)
 
--- ---- a section's bytes lie in the file
-
-place-in : (len : ℕ) (h : Elf64Shdr) (start k : ℕ) → contentsPlace len h ≡ At start k → start + k ≤ len
-unfolding contentsPlace
-place-in len h start k e =
-    row-cases _ _ _ _ _
-    (λ b q. let p : 0 ≡ start = cc in let r : 0 ≡ k = cc in omega arith)
-    (λ b q. row-cases _ _ _ _ _ (λ c p. absurd (no-place _ _ _ p)) (λ c p. last c p) q)
-    e
-  where
-    no-place : (r : ElfParserError) (a n : ℕ) → NoPlace r ≡ At a n → ⊥
-    no-place r a n p = let z : _≡_ {A = ℕ} 0 1 = cc in omega arith
-
-    last : ltb len (h .«sh_offset» + h .«sh_size») ≡ false → At (h .«sh_offset») (h .«sh_size») ≡ At start k → start + k ≤ len
-    last c p =
-        let a : h .«sh_offset» ≡ start = cc in
-        let b : h .«sh_size» ≡ k = cc in
-        omega (arith, ltb-false len (h .«sh_offset» + h .«sh_size») c)
-
-by-in : (len : ℕ) (h : Shdr) (start k : ℕ) → placeBy len h ≡ At start k → start + k ≤ len
-by-in len (Header h) start k e = place-in len h start k e
-by-in len (NoShdr r) start k e = let z : _≡_ {A = ℕ} 0 1 = cc in absurd (omega arith)
-
 -- ---- where the sections are copied, each has its bytes and its room, so that the copy passes over none
 
 pub record Room (s : List ℕ) (h : Elf64Shdr) (lowest n start k : ℕ) : Type 0 where
@@ -229,7 +196,7 @@ module _ (s : List ℕ) (l : Layout) (count : ℕ) (version2 reject-broken optim
       → i < count
       → readOnly (nameOf s l (sectionAt s l i)) ≡ true
       → (start k : ℕ)
-      → sectionPlaceOf s l i ≡ At start k
+      → fileRangeOf s l i ≡ At start k
       → Room s (sectionAt s l i) lowest n start k
   unfolding placing
   owned-room short e i below ro start k at = go (over (λ j y. gatherTurn (gatherStep s l version2 reject-broken j y)) 1 count 0 nothing) refl e
@@ -241,14 +208,14 @@ module _ (s : List ℕ) (l : Layout) (count : ℕ) (version2 reject-broken optim
       go (goes x) h q =
           let r = placed-runs (length s) version2 reject-broken optimize x offset lowest n q in
           let m = all-inside s l version2 reject-broken count 0 nothing x h .1 i (omega arith) (omega arith) ro start k at in
-          let f = by-in (length s) (sectionHeaderOf s l i) start k at in
+          let f = range-within s l i start k at in
           record { in-file = f; not-below = omega arith; room = omega arith }
       go (ends r) h q = absurd (no-owned _ _ _ _ q)
 
 -- so a turn of the copy is a paste
 pub copy-is-paste : (image s : List ℕ) (l : Layout) (lowest n i start k : ℕ) (ro : List ℕ)
     → readOnly (nameOf s l (sectionAt s l i)) ≡ true
-    → sectionPlaceOf s l i ≡ At start k
+    → fileRangeOf s l i ≡ At start k
     → Room s (sectionAt s l i) lowest n start k
     → length s ≤ length image
     → n ≤ length ro

@@ -13,7 +13,7 @@ use Rattle.elf_parser.specs.declared.parts.Place.{Place}
 use Rattle.elf_parser.specs.declared.parts.Place.the-variants.{At, Refused as NoPlace}
 use Rattle.elf_parser.specs.declared.types.Elf64Shdr.{Elf64Shdr}
 use Rattle.elf_parser.specs.Loops.{Turn, goes, ends, over}
-use Rattle.elf_parser.specs.Records.{sectionPlaceOf}
+use Rattle.elf_parser.specs.Records.{fileRangeOf}
 use Rattle.elf_parser.specs.SectionNames.{sameBytes}
 use Rattle.loader.specs.declared.error.ElfError.{ElfError}
 use Rattle.loader.specs.declared.error.ElfError.the-variants.{ValueOutOfBounds}
@@ -79,7 +79,7 @@ takenAt version2 reject-broken i h x (NoPlace r) = Stop ValueOutOfBounds
 abbrev pub gatherNamed : List ℕ → Layout → Bool → Bool → ℕ → Elf64Shdr → List ℕ → Extent → Gathering
 gatherNamed s l version2 reject-broken i h name x =
     Next x if not (readOnly name) else
-    takenAt version2 reject-broken i h x (sectionPlaceOf s l i)
+    takenAt version2 reject-broken i h x (fileRangeOf s l i)
 
 unfoldable pub gatherStep : List ℕ → Layout → Bool → Bool → ℕ → Extent → Gathering
 gatherStep s l version2 reject-broken i x = gatherNamed s l version2 reject-broken i (sectionAt s l i) (nameOf s l (sectionAt s l i)) x
@@ -171,7 +171,7 @@ copiedAt ro image at (NoPlace r) = ro
 unfoldable pub copyStep : List ℕ → List ℕ → Layout → ℕ → ℕ → List ℕ → List ℕ
 copyStep image s l lowest i ro =
     ro if not (readOnly (nameOf s l (sectionAt s l i))) else
-    copiedAt ro image (sectionAt s l i .«sh_addr» - lowest) (sectionPlaceOf s l i)
+    copiedAt ro image (sectionAt s l i .«sh_addr» - lowest) (fileRangeOf s l i)
 
 -- n sections from i on, one after another
 unfoldable pub copiedFrom : List ℕ → List ℕ → Layout → ℕ → ℕ → ℕ → List ℕ → List ℕ

@@ -10,6 +10,7 @@ use elf_parser::Layout;
 use elf_parser::Place;
 use elf_parser::Sliced;
 use elf_parser::Sym;
+use elf_parser::part_of;
 use elf_parser::symbol;
 use elf_parser::symbol_name;
 use elf_parser::symbol_table;
@@ -64,16 +65,8 @@ fn named_label(
     let layout = job.layout;
     match symbol_name(file, layout, st_name) {
         Place::At { start, length } => {
-            let end = start + length;
-            label_as(
-                &file[start..end],
-                builtins,
-                table,
-                job,
-                index,
-                start,
-                length,
-            )
+            let part = part_of(file, Place::At { start, length });
+            label_as(part, builtins, table, job, index, start, length)
         }
         Place::Refused(_) => Deed::Refuse(ElfError::UnknownSymbol { number: st_name }),
     }

@@ -12,9 +12,9 @@ use ebpf::MM_PROGRAM_START;
 use ebpf::MM_STACK_START;
 use elf_parser::Layout;
 use elf_parser::Place;
+use elf_parser::file_range;
 use elf_parser::same_bytes;
 use elf_parser::section_name_part;
-use elf_parser::section_place;
 use elf_parser::types::Elf64Shdr;
 ghost use mathlib.Core.Path.{_≡_};
 ghost use Prim.Native.Nat.{_+_, _≤_};
@@ -180,7 +180,7 @@ pub(crate) fn gather_next(
     if !is_read_only(name) {
         return g;
     }
-    match section_place(file, layout, index) {
+    match file_range(file, layout, index) {
         Place::Refused(_) => Gathering::Refused(ElfError::ValueOutOfBounds),
         Place::At { start: _, length } => {
             take_section(version2, reject_broken, index as u64, h, length as u64, x)
@@ -303,7 +303,7 @@ fn copy_section(ro: &mut [u8], image: &[u8], file: &[u8], layout: Layout, lowest
         return;
     }
     let at = saturating_sub(h.sh_addr, lowest);
-    match section_place(file, layout, index) {
+    match file_range(file, layout, index) {
         Place::Refused(_) => {}
         Place::At { start, length } => {
             copy_inside(ro, image, at, start, length);

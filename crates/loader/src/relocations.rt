@@ -21,6 +21,7 @@ use elf_parser::Sym;
 use elf_parser::dynamic_relocation;
 use elf_parser::dynamic_symbol;
 use elf_parser::dynamic_symbol_name;
+use elf_parser::part_of;
 use elf_parser::program_header;
 use elf_parser::types::Elf64Rel;
 use elf_parser::types::Elf64Sym;
@@ -441,18 +442,8 @@ fn named_call(
     let st_name = y.st_name;
     match dynamic_symbol_name(file, layout, st_name) {
         Place::At { start, length } => {
-            let end = start + length;
-            call_by_name(
-                &file[start..end],
-                builtins,
-                table,
-                job,
-                len,
-                r,
-                y,
-                start,
-                length,
-            )
+            let part = part_of(file, Place::At { start, length });
+            call_by_name(part, builtins, table, job, len, r, y, start, length)
         }
         Place::Refused(_) => Deed::Refuse(ElfError::UnknownSymbol { number: st_name }),
     }

@@ -20,6 +20,6 @@ copy-section-spec =
     (search needs)
     (search needs)
     (search needs)
-    (λ c. rw (← c .before .before .before .before .before .before .before .section-at .ensures, ← c .before .before .before .before .before .before .section-name-part .ensures, ← c .before .before .before .before .before .is-read-only .ensures, ← c .before .before .section-place .ensures, c .enum-told .given .1) (search choices depth 12))
+    (λ c. rw (← c .before .before .before .before .before .before .before .section-at .ensures, ← c .before .before .before .before .before .before .section-name-part .ensures, ← c .before .before .before .before .before .is-read-only .ensures, ← c .before .before .file-range .ensures, c .enum-told .given .1) (search choices depth 12))
     (search needs)
-    (λ c. rw (← c .before .before .before .before .before .before .before .before .before .before .before .before .section-at .ensures, ← c .before .before .before .before .before .before .before .before .before .before .before .section-name-part .ensures, ← c .before .before .before .before .before .before .before .before .before .before .is-read-only .ensures, ← c .before .before .before .before .before .before .before .before .saturating-sub .ensures, ← c .before .before .before .before .before .before .before .section-place .ensures, c .before .before .before .before .before .start .given .1, ← c .before .before .copy-inside .ensures) (search choices depth 12)))
+    (λ c. rw (← c .before .before .before .before .before .before .before .before .before .before .before .before .section-at .ensures, ← c .before .before .before .before .before .before .before .before .before .before .before .section-name-part .ensures, ← c .before .before .before .before .before .before .before .before .before .before .is-read-only .ensures, ← c .before .before .before .before .before .before .before .before .saturating-sub .ensures, ← c .before .before .before .before .before .before .before .file-range .ensures, c .before .before .before .before .before .start .given .1, ← c .before .before .copy-inside .ensures) (search choices depth 12)))

@@ -18,5 +18,5 @@ gather-next-spec =
     (search needs)
     (search needs)
     (search needs)
-    (λ c. rw (c .before .before .before .before .before .before .g .given .1, ← c .before .before .before .before .is-read-only .ensures, ← c .before .before .section-place .ensures, c .enum-told2 .given .1) (search choices depth 12))
-    (λ c. rw (c .before .before .before .before .before .before .before .before .g .given .1, ← c .before .before .before .before .before .before .is-read-only .ensures, ← c .before .before .before .before .section-place .ensures, c .before .before .length .given .1, ← c .take-section .ensures) (search choices depth 12)))
+    (λ c. rw (c .before .before .before .before .before .before .g .given .1, ← c .before .before .before .before .is-read-only .ensures, ← c .before .before .file-range .ensures, c .enum-told2 .given .1) (search choices depth 12))
+    (λ c. rw (c .before .before .before .before .before .before .before .before .g .given .1, ← c .before .before .before .before .before .before .is-read-only .ensures, ← c .before .before .before .before .file-range .ensures, c .before .before .length .given .1, ← c .take-section .ensures) (search choices depth 12)))
