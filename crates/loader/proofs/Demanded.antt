@@ -7,11 +7,12 @@ use lib.ListN.{length, replicate}
 use Rattle.ebpf.specs.LittleEndian.{le}
 use Rattle.program.specs.declared.Row.{Row}
 use Rattle.program.specs.declared.Found.{Found}
-use Rattle.program.specs.Rows.{find}
-use Rattle.program.specs.Table.{Slices, capacity, lay, lookupIn}
+use Rattle.program.specs.Rows.{Ascending, find}
+use Rattle.program.specs.Table.{Slices, capacity, lay, rowsOf, lookupIn}
+use Rattle.program.proofs.Laying.{rows-lay}
 use Rattle.program.proofs.Tables.{lookup-lay}
 use Rattle.loader.specs.declared.answer.Load.{Load}
-use Rattle.loader.specs.declared.answer.Load.the-variants.{Refused as Refuses}
+use Rattle.loader.specs.declared.answer.Load.the-variants.{Accepted as Accepts, Refused as Refuses}
 use Rattle.loader.specs.declared.error.ElfError.the-variants.{SymbolHashCollision, TableFull}
 use Rattle.loader.specs.declared.read_only.Placing.{Placing}
 use Rattle.loader.specs.declared.read_only.Placing.the-variants.{Borrowed, Owned, Refused as NotPlaced}
@@ -23,14 +24,16 @@ use Rattle.loader.specs.Calls.{immediate}
 use Rattle.loader.specs.Contracts.{InFile}
 use Rattle.loader.specs.Demand.{Calls, Keys, Entry, Others, Bytes, IsNameKey, Finds, keyOf, OnAccepted, reachedIn, reachedEarly, Clash, distinct, Demand3}
 use Rattle.loader.specs.Load.{heldBy, onTrace, onPrepared, loadOf, Loaded}
+use Rattle.loader.specs.Loads.{OnUsed}
 use Rattle.loader.specs.Parts.{jobTrace}
 use Rattle.loader.specs.Trace.{Settled, accepted, refused, settle}
 use Rattle.loader.specs.Validate.{prepared}
 use Rattle.loader.proofs.Readied.{readied}
 use Rattle.loader.proofs.Traces.{settle-ends}
 use Rattle.loader.proofs.Imaged.{lent-bytes, lent-keyed}
+use Rattle.loader.proofs.Targets.{to-in}
 use Rattle.loader.proofs.Refusing.{injective-keys, collides, fills}
-use Rattle.loader.proofs.Keyed.{keys-found, entry-found, others-found, call-found, rows-room}
+use Rattle.loader.proofs.Keyed.{keys-found, entry-found, others-found, call-target, call-found, rows-ascend, rows-room}
 
 -- what an accepted load has: its file passed the checks, its trace settled, and the image and the table are those
 pub record Held (file builtins : List ℕ) (c : Config) (im ro : List ℕ) (t : Slices) (im′ : List ℕ) (t′ : Slices) (j : Job) (used : ℕ) : Type 0 where
@@ -96,13 +99,20 @@ module _ (file builtins : List ℕ) (c : Config) (im ro : List ℕ) (t : Slices)
     held-others = subst (λ (look : ℕ → Found). Others file builtins j look) looks (others-found file builtins j (capacity t) (h .image) (h .rows) (h .moves) (h .settles))
 
     held-bytes : Bytes file j im′
-    held-bytes = rw (h .image-is) (lent-bytes file builtins j inside (h .image) (settle-ends (capacity t) (h .image) (h .rows) (h .moves) (jobTrace file builtins j file) [] 0 (h .settles)) _)
+    held-bytes = rw (h .image-is) (lent-bytes file builtins j inside (h .image) (settle-ends (capacity t) (h .image) (h .rows) (h .moves) (jobTrace file builtins j file) [] 0 (h .settles)) (length im - length (h .image)))
 
     held-calls : Calls file j im′ (lookupIn t′ used)
-    held-calls i to calls free =
-        let key : le 4 im′ (immediate j i) ≡ keyOf (j .version2) to = rw (h .image-is) (lent-keyed file builtins j inside (h .image) (settle-ends (capacity t) (h .image) (h .rows) (h .moves) (jobTrace file builtins j file) [] 0 (h .settles)) _ i to calls free) in
-        let found = subst (λ (look : ℕ → Found). IsNameKey j (keyOf (j .version2) to) ⊎ Finds look (keyOf (j .version2) to) to) looks (call-found file builtins j (capacity t) (h .image) (h .rows) (h .moves) (h .settles) i to calls) in
-        subst (λ (k : ℕ). IsNameKey j k ⊎ Finds (lookupIn t′ used) k to) (sym key) found
+    held-calls i c free =
+        let target = call-target file builtins j (capacity t) (h .image) (h .rows) (h .moves) (h .settles) i c in
+        let to = target .0 in
+        let key : le 4 im′ (immediate j i) ≡ keyOf (j .version2) to = rw (h .image-is) (lent-keyed file builtins j inside (h .image) (settle-ends (capacity t) (h .image) (h .rows) (h .moves) (jobTrace file builtins j file) [] 0 (h .settles)) (length im - length (h .image)) i to (target .1) free) in
+        let found = subst (λ (look : ℕ → Found). IsNameKey j (keyOf (j .version2) to) ⊎ Finds look (keyOf (j .version2) to) to) looks (call-found file builtins j (capacity t) (h .image) (h .rows) (h .moves) (h .settles) i to (target .1)) in
+        (to, target .1, to-in file j i to (target .1), subst (λ (k : ℕ). IsNameKey j k ⊎ Finds (lookupIn t′ used) k to) (sym key) found)
+
+    held-rows : Ascending (rowsOf t′ used)
+    held-rows =
+        let room = rows-room file builtins j (capacity t) (h .image) (h .rows) (h .moves) (h .settles) in
+        rw (h .table-is, h .used-is, rows-lay t (h .rows) room) (rows-ascend file builtins j (capacity t) (h .image) (h .rows) (h .moves) (h .settles))
 
   module _ (a : Load) (did : Loaded (loadOf file builtins c (length im) (length ro) (capacity t)) im ro t im′ ro′ t′ a) where
     has-calls : OnAccepted a (prepared file builtins c (length im) (length ro)) (λ j used. Calls file j im′ (lookupIn t′ used))
@@ -119,6 +129,15 @@ module _ (file builtins : List ℕ) (c : Config) (im ro : List ℕ) (t : Slices)
 
     has-bytes : OnAccepted a (prepared file builtins c (length im) (length ro)) (λ j used. Bytes file j im′)
     has-bytes = on-accepted (λ j used. Bytes file j im′) held-bytes a did
+
+    -- the rows ascend
+    pub ascended : OnUsed a (λ used. Ascending (rowsOf t′ used))
+    ascended = used-of a (prepared file builtins c (length im) (length ro)) (on-accepted (λ j used. Ascending (rowsOf t′ used)) held-rows a did)
+      where
+        used-of : (a : Load) (p : Prepared) → OnAccepted a p (λ j used. Ascending (rowsOf t′ used)) → OnUsed a (λ used. Ascending (rowsOf t′ used))
+        used-of (Accepts x) (Ready j) h = h
+        used-of (Accepts x) (NotReady r) h = absurd h
+        used-of (Refuses r) p h = tt
 
     -- all of it
     pub demanded : Demand3 file builtins c (length im) (length ro) t im′ t′ a

@@ -12,11 +12,8 @@ use lib.Dec.{ltb, leb}
 use borrow.Author.Tests.{ltb-true, not-false}
 use Rattle.ebpf.specs.Choice.{_if_else_, and-right}
 use Rattle.ebpf.specs.IndexKeys.{indexKey, keyIn}
-use Rattle.ebpf.specs.Instructions.{insnAt}
+use Rattle.ebpf.proofs.Table.{key-in-none}
 use Rattle.ebpf.specs.Murmur3.{murmur3}
-use Rattle.ebpf.specs.declared.Insn.{Insn}
-use Rattle.ebpf.specs.declared.Slot.{Slot}
-use Rattle.ebpf.specs.declared.Slot.the-variants.{Holds, Past}
 use Rattle.elf_parser.specs.declared.types.Elf64Sym.{Elf64Sym}
 use Rattle.elf_parser.specs.declared.layout.Layout.{Layout}
 use Rattle.elf_parser.specs.declared.parts.Place.{Place}
@@ -44,12 +41,13 @@ use Rattle.loader.specs.declared.validate.Job.{Job}
 use Rattle.loader.specs.Addresses.{sumUpTo}
 use Rattle.loader.specs.Functions.{rowFor, symbolFunction, inText, indexOf}
 use Rattle.loader.specs.Deeds.{deedTrace}
-use Rattle.loader.specs.Calls.{inside, target, callOf, callIn, callAt, textOf, slotCount, immediate, callRow, callBy, callDeed, slotTrace, callsTrace}
+use Rattle.loader.specs.Calls.{callAt, textOf, slotCount, immediate, callRow, callBy, callDeed, slotTrace, callsTrace}
 use Rattle.loader.specs.Relocations.{relocationAt, halvesDeed, wordDeed, addressDeed, symbolDeed, plan6464, relativeText, planRelative, registerDeed, functionCall, builtinCall, callByName, namedCall, symbolCall, plan6432, planAt, planOf, placeAt, relocationTrace, relocationsTrace}
 use Rattle.loader.specs.Labels.{labelRow, namedLabel, labelOf, labelBy, labelDeed, labelSymbols, labelTrace, labelsTrace}
 use Rattle.loader.specs.Parts.{writingTrace}
 use Rattle.loader.specs.Contracts.{InFile}
 use Rattle.loader.specs.Demand.{nameKey, keyOf, earlyTrace}
+use Rattle.loader.proofs.Targets.{to-slot}
 use Rattle.loader.proofs.Plain.{Plain, picks}
 use Rattle.loader.proofs.Reaching.{Steady, steady-then, steady-each}
 
@@ -73,14 +71,14 @@ unfolding rowFor legacyRow _if_else_
 free-row builtins j name index e = rw (untaken builtins (j .version2) (j .«check_collision») (legacyKey [] (j .version2) name index) e) refl
 
 good-key : (version2 : Bool) (name : FunctionName) (index : ℕ) (name′ : KeptName) → index < 2 ^ 32 → Good version2 (rowOf (legacyKey [] version2 name index) index name′)
-unfolding legacyKey keyOf keyIn _if_else_
+unfolding legacyKey keyOf _if_else_
 good-key true name index name′ l = (l, inl refl)
 good-key false name index name′ l = (
   l,
   by-test (isEntrypoint name)
-      (λ (b : Bool). ((murmur3 legacy.entrypoint if b else indexKey index) ≡ indexKey index) ⊎ ((false ≡ false) × ((murmur3 legacy.entrypoint if b else indexKey index) ≡ nameKey)))
+      (λ (b : Bool). ((murmur3 legacy.entrypoint if b else keyIn [] index) ≡ indexKey index) ⊎ ((false ≡ false) × ((murmur3 legacy.entrypoint if b else keyIn [] index) ≡ nameKey)))
       (λ _. inr (refl, refl))
-      (λ _. inl refl),
+      (λ _. inl (key-in-none index)),
 )
 
 -- ---- a deed
@@ -116,30 +114,13 @@ Within count None = Unit {0}
 Within count Outside = Unit {0}
 Within count (To t) = t < count
 
-inside-in : (count to : ℕ) → Within count (inside count to)
-unfolding inside
-inside-in count to = picks (Within count) (ltb to count) (To to) Outside (λ e. ltb-true to count e) (λ _. tt)
-
-target-in : (count i imm : ℕ) → Within count (target count i imm)
-unfolding target
-target-in count i imm =
-    picks (Within count) _ _ _ (λ _. inside-in count (i + 1 + imm))
-    (λ _. picks (Within count) _ _ _ (λ _. tt) (λ _. inside-in count (i + 1 + imm - 0x1_0000_0000)))
-
-call-in : (count : ℕ) (version2 : Bool) (i : ℕ) (insn : Insn) → Within count (callOf count version2 i insn)
-unfolding callOf
-call-in count version2 i insn =
-    picks (Within count) _ _ _ (λ _. tt)
-    (λ _. picks (Within count) _ _ _ (λ _. tt)
-    (λ _. picks (Within count) _ _ _ (λ _. tt) (λ _. target-in count i (insn .imm))))
-
-slot-in : (count : ℕ) (version2 : Bool) (i : ℕ) (x : Slot) → Within count (callIn count version2 i x)
-slot-in count version2 i Past = tt
-slot-in count version2 i (Holds insn) = call-in count version2 i insn
-
 at-in : (text : List ℕ) (version2 : Bool) (i : ℕ) → Within (length text / 8) (callAt text version2 i)
-unfolding callAt
-at-in text version2 i = slot-in (length text / 8) version2 i (insnAt text i)
+at-in text version2 i = go (callAt text version2 i) refl
+  where
+    go : (c : Call) → callAt text version2 i ≡ c → Within (length text / 8) c
+    go None e = tt
+    go Outside e = tt
+    go (To to) e = to-slot text version2 i to e
 
 -- ---- an address of the text
 

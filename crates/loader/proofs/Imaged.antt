@@ -1,12 +1,12 @@
 -- The image of a load that ends: its length, the bytes that stay, and the local calls' keys. Assumes nothing.
-use Prim.Native.Nat.{ℕ, _+_, _-_, _/_, _^_, _≤_, _<_}
+use Prim.Native.Nat.{ℕ, zero, suc, _+_, _-_, _/_, _^_, _≤_, _<_}
 use native.Mathlib.Omega.{arith}
 use native.Mathlib.Decide.{ℕ-discrete}
 use mathlib.Core.Path.{_≡_, refl, sym, ap, _∙_}
 use mathlib.Core.Bool.{Bool, true, false}
 use mathlib.Core.Logic.{inl}
-use mathlib.Core.List.{List, _++_}
-use lib.ListN.{length, getD, take, drop, List·getD-append}
+use mathlib.Core.List.{List, [], _∷_, _++_}
+use lib.ListN.{length, getD, take, drop, replicate}
 use Rattle.ebpf.specs.Choice.{_if_else_}
 use Rattle.ebpf.specs.LittleEndian.{le}
 use Rattle.elf_parser.specs.declared.types.Elf64Sym.{Elf64Sym}
@@ -38,7 +38,7 @@ use Rattle.loader.specs.Demand.{CallsTo, isIn, infoOf, Unnamed, keyOf, B
 use Rattle.loader.proofs.Ends.{Ends, ends-then, ends-each}
 use Rattle.loader.proofs.Kept.{not-in, in-places, le-put, le-same, writes, written-other, deed-ends, step-ends, step-length, deeds-length, deeds-other, deeds-nothing}
 use Rattle.loader.proofs.Named.{unnamed-clear}
-use Rattle.loader.proofs.Targets.{to-small, key-word, row-key}
+use Rattle.loader.proofs.Targets.{calls-local, to-small, key-word, row-key}
 
 -- ---- labels, the entry and the placing write nothing
 
@@ -197,6 +197,18 @@ module _ (file builtins : List ℕ) (j : Job) where
       calls-keyed : (l : List ℕ) → Ends (callsTrace file builtins j im) l → le 4 l (immediate j i) ≡ keyOf (j .version2) to
       calls-keyed l e = ends-each (slotTrace file builtins j) Behind (slotCount j) next im l (refl, λ h. absurd (omega arith)) e .1 (calls .0)
 
+-- ---- zeros behind a list are what is read behind it
+
+only-zeros : (n b : ℕ) → _≡_ {A = ℕ} (getD (replicate n 0) b 0) 0
+only-zeros zero b = refl
+only-zeros (suc n) zero = refl
+only-zeros (suc n) (suc b) = only-zeros n b
+
+zeros-behind : (n : ℕ) (l : List ℕ) (b : ℕ) → getD (l ++ replicate n 0) b 0 ≡ getD l b 0
+zeros-behind n [] b = only-zeros n b
+zeros-behind n (x ∷ l) zero = refl
+zeros-behind n (x ∷ l) (suc b) = zeros-behind n l b
+
 -- ---- THE IMAGE OF A LOAD
 
 module _ (file builtins : List ℕ) (j : Job) (inside : InFile file j) (im′ : List ℕ) (ends : Ends (jobTrace file builtins j file) im′) where
@@ -214,9 +226,9 @@ module _ (file builtins : List ℕ) (j : Job) (inside : InFile file j) (im′ : 
   image-length = relocations-length file builtins j (parts .0) im′ (parts .2) ∙ calls-long
 
   pub bytes-kept : Bytes file j im′
-  bytes-kept b l none unnamed =
+  bytes-kept b none unnamed =
       relocations-other file builtins j (parts .0) im′ b short unnamed (parts .2)
-      ∙ calls-other file builtins j file (parts .0) b none (parts .1)
+      ∙ calls-other file builtins j file (parts .0) b (λ i to c. none i (calls-local file j i to c)) (parts .1)
 
   pub call-keyed : (i to : ℕ) → CallsTo file j i to
       → ((b : ℕ) → isIn (immediate j i) 4 b ≡ true → Unnamed file j b)
@@ -226,15 +238,12 @@ module _ (file builtins : List ℕ) (j : Job) (inside : InFile file j) (im′ : 
       (λ b p q. relocations-other file builtins j (parts .0) im′ b short (unnamed b (in-places (immediate j i) 4 b p q)) (parts .2))
       ∙ calls-keyed file builtins j i to calls (inside .short) file (omega (arith, inside .text, calls .0)) (parts .0) (parts .1)
 
-  -- the same in the lent image, whatever stands behind the file
-  module _ (rest : List ℕ) where
-    pub lent-bytes : Bytes file j (im′ ++ rest)
-    lent-bytes b l none unnamed = List·getD-append im′ rest 0 b (omega (arith, image-length)) ∙ bytes-kept b l none unnamed
+  -- the same in the lent image, with zeros behind the file
+  module _ (n : ℕ) where
+    pub lent-bytes : Bytes file j (im′ ++ replicate n 0)
+    lent-bytes b none unnamed = zeros-behind n im′ b ∙ bytes-kept b none unnamed
 
     pub lent-keyed : (i to : ℕ) → CallsTo file j i to
         → ((b : ℕ) → isIn (immediate j i) 4 b ≡ true → Unnamed file j b)
-        → le 4 (im′ ++ rest) (immediate j i) ≡ keyOf (j .version2) to
-    lent-keyed i to calls unnamed =
-        le-same 4 (im′ ++ rest) im′ (immediate j i)
-        (λ b p q. List·getD-append im′ rest 0 b (omega (arith, image-length, inside .text, calls .0)))
-        ∙ call-keyed i to calls unnamed
+        → le 4 (im′ ++ replicate n 0) (immediate j i) ≡ keyOf (j .version2) to
+    lent-keyed i to calls unnamed = le-same 4 (im′ ++ replicate n 0) im′ (immediate j i) (λ b p q. zeros-behind n im′ b) ∙ call-keyed i to calls unnamed

@@ -31,12 +31,12 @@ use Rattle.loader.specs.Labels.{labelsTrace}
 use Rattle.loader.specs.Entry.{entryDeed, forgetTrace}
 use Rattle.loader.specs.Entry as entry
 use Rattle.loader.specs.Parts.{writingTrace, namingTrace, placedTrace, jobTrace}
-use Rattle.loader.specs.Demand.{CallsTo, OfEntry, Registers, Finds, IsNameKey, Keys, Entry, Others, nameKey, keyOf, entryIndex, earlyTrace}
+use Rattle.loader.specs.Demand.{LocalCall, CallsTo, OfEntry, Registers, Finds, IsNameKey, Keys, Entry, Others, nameKey, keyOf, entryIndex, earlyTrace}
 use Rattle.loader.proofs.Ends.{Ends}
 use Rattle.loader.proofs.Asked.{Asks}
 use Rattle.loader.proofs.Rowing.{row-is, call-key}
 use Rattle.loader.proofs.Traces.{went, settle-moves, settle-ends, settle-room, settle-ascends, settle-keeps, settle-finds, settle-only, settle-split, settle-then}
-use Rattle.loader.proofs.Registering.{EarlyRow, deed-asks, deed-keeps, entry-registers, entry-row, early-asks, early-keeps, calls-have}
+use Rattle.loader.proofs.Registering.{EarlyRow, deed-asks, deed-keeps, entry-registers, entry-row, early-asks, early-keeps, calls-have, calls-to}
 
 -- ---- a row's key and index
 
@@ -111,6 +111,10 @@ module _ (file builtins : List ℕ) (j : Job) (cap : ℕ) (im′ : List ℕ) (ro
 -- ---- the table of a load
 
 module _ (file builtins : List ℕ) (j : Job) (cap : ℕ) (im′ : List ℕ) (rows : List Row) (moves : ℕ) (e : settle cap (jobTrace file builtins j file) [] 0 ≡ accepted im′ rows moves) where
+  -- THE ROWS ASCEND
+  pub rows-ascend : Ascending rows
+  rows-ascend = settle-ascends cap im′ rows moves (jobTrace file builtins j file) [] 0 tt e
+
   pub rows-room : length rows ≤ cap
   rows-room = settle-room cap im′ rows moves (jobTrace file builtins j file) [] 0 zero-le e
 
@@ -197,6 +201,10 @@ module _ (file builtins : List ℕ) (j : Job) (cap : ℕ) (im′ : List ℕ) (ro
       held : (row : Row) → IsNameKey j (row .key) ⊎ Finds (λ (k : ℕ). find k rows) (row .key) (row .index) → Held (row .key) rows
       held row (inr f) = (f .0, f .1)
       held row (inl n) = let f = entry-found (n .0) in rw (n .1) (f .0, f .1)
+
+  -- A LOCAL CALL HAS A TARGET
+  pub call-target : (i : ℕ) → LocalCall file j i → (to : ℕ) × CallsTo file j i to
+  call-target i c = calls-to file builtins j (s .image) early-ends i c
 
   -- A CALL'S KEY FINDS ITS TARGET
   pub call-found : (i to : ℕ) → CallsTo file j i to → IsNameKey j (keyOf (j .version2) to) ⊎ Finds (λ (k : ℕ). find k rows) (keyOf (j .version2) to) to

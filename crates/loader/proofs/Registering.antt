@@ -43,7 +43,8 @@ use Rattle.loader.specs.Entry.{entryDeed}
 use Rattle.loader.specs.Parts.{writingTrace}
 use Rattle.loader.proofs.Ends.{Ends, ends-then}
 use Rattle.loader.proofs.Asked.{Asks, Keeps, AsksFor}
-use Rattle.loader.specs.Demand.{CallsTo, OfCall, OfRelocation, OfLabel, OfEntry, infoOf, entryIndex, earlyTrace}
+use Rattle.loader.proofs.Targets.{local-calls}
+use Rattle.loader.specs.Demand.{LocalCall, CallsTo, OfCall, OfRelocation, OfLabel, OfEntry, infoOf, entryIndex, earlyTrace}
 use Rattle.loader.proofs.Traces.{asks-then, keeps-then, keeps-each, ends-turn, asks-each}
 
 -- ---- a deed
@@ -108,6 +109,16 @@ module _ (file builtins : List ℕ) (j : Job) (i : ℕ) (l : i < slotCount j) wh
       go : (r : Legacy) → Ends (entryTrace (entryOf (callRow (immediate j i) r)) (written (callRow (immediate j i) r) im)) im′ → (row : Row) × (r ≡ Free row)
       go (Free row) e = (row, refl)
       go (Taken key) e = absurd e
+
+  -- a local call has a target: the trace would stop at one whose target is outside
+  call-to : (im im′ : List ℕ) → Ends (slotTrace file builtins j i im) im′ → LocalCall file j i → (to : ℕ) × CallsTo file j i to
+  unfolding slotTrace callDeed deedTrace
+  call-to im im′ e c = go (callAt (textOf file j) (j .version2) i) refl
+    where
+      go : (d : Call) → callAt (textOf file j) (j .version2) i ≡ d → (to : ℕ) × CallsTo file j i to
+      go None q = absurd (local-calls file j i c q)
+      go (To to) q = (to, (c .0, q))
+      go Outside q = absurd (subst (λ (d : Call). Ends (deedTrace (callBy builtins j i d) im) im′) q e)
 
 -- ---- relocations
 
@@ -330,3 +341,11 @@ module _ (file builtins : List ℕ) (j : Job) where
       let a = ends-then (callsTrace file builtins j file) (relocationsTrace file builtins j) (b .0) (b .1) in
       let t = ends-turn (slotTrace file builtins j) (slotCount j) 0 file (a .0) (a .1) i (omega arith) (omega (arith, c .0)) in
       call-row file builtins j i (c .0) (t .before) (t .after) (t .ends) to (c .1)
+
+  -- and every local call a target
+  pub calls-to : (im′ : List ℕ) → Ends (earlyTrace file builtins j) im′ → (i : ℕ) → LocalCall file j i → (to : ℕ) × CallsTo file j i to
+  calls-to im′ e i c =
+      let b = ends-then (writingTrace file builtins j file) (labelsTrace file builtins j) im′ e in
+      let a = ends-then (callsTrace file builtins j file) (relocationsTrace file builtins j) (b .0) (b .1) in
+      let t = ends-turn (slotTrace file builtins j) (slotCount j) 0 file (a .0) (a .1) i (omega arith) (omega (arith, c .0)) in
+      call-to file builtins j i (c .0) (t .before) (t .after) (t .ends) c

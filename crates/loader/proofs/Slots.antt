@@ -25,7 +25,7 @@ use Rattle.loader.specs.declared.validate.Job.{Job}
 use Rattle.loader.specs.Functions.{rowFor}
 use Rattle.loader.specs.Deeds.{DeedFits, deedTrace}
 use Rattle.loader.specs.Trace.{andThen, each}
-use Rattle.loader.specs.Calls.{nextCall, callOf, callAt, textOf, slotCount, immediate, callRow, callBy, callDeed, slotTrace}
+use Rattle.loader.specs.Calls.{nextCall, isLocalCall, callOf, callAt, textOf, slotCount, immediate, callRow, callBy, callDeed, slotTrace}
 use Rattle.loader.specs.Contracts.{InFile, Begins}
 use Rattle.loader.proofs.Going.{GoingIn, in-ahead}
 
@@ -55,7 +55,7 @@ whole file j inside = length-take-le (j .length) (drop (j .start) file) (simp le
 
 -- by its slot, which is there
 none-by : (text : List ℕ) (version2 : Bool) (i : ℕ) → i < length text / 8 → (le 1 text (8 * i) ≡ 0x85 → ⊥) → callAt text version2 i ≡ None
-unfolding callAt insnAt slotAt callOf _if_else_
+unfolding callAt insnAt slotAt callOf isLocalCall _if_else_
 none-by text version2 i h e =
     let there : leb (length text / 8) i ≡ false = lt-leb (length text / 8) i h in
     let other : eqb (le 1 text (8 * i)) 0x85 ≡ false = ne-eqb _ _ e in

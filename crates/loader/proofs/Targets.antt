@@ -1,12 +1,12 @@
 -- A local call's target is one of the text's slots, and its row has the index's key. Assumes nothing.
 use Prim.Native.Nat.{ℕ, _+_, _-_, _/_, _^_, _≤_, _<_}
 use native.Mathlib.Omega.{arith}
-use mathlib.Core.Path.{_≡_, _∙_}
-use mathlib.Core.Bool.{Bool, true, false, _&&_, not}
+use mathlib.Core.Path.{_≡_, sym, _∙_}
+use mathlib.Core.Bool.{Bool, true, false, true≢false}
 use mathlib.Core.List.{List}
 use lib.ListN.{length, drop, length-take, length-drop}
-use lib.Dec.{ltb, eqb}
-use Rattle.ebpf.specs.Choice.{_if_else_, row-rest}
+use lib.Dec.{ltb}
+use Rattle.ebpf.specs.Choice.{_if_else_, row-cases}
 use Rattle.ebpf.specs.Instructions.{insnAt}
 use Rattle.ebpf.specs.declared.Slot.{Slot}
 use Rattle.ebpf.specs.declared.Slot.the-variants.{Holds, Past}
@@ -18,8 +18,8 @@ use Rattle.program.proofs.Cases.{by-test, by-lt, zero-one}
 use Rattle.loader.specs.declared.calls.Call.the-variants.{None, To, Outside}
 use Rattle.loader.specs.declared.validate.Job.{Job}
 use Rattle.loader.specs.Functions.{rowFor}
-use Rattle.loader.specs.Calls.{inside, target, callOf, callIn, callAt, textOf}
-use Rattle.loader.specs.Demand.{CallsTo, keyOf}
+use Rattle.loader.specs.Calls.{inside, target, callOf, localCallIn, callIn, callAt, textOf, slotCount}
+use Rattle.loader.specs.Demand.{LocalCall, CallsTo, keyOf}
 use Rattle.loader.proofs.Rowing.{row-is, call-key}
 
 -- ---- a target is a slot
@@ -44,16 +44,48 @@ target-lt count i imm to =
 in-lt : (count : ℕ) (version2 : Bool) (i to : ℕ) (s : Slot) → callIn count version2 i s ≡ To to → to < count
 unfolding callOf
 in-lt count version2 i to Past e = absurd (zero-one (cc))
-in-lt count version2 i to (Holds insn) e =
-    let never : None ≡ To to → ⊥ = λ h. zero-one (cc) in
-    target-lt count i (insn .imm) to
-    (row-rest (version2 && eqb (insn .src) 0) _ _ (To to) never
-    (row-rest (eqb (insn .imm) 0xffff_ffff) _ _ (To to) never
-    (row-rest (not (eqb (insn .opc) 0x85)) _ _ (To to) never e)))
+in-lt count version2 i to (Holds insn) e = target-lt count i (insn .imm) to (row-cases _ _ _ _ _ (λ h q. q) (λ h q. absurd (zero-one (cc))) e)
 
-to-slot : (text : List ℕ) (version2 : Bool) (i to : ℕ) → callAt text version2 i ≡ To to → to < length text / 8
+-- what calls a target is a local call, and a local call calls something
+local-in : (count : ℕ) (version2 : Bool) (i to : ℕ) (s : Slot) → callIn count version2 i s ≡ To to → localCallIn version2 s ≡ true
+unfolding callOf
+local-in count version2 i to Past e = absurd (zero-one (cc))
+local-in count version2 i to (Holds insn) e = row-cases _ _ _ _ _ (λ h q. h) (λ h q. absurd (zero-one (cc))) e
+
+not-none : (count i imm : ℕ) → target count i imm ≡ None → ⊥
+unfolding target inside _if_else_
+not-none count i imm =
+    by-test (ltb imm 0x8000_0000)
+    (λ (b : Bool). (inside count (i + 1 + imm) if b else Outside if ltb (i + 1 + imm) 0x1_0000_0000 else inside count (i + 1 + imm - 0x1_0000_0000)) ≡ None → ⊥)
+    (λ h. in-out (i + 1 + imm))
+    (λ h. by-test (ltb (i + 1 + imm) 0x1_0000_0000)
+    (λ (b : Bool). (Outside if b else inside count (i + 1 + imm - 0x1_0000_0000)) ≡ None → ⊥)
+    (λ g e. zero-one (cc))
+    (λ g. in-out (i + 1 + imm - 0x1_0000_0000)))
+  where
+    in-out : (u : ℕ) → inside count u ≡ None → ⊥
+    in-out u = by-lt u count (λ (b : Bool). (To u if b else Outside) ≡ None → ⊥) (λ l e. zero-one (cc)) (λ l e. zero-one (cc))
+
+some-in : (count : ℕ) (version2 : Bool) (i : ℕ) (s : Slot) → localCallIn version2 s ≡ true → callIn count version2 i s ≡ None → ⊥
+unfolding callOf _if_else_
+some-in count version2 i Past h e = true≢false (sym h)
+some-in count version2 i (Holds insn) h e = not-none count i (insn .imm) (rw h at e)
+
+pub calls-local : (file : List ℕ) (j : Job) (i to : ℕ) → CallsTo file j i to → LocalCall file j i
+unfolding callAt
+calls-local file j i to c = (c .0, local-in (length (textOf file j) / 8) (j .version2) i to (insnAt (textOf file j) i) (c .1))
+
+pub local-calls : (file : List ℕ) (j : Job) (i : ℕ) → LocalCall file j i → callAt (textOf file j) (j .version2) i ≡ None → ⊥
+unfolding callAt
+local-calls file j i c e = some-in (length (textOf file j) / 8) (j .version2) i (insnAt (textOf file j) i) (c .1) e
+
+pub to-slot : (text : List ℕ) (version2 : Bool) (i to : ℕ) → callAt text version2 i ≡ To to → to < length text / 8
 unfolding callAt
 to-slot text version2 i to e = in-lt (length text / 8) version2 i to (insnAt text i) e
+
+-- a target is one of the job's slots
+pub to-in : (file : List ℕ) (j : Job) (i to : ℕ) → CallsTo file j i to → to < slotCount j
+to-in file j i to c = omega (arith, to-slot (textOf file j) (j .version2) i to (c .1), length-take (j .length) (drop (j .start) file))
 
 -- a file's target takes few bits
 pub to-small : (file : List ℕ) (j : Job) (i to : ℕ) → length file ≤ 2 ^ 24 → CallsTo file j i to → to < 2 ^ 24

@@ -36,13 +36,16 @@ target count i imm =
     Outside if ltb (i + 1 + imm) 0x1_0000_0000 else
     inside count (i + 1 + imm - 0x1_0000_0000)
 
--- opcode 0x85, immediate not −1, in version 2 source not 0
+-- a local call: opcode 0x85, immediate not −1, in version 2 source not 0
+unfoldable pub isLocalCall : Bool → Insn → Bool
+isLocalCall version2 insn = eqb (insn .opc) 0x85 && (not (eqb (insn .imm) 0xffff_ffff) && not (version2 && eqb (insn .src) 0))
+
 unfoldable pub callOf : ℕ → Bool → ℕ → Insn → Call
-callOf count version2 i insn =
-    None if not (eqb (insn .opc) 0x85) else
-    None if eqb (insn .imm) 0xffff_ffff else
-    None if version2 && eqb (insn .src) 0 else
-    target count i (insn .imm)
+callOf count version2 i insn = target count i (insn .imm) if isLocalCall version2 insn else None
+
+abbrev pub localCallIn : Bool → Slot → Bool
+localCallIn version2 Past = false
+localCallIn version2 (Holds insn) = isLocalCall version2 insn
 
 abbrev pub callIn : ℕ → Bool → ℕ → Slot → Call
 callIn count version2 i Past = None

@@ -4,11 +4,12 @@ use mathlib.Core.Path.{_≡_}
 use mathlib.Core.Bool.{Bool, true, false, _&&_, _||_, not}
 use mathlib.Core.Logic.{_⊎_, _↔_}
 use mathlib.Core.List.{List, [], _∷_, map}
-use lib.ListN.{length, take, drop, getD}
+use lib.ListN.{take, drop, getD}
 use lib.Dec.{ltb, leb, eqb}
 use lib.Bits.{bitAnd}
 use Rattle.ebpf.specs.Choice.{_if_else_}
 use Rattle.ebpf.specs.LittleEndian.{le}
+use Rattle.ebpf.specs.Instructions.{insnAt}
 use Rattle.ebpf.specs.IndexKeys.{indexKey}
 use Rattle.ebpf.specs.Murmur3.{murmur3}
 use Rattle.elf_parser.specs.declared.parts.Place.the-variants.{At as Stands}
@@ -37,7 +38,7 @@ use Rattle.loader.specs.declared.validate.Config.{Config}
 use Rattle.loader.specs.declared.validate.Job.{Job}
 use Rattle.loader.specs.declared.validate.Prepared.{Prepared}
 use Rattle.loader.specs.declared.validate.Prepared.the-variants.{Ready, Refused as NotReady}
-use Rattle.loader.specs.Calls.{callAt, textOf, slotCount, immediate}
+use Rattle.loader.specs.Calls.{localCallIn, callAt, textOf, slotCount, immediate}
 use Rattle.loader.specs.Functions.{rowFor, symbolFunction, indexOf}
 use Rattle.loader.specs.Labels.{labelSymbols, labelsTrace}
 use Rattle.loader.specs.Relocations.{relocationAt, relocationCount, placeAt, textHolds, isFunction}
@@ -47,7 +48,11 @@ use Rattle.loader.specs.Validate.{prepared}
 
 -- ---- local calls
 
--- slot number i is, in the file, a local call of slot number `to`
+-- slot number i is, in the file, a local call
+abbrev pub LocalCall : List ℕ → Job → ℕ → Type 0
+LocalCall file j i = (i < slotCount j) × (localCallIn (j .version2) (insnAt (textOf file j) i) ≡ true)
+
+-- and its target is slot number `to`
 abbrev pub CallsTo : List ℕ → Job → ℕ → ℕ → Type 0
 CallsTo file j i to = (i < slotCount j) × (callAt (textOf file j) (j .version2) i ≡ To to)
 
@@ -154,13 +159,13 @@ IsNameKey j key = (j .version2 ≡ false) × (key ≡ nameKey)
 
 -- ---- the sentences about an accepted load
 
--- each slot that was a local call in the file, of whose immediate no relocation names a byte, holds a key that finds its target,
--- unless in version 1 it is the key of the name entrypoint
+-- each slot that was a local call in the file, of whose immediate no relocation names a byte, has its target among the slots, and holds
+-- a key that finds it, unless in version 1 it is the key of the name entrypoint
 abbrev pub Calls : List ℕ → Job → List ℕ → (ℕ → Found) → Type 0
 Calls file j im look =
-    (i to : ℕ) → CallsTo file j i to
+    (i : ℕ) → LocalCall file j i
     → ((b : ℕ) → isIn (immediate j i) 4 b ≡ true → Unnamed file j b)
-    → IsNameKey j (le 4 im (immediate j i)) ⊎ Finds look (le 4 im (immediate j i)) to
+    → (to : ℕ) × CallsTo file j i to × (to < slotCount j) × (IsNameKey j (le 4 im (immediate j i)) ⊎ Finds look (le 4 im (immediate j i)) to)
 
 -- the table's keys are those of the registrations: local call targets, function symbols and the entry
 abbrev pub Keys : List ℕ → List ℕ → Job → (ℕ → Found) → Type 0
@@ -174,11 +179,10 @@ Entry j look = j .version2 ≡ false → Finds look nameKey (entryIndex j)
 abbrev pub Others : List ℕ → List ℕ → Job → (ℕ → Found) → Type 0
 Others file builtins j look = (row : Row) → Registers file builtins j row → IsNameKey j (row .key) ⊎ Finds look (row .key) (row .index)
 
--- outside local call immediates and the bytes that relocations name, the image holds the file's bytes
+-- outside local call immediates and the bytes that relocations name, the image holds the file's bytes; behind them both are read as 0
 abbrev pub Bytes : List ℕ → Job → List ℕ → Type 0
 Bytes file j im =
-    (b : ℕ) → b < length file
-    → ((i to : ℕ) → CallsTo file j i to → isIn (immediate j i) 4 b ≡ false)
+    (b : ℕ) → ((i : ℕ) → LocalCall file j i → isIn (immediate j i) 4 b ≡ false)
     → Unnamed file j b
     → getD im b 0 ≡ getD file b 0
 

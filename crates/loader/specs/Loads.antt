@@ -1,12 +1,19 @@
 -- What `load` promises.
-use mathlib.Core.List.{List}
+use Prim.Native.Nat.{ℕ}
 use denote.Ref.{now}
 use lib.ListN.{length}
-use Rattle.program.specs.Table.{Lent, tableBefore, tableAfter}
+use Rattle.program.specs.Rows.{Ascending}
+use Rattle.program.specs.Table.{Lent, tableBefore, tableAfter, rowsOf}
 use Rattle.loader.specs.declared.answer.Load.{Load}
+use Rattle.loader.specs.declared.answer.Load.the-variants.{Accepted as Accepts, Refused as Refuses}
 use Rattle.loader.specs.declared.validate.Config.{Config}
 use Rattle.loader.specs.Load.{loadOfLent, Loaded}
 use Rattle.loader.specs.Demand.{Demand3}
+
+-- this holds of the rows that an accepted load uses
+abbrev pub OnUsed : Load → (ℕ → Type 0) → Type 0
+OnUsed (Accepts x) P = P (x .used)
+OnUsed (Refuses r) P = Unit {0}
 
 -- WHAT `load` PROMISES, for every file, list of built-in keys and settings, whatever the lent image, read-only buffer and the five columns of the table
 -- hold at the call (`.entry`); `.exit` is what they hold on return, and a is the answer
@@ -18,3 +25,5 @@ pub record Loads (file builtins : Lent) (c : Config) (image ro keys indices kind
   -- demand 3: calls, keys and bytes of an accepted load; collisions and full tables
   pub keyed : Demand3 (now (file .entry)) (now (builtins .entry)) c (length (now (image .entry))) (length (now (ro .entry))) (tableBefore keys indices kinds starts lengths)
       (now (image .exit)) (tableAfter keys indices kinds starts lengths) a
+  -- the rows ascend strictly by key
+  pub ascending : OnUsed a (λ used. Ascending (rowsOf (tableAfter keys indices kinds starts lengths) used))

@@ -23,7 +23,7 @@ use Rattle.loader.specs.declared.error.ElfError.the-variants.{RelativeJu
 use Rattle.loader.specs.declared.deeds.Deed.{Deed}
 use Rattle.loader.specs.declared.deeds.Deed.the-variants.{Skip, Refuse, Halves, Register}
 use Rattle.loader.specs.declared.validate.Job.{Job}
-use Rattle.loader.specs.Calls.{inside, target, callOf, callAt, callDeed}
+use Rattle.loader.specs.Calls.{inside, target, isLocalCall, callOf, callAt, callDeed}
 use Rattle.loader.specs.Functions.{rowFor}
 use Rattle.loader.specs.Relocations.{relocationAt, usedBefore, usedHeader, placeOf, planAt, plan6464, addressDeed, halvesDeed, wordDeed, planRelative, relativeText, immediateAt, programAddress, within}
 use Rattle.loader.specs.RelocationExamples.{layout, job, image, zeros, asked}
@@ -73,7 +73,7 @@ row index = record { key = index; index = index; kind = 0; start = 0; length = 0
 -- −4 goes to 0, −5 is 23 with the value 3, 3 goes to 7, 4 is 23; −1 stays untouched. The key goes to the immediate's place, byte 28
 slot-3-of-8 : called (2 ^ 32 - 4) ∷ called (2 ^ 32 - 5) ∷ called 3 ∷ called 4 ∷ called (2 ^ 32 - 1) ∷ []
     ≡ Register (row 0) 28 ∷ Refuse (RelativeJumpOutOfBounds 3) ∷ Register (row 7) 28 ∷ Refuse (RelativeJumpOutOfBounds 3) ∷ Skip ∷ []
-unfolding callDeed callAt insnAt slotAt callOf target inside rowFor legacyRow legacyKey isTaken _if_else_ le bytesOf
+unfolding callDeed callAt insnAt slotAt callOf isLocalCall target inside rowFor legacyRow legacyKey isTaken _if_else_ le bytesOf
 slot-3-of-8 = refl
 
 -- version 1, type 1, symbol value 0x20, bytes 4: halves 0x24 and 1

@@ -20,7 +20,7 @@ ghost use lib.Dec.{eqb};
 ghost use lib.ListN.{length, getD, set};
 ghost use Rattle.program.specs.declared.FunctionName.the-variants.{OfIndex};
 ghost use Rattle.loader.specs.Functions.{rowFor};
-ghost use Rattle.loader.specs.Calls.{inside, target, callOf, callAt, slotCount, callsTrace, nextCall, PassesTo};
+ghost use Rattle.loader.specs.Calls.{inside, target, isLocalCall, callOf, callAt, slotCount, callsTrace, nextCall, PassesTo};
 ghost use Rattle.loader.specs.CallLoop.{TargetAsks, TargetSettles, SlotAsks, SlotSettles, SlotsAsk, SlotsLead};
 ghost use Rattle.loader.specs.Contracts.{PartAsks, FileSettles};
 
@@ -56,20 +56,21 @@ fn target_of(count: u64, i: u64, imm: u32) -> Call
     inside_text(count, to - 0x1_0000_0000)
 }
 
+fn is_local_call(version2: bool, insn: Insn) -> bool
+    ensures { λ r. ⌜ r ≡ isLocalCall version2 insn ⌝ }
+{
+    let near = version2 & (insn.src == 0);
+    (insn.opc == CALL_IMM) & ((insn.imm != 0xffff_ffff) & !near)
+}
+
 fn call_of(count: u64, version2: bool, i: u64, insn: Insn) -> Call
     requires { ⌜ (i < 2 ^ 24) × (count ≤ 2 ^ 24) ⌝ }
     ensures { λ r. ⌜ r ≡ callOf count version2 i insn ⌝ }
 {
-    if insn.opc != CALL_IMM {
-        return Call::None;
+    if is_local_call(version2, insn) {
+        return target_of(count, i, insn.imm);
     }
-    if insn.imm == 0xffff_ffff {
-        return Call::None;
-    }
-    if version2 & (insn.src == 0) {
-        return Call::None;
-    }
-    target_of(count, i, insn.imm)
+    Call::None
 }
 
 // What slot number `i` of a text calls.

@@ -3,7 +3,7 @@
 use denote.Ref.{now}
 use Rattle.program.specs.Table.{Slices, slices}
 use Rattle.exports.specs.Answers.{configOf}
-use Rattle.exports.proofs.Giving.{loaded-by, keyed-by, given-by}
+use Rattle.exports.proofs.Giving.{loaded-by, keyed-by, used-by, given-by}
 use borrow.Author.Needs.{needs}
 use Rattle.exports.proofs.sbpf_load.Statement.{statement}
 use Rattle.exports.proofs.sbpf_load.Tie as tie
@@ -28,6 +28,7 @@ returns c =
       loads = record {
         loaded = loaded-by file builtins (s .args .image .now) (s .args .ro .now) (T s) (q .config-of .result) (configOf (s .args .settings)) (q .config-of .ensures) im′ ro′ (T₁ p) (p .load .result) did;
         keyed = keyed-by file builtins (s .args .image .now) (s .args .ro .now) (T s) (q .config-of .result) (configOf (s .args .settings)) (q .config-of .ensures) im′ ro′ (T₁ p) (p .load .result) did (p .load .ensures .keyed);
+        ascending = used-by file builtins (s .args .image .now) (s .args .ro .now) (T s) (q .config-of .result) (configOf (s .args .settings)) (q .config-of .ensures) im′ ro′ (T₁ p) (p .load .result) did _ (p .load .ensures .ascending);
       };
       gives = given-by file builtins (s .args .image .now) (s .args .ro .now) (T s) (q .config-of .result) (configOf (s .args .settings)) (q .config-of .ensures) im′ ro′ (T₁ p) (p .load .result) did (c .before .before .before .load-answer .result) (s .args .answer .now) (c .before .before .give .last .0) (c .before .before .give .result) (c .before .before .before .load-answer .ensures) (c .before .before .give .ensures);
     }

@@ -1,4 +1,4 @@
--- `loader::calls::call_of` meets its contract: a row of choices.
+-- `loader::calls::call_of` meets its contract: the target of a local call, or none.
 -- Assumes nothing.
 use Rattle.ebpf.specs.Choice.{choices}
 use Rattle.loader.specs.Calls.{callOf}
@@ -11,8 +11,7 @@ unfolding callOf
 call-of-spec =
     tie.close
     (tie.spec
-    (λ c. search choices depth 8)
-    (λ c. search choices depth 8)
-    (λ c. search choices depth 12)
     (search needs)
-    (λ c. search (choices, c .target-of .ensures) depth 12))
+    (search needs)
+    (λ c. rw (← c .before .before .is-local-call .ensures) (search (choices, c .target-of .ensures) depth 8))
+    (λ c. rw (← c .before .is-local-call .ensures) (search choices depth 8)))
