@@ -34,3 +34,4 @@ pub mod Refusing
 pub mod Gathered
 pub mod Onward
 pub mod Aborting
+pub mod Builtins
