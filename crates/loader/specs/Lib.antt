@@ -22,3 +22,5 @@ pub mod Parts
 pub mod Load
 pub mod Demand
 pub mod Loads
+pub mod SmallFiles
+pub mod WholeLoads

@@ -15,7 +15,7 @@ use Rattle.program.specs.declared.Row.{Row}
 use Rattle.program.specs.Search.{isAmong, halves, between}
 use Rattle.program.specs.HashedLegacy.{legacyRow, legacyKey, keptSymbol, isTaken}
 use Rattle.elf_parser.specs.Records.{entryAt}
-use Rattle.loader.specs.declared.error.ElfError.the-variants.{InvalidVirtualAddress, UnknownRelocation, UnknownSymbol, UnresolvedSymbol, ValueOutOfBounds}
+use Rattle.loader.specs.declared.error.ElfError.the-variants.{UnknownRelocation, UnknownSymbol, UnresolvedSymbol, ValueOutOfBounds}
 use Rattle.loader.specs.declared.read_only.Placing.the-variants.{Refused as NoPlacing}
 use Rattle.loader.specs.declared.validate.Job.{Job}
 use Rattle.loader.specs.declared.relocations.Used.the-variants.{Header}
@@ -85,22 +85,61 @@ zeros = bytesOf 8 0 ++ (bytesOf 8 0 ++ bytesOf 8 0)
 abbrev pub asked : List ℕ → ℕ → ℕ → Deed
 asked im r-offset r-info = relocationDeed (file (relocation r-offset r-info) (relocation 0 0) (symbol 0 0x20)) [] (job false) 0 im
 
--- type 1, symbol value 0x20, bytes 4: halves 0x24 and 1. A symbol that is not there; the upper half outside the image
-type-1 : asked image 0 1 ∷ asked image 0 (1 + 2 ^ 32) ∷ asked image 16 1 ∷ []
-    ≡ Halves 4 12 (0x24 + 1 * 2 ^ 32) ∷ Refuse (UnknownSymbol 1) ∷ Refuse ValueOutOfBounds ∷ []
+-- type 1: a symbol that is not there; the upper half outside the image
+type-1 : asked image 0 (1 + 2 ^ 32) ∷ asked image 16 1 ∷ [] ≡ Refuse (UnknownSymbol 1) ∷ Refuse ValueOutOfBounds ∷ []
 unfolding relocationAt usedBefore usedHeader placeOf planAt plan6464 addressDeed halvesDeed wordDeed immediateAt programAddress within _if_else_ le bytesOf entryAt rel sym
 type-1 = refl
 
--- type 8 in the text, both halves 0: 29. A lower half of 4 gains the program's start; behind the text version 1 reads at r + 4
-type-8 : asked zeros 0 8 ∷ asked image 0 8 ∷ asked image 16 8 ∷ asked image 17 8 ∷ []
-    ≡ Refuse InvalidVirtualAddress ∷ Halves 4 12 (4 + 2 ^ 32) ∷ Word 16 (2 ^ 32) ∷ Refuse ValueOutOfBounds ∷ []
+-- type 8: a lower half of 4 in the text gains the program's start; behind the text version 1 reads at r + 4
+type-8 : asked image 0 8 ∷ asked image 16 8 ∷ asked image 17 8 ∷ [] ≡ Halves 4 12 (4 + 2 ^ 32) ∷ Word 16 (2 ^ 32) ∷ Refuse ValueOutOfBounds ∷ []
 unfolding relocationAt usedBefore usedHeader placeOf planAt planRelative relativeText relativeValue wordDeed immediateAt programAddress within _if_else_ le bytesOf entryAt rel
 type-8 = refl
 
--- type 0, which the standard passes over: 30; and every other type
-type-0 : asked image 0 0 ∷ asked image 0 2 ∷ [] ≡ Refuse (UnknownRelocation 0) ∷ Refuse (UnknownRelocation 2) ∷ []
+-- 30 for every type but 1, 8 and 10
+other-types : asked image 0 2 ∷ asked image 0 11 ∷ [] ≡ Refuse (UnknownRelocation 2) ∷ Refuse (UnknownRelocation 11) ∷ []
 unfolding relocationAt usedBefore usedHeader placeOf planAt within _if_else_ le bytesOf entryAt rel
-type-0 = refl
+other-types = refl
+
+-- ---- out of the text, at the place r = 16 in an image of 32 bytes, by version and type; 7 and 5 are the halves there, and 0
+
+abbrev longer : ℕ → List ℕ
+longer third = bytesOf 8 (4 * 2 ^ 32) ++ (bytesOf 8 0 ++ (bytesOf 8 third ++ bytesOf 8 0))
+
+abbrev behind : Bool → ℕ → ℕ → Deed
+behind version2 type third = planAt (file (relocation 0 0) (relocation 0 0) (symbol 0 0x20)) (longer third) [] (job version2) 16 type
+
+-- type 1: version 1 takes the 4 bytes at r + 4 and writes halves, version 2 those at r, and writes 8 bytes there. Type 8: 8 bytes at r, in version 1 always with
+-- the program's start, from the 4 at r + 4, in version 2 from the 8 at r, which gain it where they are below it
+out-of-text :
+    behind false 1 (7 + 5 * 2 ^ 32)
+    ∷ behind true 1 (7 + 5 * 2 ^ 32)
+    ∷ behind false 8 (7 + 5 * 2 ^ 32)
+    ∷ behind true 8 (7 + 5 * 2 ^ 32)
+    ∷ behind true 8 7
+    ∷ behind false 8 0
+    ∷ behind true 8 0
+    ∷ []
+    ≡ Halves 20 28 (0x25 + 2 ^ 32)
+    ∷ Word 16 (0x27 + 2 ^ 32)
+    ∷ Word 16 (5 + 2 ^ 32)
+    ∷ Word 16 (7 + 5 * 2 ^ 32)
+    ∷ Word 16 (7 + 2 ^ 32)
+    ∷ Word 16 (2 ^ 32)
+    ∷ Word 16 (2 ^ 32)
+    ∷ []
+unfolding planAt plan6464 addressDeed planRelative relativeText relativeValue halvesDeed wordDeed immediateAt programAddress within _if_else_ le bytesOf entryAt sym
+out-of-text = refl
+
+-- ---- the hash 9 of a name of 3 bytes at 232, for a call at r = 0 in 24 bytes: no built-in's key, where broken files are rejected and where they are not; a
+-- built-in's key, and then the place of the call outside the file
+
+abbrev callOfHash : List ℕ → Bool → ℕ → Deed
+callOfHash builtins reject at = builtinCall builtins reject 24 at 0 232 3 9
+
+built-ins : callOfHash (8 ∷ 10 ∷ []) true 4 ∷ callOfHash (8 ∷ 10 ∷ []) false 4 ∷ callOfHash (8 ∷ 9 ∷ []) true 4 ∷ callOfHash (8 ∷ 9 ∷ []) true 21 ∷ callOfHash [] false 21 ∷ []
+    ≡ Refuse (UnresolvedSymbol 232 3 0) ∷ Key 4 9 ∷ Key 4 9 ∷ Refuse ValueOutOfBounds ∷ Refuse ValueOutOfBounds ∷ []
+unfolding builtinCall isAmong halves between _if_else_
+built-ins = refl
 
 -- version 2: address 0x18 is the second header's; address 8 is in both, and the header used last maps it. Taken alone, the first maps it
 used-last : placeAt (file (relocation 0x18 8) (relocation 8 8) (symbol 0 0)) (job true) 1 ∷ placeAt (file (relocation 8 8) (relocation 0 0) (symbol 0 0)) (job true) 0 ∷ placeAt (file (relocation 0x28 8) (relocation 0 0) (symbol 0 0)) (job true) 0 ∷ []

@@ -4,16 +4,19 @@ use mathlib.Core.Path.{_≡_, refl}
 use mathlib.Core.Bool.{Bool, true, false}
 use mathlib.Core.List.{List, [], _∷_}
 use Rattle.ebpf.specs.Choice.{_if_else_}
+use Rattle.ebpf.specs.IndexKeys.{indexKey, keyIn}
+use Rattle.ebpf.specs.LittleEndian.{bytesOf}
+use Rattle.ebpf.specs.Murmur3.{body, murmur3}
 use Rattle.program.specs.declared.Row.{Row}
 use Rattle.program.specs.declared.Found.the-variants.{At, Nothing}
 use Rattle.program.specs.declared.Registered.the-variants.{Inserted, Repeat, Collision, Full}
 use Rattle.program.specs.declared.Removed.the-variants.{Gone, Absent}
 use Rattle.program.specs.declared.KeptName.{KeptName}
 use Rattle.program.specs.declared.FunctionName.the-variants.{Symbol, OfIndex, Entrypoint}
-use Rattle.program.specs.Search.{between, halves}
+use Rattle.program.specs.Search.{between, halves, isAmong}
 use Rattle.program.specs.Rows.{rank}
 use Rattle.program.specs.Table.{Slices, slices, least, capacity, rowsOf, ranksOf, opened, closed, openedRow, openedAlike, closedRow, counted, placeIn, holds, registerAt, registeredAt, registerIn, registeredBy, registeredIn, registeredAlikeIn, unregisterAt, unregisteredAt, unregisterIn, unregisteredIn, lookupIn}
-use Rattle.program.specs.HashedLegacy.{kept, keptSymbol, keptName}
+use Rattle.program.specs.HashedLegacy.{kept, keptSymbol, keptName, legacyKey, isTaken}
 
 -- a row with a name that is made from the index
 abbrev row : ℕ → ℕ → Row
@@ -85,3 +88,13 @@ labelled = refl
 unlabelled : names false ≡ kept 0 0 0 ∷ kept 1 70 10 ∷ kept 0 0 0 ∷ kept 0 0 0 ∷ kept 2 0 10 ∷ []
 unfolding keptSymbol _if_else_
 unlabelled = refl
+
+-- a built-in's key is taken in version 1 with the check on only; a key that is no built-in's never is
+taken : isTaken (5 ∷ 9 ∷ []) false true 9 ∷ isTaken (5 ∷ 9 ∷ []) false true 7 ∷ isTaken (5 ∷ 9 ∷ []) false false 9 ∷ isTaken (5 ∷ 9 ∷ []) true true 9 ∷ [] ≡ true ∷ false ∷ false ∷ false ∷ []
+unfolding isTaken isAmong halves between _if_else_
+taken = refl
+
+-- keys: in version 2 the index, in version 1 the index's hash, but for the name entrypoint
+keys : legacyKey [] true Entrypoint 3 ∷ legacyKey [] true OfIndex 3 ∷ legacyKey [] false Entrypoint 3 ∷ legacyKey [] false (Symbol 70 10 true) 3 ∷ legacyKey [] false OfIndex 0 ∷ [] ≡ 3 ∷ 3 ∷ 0x71e3cf81 ∷ 0x71e3cf81 ∷ 0x63852afc ∷ []
+unfolding legacyKey keyIn indexKey murmur3 body bytesOf _if_else_
+keys = refl
