@@ -35,3 +35,4 @@ pub mod Gathered
 pub mod Onward
 pub mod Aborting
 pub mod Builtins
+pub mod Pinned
