@@ -22,7 +22,7 @@
 extern "C" {
 #endif
 
-#define SBPF_WORDS 16
+#define SBPF_WORDS 24
 
 /* Words of every answer that can be a refusal. */
 enum { SBPF_NUMBER, SBPF_VALUE, SBPF_NAME_START, SBPF_NAME_LENGTH };
@@ -78,8 +78,8 @@ enum { SBPF_KIND_EMPTY, SBPF_KIND_IN_FILE, SBPF_KIND_ENTRYPOINT, SBPF_KIND_FROM_
  * of the text's place in the lent bytes, too. */
 enum { SBPF_START = 4, SBPF_LENGTH };
 
-/* Words of a row that was found. */
-enum { SBPF_ROW_INDEX = 1, SBPF_ROW_KIND, SBPF_ROW_START, SBPF_ROW_LENGTH };
+/* Words of a lookup: whether a row was found, 1 or 0, and the row's, 0 where none was. */
+enum { SBPF_FOUND = 4, SBPF_ROW_INDEX, SBPF_ROW_KIND, SBPF_ROW_START, SBPF_ROW_LENGTH };
 
 /* MurmurHash3, x86 32-bit, seed 0. */
 uint32_t sbpf_hash(const uint8_t *name, size_t name_len);
@@ -106,7 +106,8 @@ uint32_t sbpf_symbol_table(const uint8_t *file, size_t file_len, uint64_t *answe
                            size_t answer_len);
 
 /* The first of the used rows with the key, whatever the columns hold; at most the rows lent
- * count, that is as many as the shortest column has. 1 where there is none. */
+ * count, that is as many as the shortest column has. The result is 0, also where there is none:
+ * SBPF_FOUND says it. */
 uint32_t sbpf_lookup(const uint32_t *keys, size_t keys_len, const uint32_t *indices,
                      size_t indices_len, const uint32_t *kinds, size_t kinds_len,
                      const uint32_t *starts, size_t starts_len, const uint32_t *lengths,

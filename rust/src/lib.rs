@@ -7,7 +7,7 @@
 use std::{fmt, ops::Range};
 
 /// The words of an answer.
-const WORDS: usize = 16;
+const WORDS: usize = 24;
 
 /// The exported functions, in the order of include/sbpf.h and with its arguments: a slice is a
 /// pointer and its length in elements. Nothing checks them against crates/exports/src/lib.rt.
@@ -135,7 +135,7 @@ impl fmt::Display for Refusal {
 
 impl std::error::Error for Refusal {}
 
-/// The sixteen words of a call that answers 0, else its refusal.
+/// The words of a call that answers 0, else its refusal.
 fn answered(call: impl FnOnce(*mut u64, usize) -> u32) -> Result<[u64; WORDS], Refusal> {
     let mut a = [0; WORDS];
     match call(a.as_mut_ptr(), WORDS) {
@@ -279,11 +279,11 @@ pub fn lookup(table: Table, used: usize, key: u32) -> Option<Row> {
         )
     })
     .ok()?;
-    Some(Row {
-        index: a[1] as u32,
-        kind: a[2] as u32,
-        start: a[3] as u32,
-        length: a[4] as u32,
+    (a[4] == 1).then_some(Row {
+        index: a[5] as u32,
+        kind: a[6] as u32,
+        start: a[7] as u32,
+        length: a[8] as u32,
     })
 }
 

@@ -1,4 +1,4 @@
--- What the exported functions answer: a number, 0 or why there is nothing, and 15 words behind it.
+-- What the exported functions answer: a number, 0 or why there is nothing, and 23 words behind it.
 use Prim.Native.Nat.{ℕ, zero, suc, _/_, _%_}
 use mathlib.Core.Path.{_≡_}
 use mathlib.Core.Bool.{Bool, true, false}
@@ -31,7 +31,7 @@ use Rattle.loader.specs.Load.{loadOfLent, answerOf}
 use Rattle.loader.specs.Loads.{Loads}
 use Rattle.exports.specs.declared.answers.Answer.{Answer}
 
--- the words of an answer, all sixteen
+-- the words of an answer, all 24
 abbrev pub wordsOf : Answer → List ℕ
 wordsOf a = a .number ∷ a .words
 
@@ -51,51 +51,51 @@ Gives a answer r = Given a (now (answer .entry)) (now (answer .exit)) r
 
 -- ---- the answers, with zeros where a word is not used
 
+-- a number and these words, with zeros behind them
+abbrev pub answerWith : ℕ → List ℕ → Answer
+answerWith n ws = record { number = n; words = written 23 ws }
+
 -- a refusal: its number and value, and the place of the name that it speaks of
 abbrev pub reported : Report → Answer
-reported r = record {
-  number = r .number;
-  words = r .value ∷ r .start ∷ r .length ∷ 0 ∷ 0 ∷ 0 ∷ 0 ∷ 0 ∷ 0 ∷ 0 ∷ 0 ∷ 0 ∷ 0 ∷ 0 ∷ 0 ∷ [];
-}
+reported r = answerWith (r .number) (r .value ∷ r .start ∷ r .length ∷ [])
 
 abbrev pub refused : ElfParserError → Answer
 refused e = reported (reportOf e)
 
--- a layout: after three zeros its numbers, in the order of `Layout`
+-- nothing is refused: zeros where a refusal has its value and its name, and these words
+abbrev pub accepted : List ℕ → Answer
+accepted ws = answerWith 0 (0 ∷ 0 ∷ 0 ∷ ws)
+
+-- a layout: its numbers, in the order of `Layout`
 abbrev pub laidOut : Layout → Answer
-laidOut l = record {
-  number = 0;
-  words =
-      0
-      ∷ 0
-      ∷ 0
-      ∷ l .«program_headers» .offset
-      ∷ l .«program_headers» .count
-      ∷ l .«section_headers» .offset
-      ∷ l .«section_headers» .count
-      ∷ l .shstrtab
-      ∷ l .symtab
-      ∷ l .strtab
-      ∷ l .dynstr
-      ∷ l .«dynamic_relocations» .offset
-      ∷ l .«dynamic_relocations» .count
-      ∷ l .«dynamic_symbols» .offset
-      ∷ l .«dynamic_symbols» .count
-      ∷ [];
-}
+laidOut l =
+    accepted
+    (l .«program_headers» .offset
+    ∷ l .«program_headers» .count
+    ∷ l .«section_headers» .offset
+    ∷ l .«section_headers» .count
+    ∷ l .shstrtab
+    ∷ l .symtab
+    ∷ l .strtab
+    ∷ l .dynstr
+    ∷ l .«dynamic_relocations» .offset
+    ∷ l .«dynamic_relocations» .count
+    ∷ l .«dynamic_symbols» .offset
+    ∷ l .«dynamic_symbols» .count
+    ∷ [])
 
 abbrev pub parseAnswer : Parsed → Answer
 parseAnswer (File l) = laidOut l
 parseAnswer (NoFile e) = refused e
 
--- a place in the file: after three zeros its start and its length
+-- a place in the file: its start and its length
 abbrev pub placeAnswer : Place → Answer
-placeAnswer (Stands start n) = record { number = 0; words = 0 ∷ 0 ∷ 0 ∷ start ∷ n ∷ 0 ∷ 0 ∷ 0 ∷ 0 ∷ 0 ∷ 0 ∷ 0 ∷ 0 ∷ 0 ∷ 0 ∷ [] }
+placeAnswer (Stands start n) = accepted (start ∷ n ∷ [])
 placeAnswer (NoPlace e) = refused e
 
--- a table: after three zeros its offset and its number of entries
+-- a table: its offset and its number of entries
 abbrev pub tableAnswer : Sliced → Answer
-tableAnswer (Slice t) = record { number = 0; words = 0 ∷ 0 ∷ 0 ∷ t .offset ∷ t .count ∷ 0 ∷ 0 ∷ 0 ∷ 0 ∷ 0 ∷ 0 ∷ 0 ∷ 0 ∷ 0 ∷ 0 ∷ [] }
+tableAnswer (Slice t) = accepted (t .offset ∷ t .count ∷ [])
 tableAnswer (NoSlice e) = refused e
 
 -- a question to a file that parses; else the refusal of the parse
@@ -107,10 +107,10 @@ asked (NoFile e) question = refused e
 abbrev pub GivesAsked : Lent → (List ℕ → Layout → Answer) → Lent → ℕ → Type 0
 GivesAsked file question answer r = Gives (asked (parsed (now (file .entry))) (question (now (file .entry)))) answer r
 
--- a row: its index, and its name's kind, start and length. 1 where there is none
+-- a row: 1, its index, and its name's kind, start and length; 0 where there is none
 abbrev pub rowAnswer : Found → Answer
-rowAnswer (At r) = record { number = 0; words = r .index ∷ r .kind ∷ r .start ∷ r .length ∷ 0 ∷ 0 ∷ 0 ∷ 0 ∷ 0 ∷ 0 ∷ 0 ∷ 0 ∷ 0 ∷ 0 ∷ 0 ∷ [] }
-rowAnswer Nothing = record { number = 1; words = 0 ∷ 0 ∷ 0 ∷ 0 ∷ 0 ∷ 0 ∷ 0 ∷ 0 ∷ 0 ∷ 0 ∷ 0 ∷ 0 ∷ 0 ∷ 0 ∷ 0 ∷ [] }
+rowAnswer (At r) = accepted (1 ∷ r .index ∷ r .kind ∷ r .start ∷ r .length ∷ [])
+rowAnswer Nothing = accepted (0 ∷ [])
 
 -- ---- a load
 
@@ -133,28 +133,22 @@ abbrev pub numberOf : Bool → ℕ
 numberOf true = 1
 numberOf false = 0
 
--- an accepted load: after three zeros its numbers, in the order of `Accepted`
+-- an accepted load: its numbers, in the order of `Accepted`
 abbrev pub acceptedAnswer : Accepted → Answer
-acceptedAnswer a = record {
-  number = 0;
-  words =
-      0
-      ∷ 0
-      ∷ 0
-      ∷ a .version
-      ∷ a .entry
-      ∷ a .used
-      ∷ a .moves
-      ∷ numberOf (a .«ro_copied»)
-      ∷ a .«ro_offset»
-      ∷ a .«ro_start»
-      ∷ a .«ro_length»
-      ∷ a .«text_addr»
-      ∷ a .«text_start»
-      ∷ a .«text_length»
-      ∷ 0
-      ∷ [];
-}
+acceptedAnswer a =
+    accepted
+    (a .version
+    ∷ a .entry
+    ∷ a .used
+    ∷ a .moves
+    ∷ numberOf (a .«ro_copied»)
+    ∷ a .«ro_offset»
+    ∷ a .«ro_start»
+    ∷ a .«ro_length»
+    ∷ a .«text_addr»
+    ∷ a .«text_start»
+    ∷ a .«text_length»
+    ∷ [])
 
 abbrev pub loadAnswer : Load → Answer
 loadAnswer (Accepts a) = acceptedAnswer a
@@ -165,7 +159,7 @@ pub record GivesLoad (file builtins : Lent) (settings : ℕ) (image ro keys indi
   pub loads : Loads file builtins (configOf settings) image ro keys indices kinds starts lengths (answerOf (loadOfLent file builtins (configOf settings) image ro keys indices kinds starts lengths))
   pub gives : Gives (loadAnswer (answerOf (loadOfLent file builtins (configOf settings) image ro keys indices kinds starts lengths))) answer r
 
--- the text's place: after three zeros its start and its length
+-- the text's place: its start and its length
 abbrev pub textAnswer : PartPlace → Answer
-textAnswer (TextAt start n) = record { number = 0; words = 0 ∷ 0 ∷ 0 ∷ start ∷ n ∷ 0 ∷ 0 ∷ 0 ∷ 0 ∷ 0 ∷ 0 ∷ 0 ∷ 0 ∷ 0 ∷ 0 ∷ [] }
+textAnswer (TextAt start n) = accepted (start ∷ n ∷ [])
 textAnswer (NoText e) = reported (load.reportOf e)

@@ -10,39 +10,49 @@ use program::Found;
 ghost use mathlib.Core.Path.{_≡_};
 ghost use mathlib.Core.List.{_∷_};
 ghost use lib.ListN.{length, getD};
-ghost use Rattle.exports.specs.Answers.{written, Gives, reported, refused, laidOut, parseAnswer, placeAnswer, tableAnswer, rowAnswer};
+ghost use Rattle.exports.specs.Answers.{written, Gives, answerWith, reported, refused, laidOut, parseAnswer, placeAnswer, tableAnswer, rowAnswer};
 
 // A number, 0 where nothing was refused, and what goes with it.
 pub struct Answer {
     pub number: u32,
-    pub words: [u64; 15],
+    pub words: [u64; 23],
+}
+
+// The word at a place, 0 past the last.
+fn word_in(words: &[u64], i: usize) -> u64
+    ensures { λ r. ⌜ r ≡ getD (now (words .entry)) i 0 ⌝ }
+{
+    if i < words.len() {
+        return words[i];
+    }
+    0
+}
+
+// Fills a slice: the words, as many as there is room for, and zeros behind them.
+fn fill(to: &mut [u64], words: &[u64])
+    ensures { λ _. ⌜ now (to .exit) ≡ written (length (now (to .entry))) (now (words .entry)) ⌝ }
+{
+    let mut i = 0;
+    while i < to.len() {
+        to[i] = word_in(words, i);
+        i += 1;
+    }
+}
+
+// An answer of a number and these words, with zeros behind them.
+pub(crate) fn answer_with(number: u32, first: &[u64]) -> Answer
+    ensures { λ r. ⌜ r ≡ answerWith number (now (first .entry)) ⌝ }
+{
+    let mut words = [0u64; 23];
+    fill(&mut words, first);
+    Answer { number, words }
 }
 
 // A refusal in numbers.
 pub(crate) fn reported(r: Report) -> Answer
     ensures { λ a. ⌜ a ≡ reported r ⌝ }
 {
-    let words = [
-        r.value,
-        r.start,
-        r.length,
-        0,
-        0,
-        0,
-        0,
-        0,
-        0,
-        0,
-        0,
-        0,
-        0,
-        0,
-        0,
-    ];
-    Answer {
-        number: r.number,
-        words,
-    }
+    answer_with(r.number, &[r.value, r.start, r.length])
 }
 
 pub(crate) fn refused(e: ElfParserError) -> Answer
@@ -75,7 +85,7 @@ fn laid_out(l: Layout) -> Answer
         symbols.offset,
         symbols.count,
     ];
-    Answer { number: 0, words }
+    answer_with(0, &words)
 }
 
 pub(crate) fn parse_answer(p: Parsed) -> Answer
@@ -91,26 +101,7 @@ pub(crate) fn place_answer(p: Place) -> Answer
     ensures { λ r. ⌜ r ≡ placeAnswer p ⌝ }
 {
     match p {
-        Place::At { start, length } => {
-            let words = [
-                0,
-                0,
-                0,
-                start as u64,
-                length as u64,
-                0,
-                0,
-                0,
-                0,
-                0,
-                0,
-                0,
-                0,
-                0,
-                0,
-            ];
-            Answer { number: 0, words }
-        }
+        Place::At { start, length } => answer_with(0, &[0, 0, 0, start as u64, length as u64]),
         Place::Refused(e) => refused(e),
     }
 }
@@ -119,10 +110,7 @@ pub(crate) fn table_answer(t: Sliced) -> Answer
     ensures { λ r. ⌜ r ≡ tableAnswer t ⌝ }
 {
     match t {
-        Sliced::At(e) => {
-            let words = [0, 0, 0, e.offset, e.count, 0, 0, 0, 0, 0, 0, 0, 0, 0, 0];
-            Answer { number: 0, words }
-        }
+        Sliced::At(e) => answer_with(0, &[0, 0, 0, e.offset, e.count]),
         Sliced::Refused(e) => refused(e),
     }
 }
@@ -133,60 +121,29 @@ pub(crate) fn row_answer(f: Found) -> Answer
     match f {
         Found::At(row) => {
             let words = [
+                0,
+                0,
+                0,
+                1,
                 row.index as u64,
                 row.kind as u64,
                 row.start as u64,
                 row.length as u64,
-                0,
-                0,
-                0,
-                0,
-                0,
-                0,
-                0,
-                0,
-                0,
-                0,
-                0,
             ];
-            Answer { number: 0, words }
+            answer_with(0, &words)
         }
-        Found::Nothing => {
-            let words = [0u64; 15];
-            Answer { number: 1, words }
-        }
+        Found::Nothing => answer_with(0, &[0, 0, 0, 0]),
     }
 }
 
-// The word at a place, 0 past the last.
-fn word_in(words: &[u64], i: usize) -> u64
-    ensures { λ r. ⌜ r ≡ getD (now (words .entry)) i 0 ⌝ }
-{
-    if i < words.len() {
-        return words[i];
-    }
-    0
-}
-
-// The number, or a word behind it.
-fn word_of(number: u32, words: &[u64], i: usize) -> u64
-    ensures { λ r. ⌜ r ≡ getD (number ∷ now (words .entry)) i 0 ⌝ }
-{
-    if i == 0 {
-        return number as u64;
-    }
-    word_in(words, i - 1)
-}
-
-// Fills the lent slice: the number and the words, as many as there is room for, and zeros behind
-// them. The words are lent: by value they would be copied for each word.
+// Fills the lent slice: the number, and the words behind it. The words are lent: by value they
+// would be copied.
 fn give_words(answer: &mut [u64], number: u32, words: &[u64])
     ensures { λ _. ⌜ now (answer .exit) ≡ written (length (now (answer .entry))) (number ∷ now (words .entry)) ⌝ }
 {
-    let mut i = 0;
-    while i < answer.len() {
-        answer[i] = word_of(number, words, i);
-        i += 1;
+    if 0 < answer.len() {
+        answer[0] = number as u64;
+        fill(&mut answer[1..], words);
     }
 }
 

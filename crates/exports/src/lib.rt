@@ -1,5 +1,5 @@
 // The C interface, over numbers and lent slices: a slice is a pointer and a length. Each answer but a
-// hash is sixteen words, the number first, as `specs/Answers.antt` says; the number is the result too.
+// hash is 24 words, the number first, as `specs/Answers.antt` says; the number is the result too.
 // A lent slice of fewer words takes the first of them, one of more has zeros behind them.
 use answers::give;
 use answers::parse_answer;

@@ -1,5 +1,6 @@
 // The settings of a load by their bits, and what a load answers in words.
 use crate::answers::Answer;
+use crate::answers::answer_with;
 use crate::answers::reported;
 use loader::Accepted;
 use loader::Config;
@@ -60,9 +61,8 @@ fn accepted_answer(a: Accepted) -> Answer
         a.text_addr,
         a.text_start as u64,
         a.text_length as u64,
-        0,
     ];
-    Answer { number: 0, words }
+    answer_with(0, &words)
 }
 
 pub(crate) fn load_answer(a: Load) -> Answer
@@ -78,10 +78,7 @@ pub(crate) fn text_answer(p: PartPlace) -> Answer
     ensures { λ r. ⌜ r ≡ textAnswer p ⌝ }
 {
     match p {
-        PartPlace::At { start, length } => {
-            let words = [0, 0, 0, start, length, 0, 0, 0, 0, 0, 0, 0, 0, 0, 0];
-            Answer { number: 0, words }
-        }
+        PartPlace::At { start, length } => answer_with(0, &[0, 0, 0, start, length]),
         PartPlace::Refused(e) => reported(report_of(e)),
     }
 }

@@ -5,6 +5,7 @@ use crate::{
     elf::{self, Style},
     expected::LONGEST,
     model, mutate, outcome,
+    port::WORDS,
     random::Random,
     Settings,
 };
@@ -178,9 +179,9 @@ impl Case {
             image,
             ro,
             room: if r.one_in(8) {
-                r.below(24) as usize
+                r.index(WORDS + 8)
             } else {
-                16
+                WORDS
             },
             shift: r.index(16),
             garbage: r.next(),
@@ -205,7 +206,7 @@ impl Case {
             columns: [256.max(file.len() / 8 + 2); 5],
             image: file.len(),
             ro: file.len(),
-            room: 16,
+            room: WORDS,
             shift: 0,
             garbage: 1,
             asked: vec![0, 1, 2],

@@ -422,15 +422,13 @@ impl Comparer {
             .unwrap()
             .min(used.min(1 << 20) as usize);
         let mut words = [0; WORDS];
-        match (0..rows).find(|i| t[0][*i] == key) {
-            Some(i) => {
-                for (k, column) in t.iter().enumerate().skip(1) {
-                    words[k] = column[i] as u64;
-                }
+        if let Some(i) = (0..rows).find(|i| t[0][*i] == key) {
+            words[4] = 1;
+            for (k, column) in t.iter().enumerate().skip(1) {
+                words[4 + k] = column[i] as u64;
             }
-            None => words[0] = 1,
         }
-        self.count("lookup", words[0] as u32);
+        self.count("lookup", words[4] as u32);
         same(
             &format!("lookup of {key} in {used} rows of {t:?}"),
             &port::lookup(&t, used, key, room),

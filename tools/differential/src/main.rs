@@ -110,8 +110,9 @@ fn compare(ask: Ask, cases: u64, seed: u64, first: u64) {
             last = what;
         }
         let name = match (*what, number) {
+            ("lookup", 0) => "none",
+            ("lookup", _) => "found",
             (_, 0) => "",
-            ("lookup", _) => "none",
             _ => number_name(*number),
         };
         println!("  {number:>3} {count:>12}  {name}");

@@ -93,7 +93,7 @@ pub const HAS_TEXT_PLACE: bool = cfg!(text_place);
 pub const HAS_PORT: bool = cfg!(port);
 
 /// The words of an answer.
-pub const WORDS: usize = 16;
+pub const WORDS: usize = 24;
 
 /// A result and the words that were written.
 pub type Answer = (u32, Vec<u64>);

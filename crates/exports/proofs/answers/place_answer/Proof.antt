@@ -11,5 +11,7 @@ place-answer-spec =
     (search needs)
     (search needs)
     (search needs)
-    (λ c. rw (c .before .p .given .1))
+    (search needs)
+    (search needs)
+    (λ c. rw (c .before .before .before .p .given .1) (c .answer-with .ensures))
     (λ c. rw (c .before .before .p2 .given .1) (c .refused .ensures)))

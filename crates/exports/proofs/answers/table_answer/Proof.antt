@@ -11,5 +11,7 @@ table-answer-spec =
     (search needs)
     (search needs)
     (search needs)
-    (λ c. rw (c .before .t .given .1))
+    (search needs)
+    (search needs)
+    (λ c. rw (c .before .before .before .t .given .1) (c .answer-with .ensures))
     (λ c. rw (c .before .before .t2 .given .1) (c .refused .ensures)))

@@ -1,6 +1,5 @@
 -- `exports::loading::accepted_answer` meets its contract: word by word.
 -- Assumes nothing.
-use mathlib.Core.Path.{refl}
 use borrow.Author.Needs.{needs}
 use Rattle.exports.proofs.loading.accepted_answer.Statement.{statement}
 use Rattle.exports.proofs.loading.accepted_answer.Tie as tie
@@ -12,4 +11,6 @@ accepted-answer-spec =
     (search needs)
     (search needs)
     (search needs)
-    (λ c. rw (c .before .before .number-of .ensures) refl))
+    (search needs)
+    (search needs)
+    (λ c. rw (← c .before .before .before .before .number-of .ensures) (c .answer-with .ensures)))

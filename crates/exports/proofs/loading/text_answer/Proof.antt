@@ -1,6 +1,5 @@
 -- `exports::loading::text_answer` meets its contract: a place or a refusal.
 -- Assumes nothing.
-use mathlib.Core.Path.{refl}
 use borrow.Author.Needs.{needs}
 use Rattle.exports.proofs.loading.text_answer.Statement.{statement}
 use Rattle.exports.proofs.loading.text_answer.Tie as tie
@@ -13,5 +12,7 @@ text-answer-spec =
     (search needs)
     (search needs)
     (search needs)
-    (λ c. rw (c .before .p .given .1) refl)
+    (search needs)
+    (search needs)
+    (λ c. rw (c .before .before .before .p .given .1) (c .answer-with .ensures))
     (λ c. rw (c .before .before .before .p2 .given .1, ← c .before .report-of .ensures) (c .reported .ensures)))
