@@ -4,8 +4,8 @@
  * A slice is a pointer and a length in elements; the pointer is not null, also where the length
  * is 0, and lent slices do not overlap. The functions demand nothing else, always return, and
  * write nothing but the slices that are lent to them without `const`: a load its image, its
- * read-only buffer, its five columns and its answer, every other function its answer alone. What
- * they answer is said, for every input, in crates/exports/specs/Answers.antt.
+ * read-only buffer, its five columns and its answer, every other function its answer or its name
+ * alone. What they answer is said, for every input, in crates/exports/specs.
  *
  * An answer is SBPF_WORDS words. The first is a number, which is also the result: 0, or why
  * there is nothing. A refusal has its value, and the start and the length of the name that it
@@ -26,6 +26,44 @@ extern "C" {
 
 /* Words of every answer that can be a refusal. */
 enum { SBPF_NUMBER, SBPF_VALUE, SBPF_NAME_START, SBPF_NAME_LENGTH };
+
+/* The numbers of the refusals, with what their value and their name are; unused ones are 0. */
+enum {
+    SBPF_InvalidFileHeader = 1,
+    SBPF_InvalidProgramHeader = 2,
+    SBPF_InvalidSectionHeader = 3,
+    SBPF_StringTooLong = 4, /* its name: where it starts, and how many bytes were looked at */
+    SBPF_OutOfBounds = 5,
+    SBPF_InvalidSize = 6,
+    SBPF_Overlap = 7,
+    SBPF_SectionNotInOrder = 8,
+    SBPF_NoSectionNameStringTable = 9,
+    SBPF_InvalidDynamicSectionTable = 10,
+    SBPF_InvalidAlignment = 11,
+    SBPF_NoStringTable = 12,
+    SBPF_NoDynamicStringTable = 13,
+    SBPF_EntrypointOutOfBounds = 20,
+    SBPF_InvalidEntrypoint = 21,
+    SBPF_UnresolvedSymbol = 22, /* value: the relocation's file offset; its name: the symbol's */
+    SBPF_RelativeJumpOutOfBounds = 23, /* value: the slot of the call */
+    SBPF_SymbolHashCollision = 24, /* value: the key */
+    SBPF_WrongAbi = 25,
+    SBPF_WrongMachine = 26,
+    SBPF_NotOneTextSection = 27,
+    SBPF_WritableSectionNotSupported = 28, /* its name: the section's */
+    SBPF_InvalidVirtualAddress = 29,
+    SBPF_UnknownRelocation = 30, /* value: the relocation's type */
+    SBPF_WrongType = 31,
+    SBPF_UnknownSymbol = 32, /* value: the symbol's index, or the st_name that cannot be read */
+    SBPF_ValueOutOfBounds = 33,
+    SBPF_UnsupportedSBPFVersion = 34,
+    SBPF_FileTooLong = 40,
+    SBPF_BufferShort = 41,
+    SBPF_BuiltinsNotAscending = 42,
+    SBPF_TableFull = 43, /* value: the rows of the table */
+    SBPF_TextOutsideReadOnly = 44,
+    SBPF_NoSuchIndex = 45,
+};
 
 /* Words of an accepted parse. A header that was found by name is given by its offset in the
  * file, 0 where there is none. */
@@ -83,6 +121,11 @@ enum { SBPF_FOUND = 4, SBPF_ROW_INDEX, SBPF_ROW_KIND, SBPF_ROW_START, SBPF_ROW_L
 
 /* MurmurHash3, x86 32-bit, seed 0. */
 uint32_t sbpf_hash(const uint8_t *name, size_t name_len);
+
+/* The name of the refusal with a number, as the constants above have it behind SBPF_: its bytes, as
+ * many as there is room for, and zeros behind them, so that 64 bytes hold each as a text of C. The
+ * result is the whole name's length, 0 where no refusal has the number. */
+uint32_t sbpf_refusal_name(uint32_t number, uint8_t *name, size_t name_len);
 
 /* Where things stand in an ELF-64 file. */
 uint32_t sbpf_parse(const uint8_t *file, size_t file_len, uint64_t *answer, size_t answer_len);

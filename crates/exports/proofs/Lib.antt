@@ -1,3 +1,5 @@
 -- What the proofs of several functions use.
 mod Writing
 mod Giving
+mod Naming
+mod Named

@@ -1,5 +1,6 @@
 // The C interface, over numbers and lent slices: a slice is a pointer and a length. Each answer but a
-// hash is 24 words, the number first, as `specs/Answers.antt` says; the number is the result too.
+// hash and a name is 24 words, the number first, as `specs/Answers.antt` says; the number is the
+// result too.
 // A lent slice of fewer words takes the first of them, one of more has zeros behind them.
 use answers::give;
 use answers::parse_answer;
@@ -16,6 +17,7 @@ use loader::text_place;
 use loading::config_of;
 use loading::load_answer;
 use loading::text_answer;
+use names::refusal_name;
 use program::lookup_by_key;
 ghost use mathlib.Core.Path.{_≡_};
 ghost use Rattle.ebpf.specs.Murmur3.{murmur3};
@@ -25,10 +27,12 @@ ghost use Rattle.elf_parser.specs.Records.{sectionPlaceOf, symbolTableOf};
 ghost use Rattle.program.specs.Table.{lookupIn, tableBefore};
 ghost use Rattle.loader.specs.GetBytes.{textPlace};
 ghost use Rattle.exports.specs.Answers.{Gives, GivesAsked, GivesLoad, textAnswer, parseAnswer, placeAnswer, tableAnswer, rowAnswer};
+ghost use Rattle.exports.specs.Names.{Named, refusalName};
 
 mod answers;
 mod asked;
 mod loading;
+mod names;
 
 // The hash of a name.
 #[no_mangle]
@@ -36,6 +40,15 @@ pub extern "C" fn sbpf_hash(name: &[u8]) -> u32
     ensures { λ r. ⌜ r ≡ murmur3 (now (name .entry)) ⌝ }
 {
     hash_symbol_name(name)
+}
+
+// The name of the refusal with a number: its bytes in the lent slice, as many as there is room for and
+// zeros behind them, and as the result its whole length, 0 where no refusal has the number.
+#[no_mangle]
+pub extern "C" fn sbpf_refusal_name(number: u32, name: &mut [u8]) -> u32
+    ensures { λ r. ⌜ Named (refusalName number) name r ⌝ }
+{
+    refusal_name(name, number)
 }
 
 // Where things stand in a file, or why it is refused.
