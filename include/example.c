@@ -26,8 +26,10 @@ int main(int argc, char **argv) {
 
     uint64_t a[SBPF_WORDS];
     if (sbpf_parse(file, len, a, SBPF_WORDS) != 0) {
-        printf("refused %" PRIu64 " %" PRIu64 " %" PRIu64 " %" PRIu64 "\n", a[SBPF_NUMBER],
-               a[SBPF_VALUE], a[SBPF_NAME_START], a[SBPF_NAME_LENGTH]);
+        char name[64];
+        sbpf_refusal_name((uint32_t)a[SBPF_NUMBER], (uint8_t *)name, sizeof name);
+        printf("refused %" PRIu64 " %s %" PRIu64 " %" PRIu64 " %" PRIu64 "\n", a[SBPF_NUMBER],
+               name, a[SBPF_VALUE], a[SBPF_NAME_START], a[SBPF_NAME_LENGTH]);
         return 1;
     }
     printf("%" PRIu64 " program headers at %" PRIu64 "\n", a[SBPF_PROGRAM_HEADER_COUNT],

@@ -1,6 +1,7 @@
-/* Loads a file with all settings on and no built-ins, and prints what the program loadlist does:
- * `refused` with number, value, name start and name length; or `accepted` with version, entry,
- * keys and moves, and a line for each row, by rising key: key, index, name kind.
+/* Loads a file with all settings on and no built-ins, and prints what the program loadlist does,
+ * with a refusal's name beside its number: `refused` with number, name, value, name start and name
+ * length; or `accepted` with version, entry, keys and moves, and a line for each row, by rising key:
+ * key, index, name kind.
  *
  *     rt staticlib exports
  *     cc -Iinclude include/load.c target/staticlib/libexports.a -o target/load
@@ -38,8 +39,10 @@ int main(int argc, char **argv) {
     uint64_t a[SBPF_WORDS];
     if (sbpf_load(file, len, no_builtins, 0, settings, image, len, ro, len, keys, ROWS, indices,
                   ROWS, kinds, ROWS, starts, ROWS, lengths, ROWS, a, SBPF_WORDS) != 0) {
-        printf("refused %" PRIu64 " %" PRIu64 " %" PRIu64 " %" PRIu64 "\n", a[SBPF_NUMBER],
-               a[SBPF_VALUE], a[SBPF_NAME_START], a[SBPF_NAME_LENGTH]);
+        char name[64];
+        sbpf_refusal_name((uint32_t)a[SBPF_NUMBER], (uint8_t *)name, sizeof name);
+        printf("refused %" PRIu64 " %s %" PRIu64 " %" PRIu64 " %" PRIu64 "\n", a[SBPF_NUMBER],
+               name, a[SBPF_VALUE], a[SBPF_NAME_START], a[SBPF_NAME_LENGTH]);
         return 1;
     }
     printf("accepted %" PRIu64 " %" PRIu64 " %" PRIu64 " %" PRIu64 "\n", a[SBPF_VERSION],

@@ -1,6 +1,6 @@
-//! Loads a file with all settings on and no built-ins, and prints what the program loadlist does:
-//! `refused` with number, value, name start and name length; or `accepted` with version, entry,
-//! keys and moves, and a line for each row, by rising key: key, index, name kind.
+//! Loads a file with all settings on and no built-ins, and prints `refused` with the refusal in
+//! words; or, as the program loadlist does, `accepted` with version, entry, keys and moves, and a
+//! line for each row, by rising key: key, index, name kind.
 
 use sbpf::{load, Lent, Settings};
 use std::{env, fs::File, io::Read, process::exit};
@@ -35,7 +35,7 @@ fn main() {
     };
     match load(&file, &[], Settings::ALL_ON, &mut lent) {
         Err(refusal) => {
-            println!("{refusal}");
+            println!("refused {refusal}");
             exit(1);
         }
         Ok(a) => {

@@ -1,10 +1,14 @@
 //! The proved functions of crates/exports, for Rust (x86-64 Linux). What they answer is said, for
-//! every input, in crates/exports/specs/Answers.antt. Nothing here is proved: this module is the
-//! declarations and the way from words to fields.
+//! every input, in crates/exports/specs. Nothing here is proved: this module is the declarations and
+//! the way from words to fields.
 //!
 //! Every function here is safe, demands nothing and always returns.
 
-use std::{fmt, ops::Range};
+mod refusal;
+
+pub use refusal::{Reason, Refusal};
+
+use std::ops::Range;
 
 /// The words of an answer.
 const WORDS: usize = 24;
@@ -14,6 +18,7 @@ const WORDS: usize = 24;
 mod c {
     extern "C" {
         pub fn sbpf_hash(name: *const u8, name_len: usize) -> u32;
+        pub fn sbpf_refusal_name(number: u32, name: *mut u8, name_len: usize) -> u32;
         pub fn sbpf_parse(
             file: *const u8,
             file_len: usize,
@@ -113,40 +118,26 @@ mod c {
 // are `&mut`, so none of them overlaps another slice. The library writes inside them alone, holds
 // no pointer after it returns, and has no state of its own.
 
-/// Why there is nothing: the number, and what it carries. The name that it speaks of is a part of
-/// the file. What is not used is 0.
-#[derive(Clone, Copy, Debug, PartialEq, Eq)]
-pub struct Refusal {
-    pub number: u32,
-    pub value: u64,
-    pub name_start: usize,
-    pub name_length: usize,
-}
-
-impl fmt::Display for Refusal {
-    fn fmt(&self, f: &mut fmt::Formatter) -> fmt::Result {
-        write!(
-            f,
-            "refused {} {} {} {}",
-            self.number, self.value, self.name_start, self.name_length
-        )
-    }
-}
-
-impl std::error::Error for Refusal {}
-
-/// The words of a call that answers 0, else its refusal.
-fn answered(call: impl FnOnce(*mut u64, usize) -> u32) -> Result<[u64; WORDS], Refusal> {
+/// The words of a call that answers 0, else its refusal, whose name is a part of `file`.
+fn answered(
+    file: &[u8],
+    call: impl FnOnce(*mut u64, usize) -> u32,
+) -> Result<[u64; WORDS], Refusal> {
     let mut a = [0; WORDS];
     match call(a.as_mut_ptr(), WORDS) {
         0 => Ok(a),
-        number => Err(Refusal {
-            number,
-            value: a[1],
-            name_start: a[2] as usize,
-            name_length: a[3] as usize,
-        }),
+        number => Err(Refusal::new(number, [a[1], a[2], a[3]], file)),
     }
+}
+
+/// The name of the refusal with a number; none where no refusal has it.
+pub fn refusal_name(number: u32) -> Option<String> {
+    // SAFETY: as said above.
+    let give =
+        |name: &mut [u8]| unsafe { c::sbpf_refusal_name(number, name.as_mut_ptr(), name.len()) };
+    let mut name = vec![0; give(&mut []) as usize];
+    give(&mut name);
+    String::from_utf8(name).ok().filter(|name| !name.is_empty())
 }
 
 /// MurmurHash3, x86 32-bit, seed 0.
@@ -179,7 +170,9 @@ pub struct Layout {
 /// Where things stand in an ELF-64 file.
 pub fn parse(file: &[u8]) -> Result<Layout, Refusal> {
     // SAFETY: as said above.
-    let a = answered(|words, n| unsafe { c::sbpf_parse(file.as_ptr(), file.len(), words, n) })?;
+    let a = answered(file, |words, n| unsafe {
+        c::sbpf_parse(file.as_ptr(), file.len(), words, n)
+    })?;
     let entries = |k: usize| Entries {
         start: a[k] as usize,
         count: a[k + 1] as usize,
@@ -201,7 +194,9 @@ type Question = unsafe extern "C" fn(*const u8, usize, u32, *mut u64, usize) -> 
 /// The part of the file that a question answers. `question` is a function of `c`.
 fn part(question: Question, file: &[u8], number: u32) -> Result<&[u8], Refusal> {
     // SAFETY: as said above.
-    let a = answered(|words, n| unsafe { question(file.as_ptr(), file.len(), number, words, n) })?;
+    let a = answered(file, |words, n| unsafe {
+        question(file.as_ptr(), file.len(), number, words, n)
+    })?;
     Ok(&file[a[4] as usize..(a[4] + a[5]) as usize])
 }
 
@@ -229,8 +224,9 @@ pub fn dynamic_symbol_name(file: &[u8], st_name: u32) -> Result<&[u8], Refusal> 
 /// The symbols of .symtab: no entries where there is no such section.
 pub fn symbol_table(file: &[u8]) -> Result<Entries, Refusal> {
     // SAFETY: as said above.
-    let a =
-        answered(|words, n| unsafe { c::sbpf_symbol_table(file.as_ptr(), file.len(), words, n) })?;
+    let a = answered(file, |words, n| unsafe {
+        c::sbpf_symbol_table(file.as_ptr(), file.len(), words, n)
+    })?;
     Ok(Entries {
         start: a[4] as usize,
         count: a[5] as usize,
@@ -260,7 +256,7 @@ pub struct Row {
 /// The first of the used rows with the key, whatever the columns hold; at most the rows lent count.
 pub fn lookup(table: Table, used: usize, key: u32) -> Option<Row> {
     // SAFETY: as said above.
-    let a = answered(|words, n| unsafe {
+    let a = answered(&[], |words, n| unsafe {
         c::sbpf_lookup(
             table.keys.as_ptr(),
             table.keys.len(),
@@ -405,7 +401,7 @@ pub fn load(
     lent: &mut Lent,
 ) -> Result<Accepted, Refusal> {
     // SAFETY: as said above.
-    let a = answered(|words, n| unsafe {
+    let a = answered(file, |words, n| unsafe {
         c::sbpf_load(
             file.as_ptr(),
             file.len(),
@@ -449,7 +445,7 @@ pub fn load(
 /// many: the image's, or, where they were copied, the buffer's. Else 44.
 pub fn text_place(lent: usize, a: &Accepted) -> Result<Range<usize>, Refusal> {
     // SAFETY: as said above.
-    let place = answered(|words, n| unsafe {
+    let place = answered(&[], |words, n| unsafe {
         c::sbpf_text_place(
             lent as u64,
             a.ro_offset,

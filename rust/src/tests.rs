@@ -39,10 +39,10 @@ impl Held {
 
 fn refusal(number: u32, value: u64) -> Refusal {
     Refusal {
-        number,
+        reason: Reason::of(number),
         value,
         name_start: 0,
-        name_length: 0,
+        name: Vec::new(),
     }
 }
 
@@ -171,6 +171,94 @@ fn the_readers_answer_parts_of_the_file() {
     assert_eq!(symbol_name(EXAMPLE, 1), Err(refusal(12, 0)));
     assert_eq!(dynamic_symbol_name(EXAMPLE, 1), Err(refusal(13, 0)));
     assert_eq!(symbol_table(EXAMPLE), Ok(at(0, 0)));
+}
+
+/// The names of the numbers 0 to 255, as the library gives them.
+fn names() -> Vec<(u32, String)> {
+    let named = |n| refusal_name(n).map(|name| (n, name));
+    (0..=255).filter_map(named).collect()
+}
+
+#[test]
+fn reasons_have_the_names_of_the_library() {
+    for number in 0..=255 {
+        let reason = Reason::of(number);
+        assert_eq!(reason.number(), number);
+        match refusal_name(number) {
+            Some(name) => assert_eq!(reason.name(), name),
+            None => assert_eq!(reason, Reason::Unknown(number)),
+        }
+    }
+    assert_eq!(refusal_name(u32::MAX), None);
+}
+
+#[test]
+fn the_header_has_the_names_of_the_library() {
+    let header = include_str!("../../include/sbpf.h");
+    let constant = |line: &str| {
+        let (name, rest) = line.trim().strip_prefix("SBPF_")?.split_once(" = ")?;
+        let number = rest.split_once(',')?.0.parse().ok()?;
+        // other constants have capitals only
+        let refusal = name.contains(|c: char| c.is_lowercase());
+        refusal.then(|| (number, name.to_owned()))
+    };
+    let constants: Vec<(u32, String)> = header.lines().filter_map(constant).collect();
+    assert_eq!(constants, names());
+}
+
+#[test]
+fn a_name_is_cut_to_its_room() {
+    for room in 0..20 {
+        let mut name = vec![0xa5; room];
+        let n = unsafe { c::sbpf_refusal_name(7, name.as_mut_ptr(), room) };
+        assert_eq!(n, 7);
+        let whole = b"Overlap\0\0\0\0\0\0\0\0\0\0\0\0\0";
+        assert_eq!(name, whole[..room]);
+    }
+}
+
+#[test]
+fn refusals_are_told_in_words() {
+    let unresolved = include_bytes!("../../examples/unresolved.so");
+    let mut held = Held::new(unresolved.len(), 4);
+    let refusal = refused(unresolved, &[], &mut held);
+    assert_eq!(refusal.name_start, 300);
+    assert_eq!(
+        refusal.to_string(),
+        "22 UnresolvedSymbol at file offset 176: \"crane_alarm\""
+    );
+
+    let told = |number, words| Refusal::new(number, words, b"ab\xffc").to_string();
+    assert_eq!(told(1, [0, 0, 0]), "1 InvalidFileHeader");
+    assert_eq!(told(4, [0, 1, 2]), "4 StringTooLong: \"b\u{fffd}\"");
+    assert_eq!(
+        told(22, [0, 0, 0]),
+        "22 UnresolvedSymbol at file offset 0: \"\""
+    );
+    assert_eq!(told(23, [3, 0, 0]), "23 RelativeJumpOutOfBounds in slot 3");
+    assert_eq!(told(24, [255, 0, 0]), "24 SymbolHashCollision of key 0xff");
+    assert_eq!(
+        told(28, [0, 0, 4]),
+        "28 WritableSectionNotSupported: \"ab\u{fffd}c\""
+    );
+    assert_eq!(told(30, [0, 0, 0]), "30 UnknownRelocation of type 0");
+    assert_eq!(
+        told(32, [5, 0, 0]),
+        "32 UnknownSymbol of index or st_name 5"
+    );
+    assert_eq!(told(43, [256, 0, 0]), "43 TableFull with 256 rows");
+    // what no load answers: a number without a name, a name outside the file
+    assert_eq!(told(99, [7, 0, 0]), "99 unknown with value 7");
+    assert_eq!(
+        told(u32::MAX, [0, 3, 1]),
+        "4294967295 unknown with value 0: \"c\""
+    );
+    for [start, length] in [[4, 1], [5, 0], [u64::MAX, u64::MAX], [1, u64::MAX]] {
+        assert_eq!(
+            told(28, [0, start, length]),
+            "28 WritableSectionNotSupported: \"\""
+        );
+    }
 }
 
 #[test]

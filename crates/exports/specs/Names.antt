@@ -11,7 +11,7 @@ use Rattle.ebpf.specs.Choice.{_if_else_}
 use Rattle.program.specs.Table.{Lent}
 use Rattle.exports.specs.Answers.{written}
 
--- THE NAMES, each beside its number
+-- THE NAMES, each beside its number. A new one is a line here, in src/names.rt, in include/sbpf.h and in rust/src/refusal.rs
 unfoldable pub names : List (ℕ × String)
 names =
     (1, "InvalidFileHeader")
