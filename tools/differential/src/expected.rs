@@ -155,11 +155,8 @@ pub fn expected(case: &Case) -> Result<Expected, String> {
     if replayed.moves > n * (n - 1) / 2 + 2 * (n - 1) {
         return wrong("more moves than the scope allows");
     }
-    let words = [
-        0,
-        0,
-        0,
-        0,
+    let mut words = [0; WORDS];
+    words[4..15].copy_from_slice(&[
         a.version as u64,
         a.entry,
         a.rows.len() as u64,
@@ -171,8 +168,7 @@ pub fn expected(case: &Case) -> Result<Expected, String> {
         replayed.text_addr,
         replayed.text_start,
         replayed.text_length,
-        0,
-    ];
+    ]);
     let mut image = a.image.clone();
     image.resize(case.image, 0);
     let mut ro = if a.ro.copied {
