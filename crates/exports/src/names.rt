@@ -119,6 +119,7 @@ pub(crate) fn refusal_name(name: &mut [u8], number: u32) -> u32
         BuiltinsNotAscending\0\
         TableFull\0\
         TextOutsideReadOnly\0\
-        NoSuchIndex\0";
+        NoSuchIndex\0\
+        ";
     give_name(name, name_part(names, number))
 }

@@ -1,8 +1,6 @@
 -- `exports::names::refusal_name` meets its contract: the row of names in the code is the table's.
 -- Assumes nothing.
 use mathlib.Core.Path.{_≡_, _∙_}
-use Prim.Native.Nat.{ℕ}
-use mathlib.Core.List.{List}
 use denote.Ref.{now}
 use Rattle.ebpf.specs.Choice.{_if_else_}
 use Rattle.exports.specs.Names.{names, bytes, nameIn, refusalName, pieceOf}
