@@ -1,14 +1,18 @@
-//! The scope's worked examples, also those that specs/Worked.antt proves: each with the answer that
-//! was worked out by hand, the port's and the Rust's. Where an example has a limit, the neighbour
-//! on its other side is beside it. And published hashes.
+//! The scope's worked examples, also those that specs/Worked.antt proves, and a few more of the same
+//! kind: each with the answer that was worked out by hand, the port's and the Rust's. Where an
+//! example has a limit, the neighbour on its other side is beside it. And published hashes.
+//!
+//! `write` makes of them what the program crates/worked runs without any Rust.
 
 use crate::{
     cases::Case,
     elf::{PROGRAM_START, STACK_START},
-    expected::LONGEST,
-    loads, outcome, port, Outcome,
+    expected::{expected, Expected, LONGEST},
+    loads, outcome,
+    port::{self, Columns},
+    Outcome, Settings,
 };
-use std::fmt;
+use std::{fmt, fs, path::Path};
 
 /// The input of crates/loadlist, which is the version 2 example.
 const LOADLIST: &[u8] = include_bytes!("../../../crates/loadlist/stdin");
@@ -18,9 +22,9 @@ const LOADLIST: &[u8] = include_bytes!("../../../crates/loadlist/stdin");
 enum Told {
     /// Number, value, name start, name length.
     Refused([u64; 4]),
-    /// Version, entry, keys, moves; key, index, name kind of each row; and the image's words that are
-    /// not the file's, with their places.
-    Accepted([u64; 4], Vec<[u32; 3]>, Vec<(u32, usize)>),
+    /// Version, entry, keys, moves; key, index, and the name's kind, start and length of each row; and
+    /// the image's words that are not the file's, with their places.
+    Accepted([u64; 4], Vec<[u32; 5]>, Vec<(u32, usize)>),
 }
 
 /// The words of `image` that are not the file's.
@@ -37,22 +41,47 @@ fn told_written(words: &[(u32, usize)]) -> String {
     each.collect()
 }
 
+fn told_rows(rows: &[[u32; 5]]) -> String {
+    let each = rows
+        .iter()
+        .map(|row| format!(" | {}", told_numbers(&row.map(u64::from))));
+    each.collect()
+}
+
+fn told_numbers(numbers: &[u64]) -> String {
+    let each: Vec<String> = numbers.iter().map(u64::to_string).collect();
+    each.join(" ")
+}
+
 impl fmt::Display for Told {
     fn fmt(&self, f: &mut fmt::Formatter) -> fmt::Result {
-        let numbers = |numbers: &[u64; 4]| numbers.map(|n| n.to_string()).join(" ");
         match self {
-            Told::Refused(r) => write!(f, "refused {}", numbers(r)),
-            Told::Accepted(a, rows, words) => {
-                write!(f, "accepted {}", numbers(a))?;
-                rows.iter()
-                    .try_for_each(|[key, index, kind]| write!(f, " | {key} {index} {kind}"))?;
-                write!(f, "{}", told_written(words))
-            }
+            Told::Refused(r) => write!(f, "refused {}", told_numbers(r)),
+            Told::Accepted(a, rows, words) => write!(
+                f,
+                "accepted {}{}{}",
+                told_numbers(a),
+                told_rows(rows),
+                told_written(words)
+            ),
         }
     }
 }
 
 impl Told {
+    /// By the words of an answer and what the load left.
+    fn of(file: &[u8], a: &[u64], table: &Columns, image: &[u8]) -> Told {
+        if a[0] != 0 {
+            return Told::Refused([a[0], a[1], a[2], a[3]]);
+        }
+        let row = |k| [0, 1, 2, 3, 4].map(|column| table[column][k]);
+        Told::Accepted(
+            [a[4], a[5], a[6], a[7]],
+            (0..a[6] as usize).map(row).collect(),
+            written(image, file),
+        )
+    }
+
     /// As far as the Rust can tell it: no moves, names in place of their kinds and places.
     fn without_added(&self, file: &[u8]) -> String {
         match self {
@@ -63,8 +92,11 @@ impl Told {
             }
             Told::Accepted([version, entry, keys, _], rows, words) => {
                 let mut text = format!("accepted {version} {entry} {keys}");
-                for [key, index, kind] in rows {
+                for [key, index, kind, start, length] in rows {
                     let name = match kind {
+                        1 => file[*start as usize..(start + length) as usize]
+                            .escape_ascii()
+                            .to_string(),
                         2 => "entrypoint".to_string(),
                         3 => format!("function_{index}"),
                         _ => String::new(),
@@ -118,19 +150,23 @@ fn port(case: &Case) -> Told {
         columns,
         &mut a,
     );
-    if a[0] != 0 {
-        return Told::Refused([a[0], a[1], a[2], a[3]]);
-    }
-    let row = |k| [table[0][k], table[1][k], table[2][k]];
-    Told::Accepted(
-        [a[4], a[5], a[6], a[7]],
-        (0..a[6] as usize).map(row).collect(),
-        written(&image, &case.file),
-    )
+    Told::of(&case.file, &a, &table, &image)
+}
+
+/// A relocation, with its symbol.
+#[derive(Clone, Copy)]
+struct Relocation {
+    kind: u64,
+    /// The symbol's value.
+    value: u64,
+    /// The symbol's name, in .dynstr; None: there is no such section.
+    name: Option<&'static str>,
+    /// How far it stands behind the last eight bytes of the file; None: at the text's start.
+    behind: Option<u64>,
 }
 
 /// A file with these and no more: zero bytes as .text, program headers of zeros, an empty section, a
-/// relocation, a label, names.
+/// section of eight bytes, a relocation, a label, names.
 #[derive(Clone, Copy)]
 struct Small {
     version2: bool,
@@ -140,12 +176,14 @@ struct Small {
     text_length: usize,
     /// A slot that is not zeros, by its index.
     slot: Option<(usize, u64)>,
-    /// From the text's address on.
+    /// From the text's address on; the largest number stands one byte before it.
     entry: u64,
     /// Name and file offset of an empty section ahead of the text.
     empty: Option<(&'static str, u64)>,
-    /// The type of a relocation at the text's start, and the value of its symbol; in version 1.
-    relocation: Option<(u64, u64)>,
+    /// Name and flags of a section of eight bytes behind the text.
+    flagged: Option<(&'static str, u64)>,
+    /// In version 1.
+    relocation: Option<Relocation>,
     /// The name of a function symbol at slot 1.
     label: Option<&'static str>,
     /// e_shstrndx; None: the section of names.
@@ -161,6 +199,7 @@ const PLAIN: Small = Small {
     slot: None,
     entry: 0,
     empty: None,
+    flagged: None,
     relocation: None,
     label: None,
     names: None,
@@ -189,17 +228,29 @@ impl Small {
         if let Some((name, _)) = self.empty {
             sections.insert(0, (name, 1, 0, 0, 1, Vec::new()));
         }
-        if let Some((kind, value)) = self.relocation {
-            let symbols = (text_at + self.text_length) as u64;
-            let (relocations, dynamic) = (symbols + 24, symbols + 40);
+        if let Some((name, flags)) = self.flagged {
+            sections.push((name, 1, flags, 0, 8, vec![0; 8]));
+        }
+        // where the relocation stands in the file
+        let symbols = text_at + self.text_length;
+        let (relocation_at, dynamic) = (symbols + 24, symbols + 40);
+        if let Some(Relocation {
+            kind, value, name, ..
+        }) = self.relocation
+        {
+            let (symbols, relocations) = (symbols as u64, relocation_at as u64);
             let bytes_of = |words: &[u64]| words.iter().flat_map(|w| w.to_le_bytes()).collect();
-            let contents = bytes_of(&[0, value, 0]);
+            let contents = bytes_of(&[name.is_some() as u64, value, 0]);
             sections.push((".dynsym", 11, 2, symbols, 8, contents));
             let contents = bytes_of(&[text_addr, kind]);
             sections.push((".rel.dyn", 9, 2, relocations, 8, contents));
             // DT_REL, DT_RELSZ, DT_RELENT, DT_SYMTAB
             let contents = bytes_of(&[17, relocations, 18, 16, 19, 16, 6, symbols]);
-            sections.push((".dynamic", 6, 2, dynamic, 8, contents));
+            sections.push((".dynamic", 6, 2, dynamic as u64, 8, contents));
+            if let Some(name) = name {
+                let names = format!("\0{name}\0").into_bytes();
+                sections.push((".dynstr", 3, 2, 0, 1, names));
+            }
         }
         if let Some(label) = self.label {
             let mut symbol = vec![1, 0, 0, 0, 0x12, 0, 1, 0];
@@ -258,17 +309,39 @@ impl Small {
         }
         let program_headers = if self.program_headers == 0 { 0 } else { 64 };
         for (at, value) in [
-            (24, text_addr + self.entry),
+            (24, text_addr.wrapping_add(self.entry)),
             (32, program_headers),
             (40, table),
         ] {
             bytes[at..at + 8].copy_from_slice(&value.to_le_bytes());
         }
+        if let Some(Relocation {
+            behind: Some(behind),
+            ..
+        }) = self.relocation
+        {
+            let place = bytes.len() as u64 - 8 + behind;
+            bytes[relocation_at..relocation_at + 8].copy_from_slice(&place.to_le_bytes());
+        }
         bytes
     }
 
     fn case(&self) -> Case {
-        Case::of_file(self.file())
+        lent(self.file())
+    }
+}
+
+/// The longest file of the program that runs the examples, which is also what it lends, and its rows.
+const LENT: usize = 1_024;
+const ROWS: usize = 8;
+
+/// A case of this file, with all settings on, no built-ins, and as much lent as the program lends.
+fn lent(file: Vec<u8>) -> Case {
+    Case {
+        image: file.len().max(LENT),
+        ro: file.len().max(LENT),
+        columns: [ROWS; 5],
+        ..Case::of_file(file)
     }
 }
 
@@ -278,7 +351,7 @@ fn refused(number: u64, value: u64) -> Told {
 
 /// Entry 0, which alone has a row, and no moves.
 fn accepted(version: u64, key: u32) -> Told {
-    Told::Accepted([version, 0, 1, 0], vec![[key, 0, 2]], Vec::new())
+    Told::Accepted([version, 0, 1, 0], vec![[key, 0, 2, 0, 10]], Vec::new())
 }
 
 struct Example {
@@ -289,9 +362,25 @@ struct Example {
     asks_rust: bool,
 }
 
-/// With rows lent.
+/// With rows lent: the shortest column decides.
 fn with_rows(mut case: Case, rows: usize) -> Case {
-    case.columns = [rows; 5];
+    case.columns[4] = rows;
+    case
+}
+
+// The settings by their bits, as include/sbpf.h has them.
+const LABELS: u64 = 1;
+const REJECT_BROKEN: u64 = 2;
+const COLLISION_CHECK: u64 = 4;
+const OPTIMIZE: u64 = 8;
+const V1: u64 = 16;
+const V2: u64 = 32;
+const ALL: u64 = 63;
+
+/// With settings, by their bits, and a built-in.
+fn with(mut case: Case, settings: u64, builtin: u32) -> Case {
+    case.settings = Settings::from_bits(settings);
+    case.builtins = vec![builtin];
     case
 }
 
@@ -305,14 +394,17 @@ fn examples() -> Vec<Example> {
         .case()
     };
     // one slot before the limit, and one byte more
-    let ending = |text_length| {
+    let ending = |text_length, slot| {
         Small {
             text_addr: Some(STACK_START - 8),
             text_length,
+            slot,
             ..PLAIN
         }
         .case()
     };
+    // slot 0, that calls behind the text: refused with 23 after the checks of the text's place
+    let far = Some((0, 0x1085 | 9 << 32));
     let entry = |version2, entry| {
         Small {
             version2,
@@ -324,7 +416,7 @@ fn examples() -> Vec<Example> {
     let long = |length| {
         let mut file = LEAST.file();
         file.resize(length, 0);
-        with_rows(Case::of_file(file), 256)
+        lent(file)
     };
     let labelled = |name, rows| {
         let small = Small {
@@ -334,9 +426,9 @@ fn examples() -> Vec<Example> {
         };
         with_rows(small.case(), rows)
     };
-    let names = Small {
-        names: Some(0),
-        ..LEAST
+    let names = |index| {
+        let names = Some(index);
+        Small { names, ..LEAST }.case()
     };
     let named = |name| {
         let empty = Some((name, 64));
@@ -359,21 +451,58 @@ fn examples() -> Vec<Example> {
     // behind the header, slots 0 to 2 and half of slot 3
     let immediate_at = 64 + 28;
     // of this type, with a symbol of this value, over two halves of which the lower holds this
-    let relocation = |kind, symbol, low: u64| {
+    let relocation = |kind, value, low: u64| {
         Small {
             version2: false,
             slot: Some((0, 0x18 | low << 32)),
-            relocation: Some((kind, symbol)),
+            relocation: Some(Relocation {
+                kind,
+                value,
+                name: None,
+                behind: None,
+            }),
             ..PLAIN
         }
         .case()
     };
-    // MurmurHash3 of the name entrypoint, and of the eight bytes of the indices 0 and 7
-    let entrypoint = 0x71e3_cf81;
-    let (key_0, key_7) = (0x6385_2afc, 0xf7cc_5443);
+    // type 10, of a symbol that no function has, named as a built-in
+    let named_call = |behind| {
+        Small {
+            version2: false,
+            relocation: Some(Relocation {
+                kind: 10,
+                value: 0,
+                name: Some("abort"),
+                behind,
+            }),
+            ..PLAIN
+        }
+        .case()
+    };
+    let flagged = |name, flags| {
+        let flagged = Some((name, flags));
+        Small { flagged, ..PLAIN }.case()
+    };
+    // version 1, where the text need not stand at its file offset
+    let text_at = |addr, slot| {
+        let small = Small {
+            version2: false,
+            text_addr: Some(addr),
+            slot,
+            ..LEAST
+        };
+        with(small.case(), ALL ^ REJECT_BROKEN, 0)
+    };
+    // MurmurHash3 of the names entrypoint and abort, and of the eight bytes of the indices 0, 1 and 7
+    let (entrypoint, abort) = (0x71e3_cf81, 0xb6fc_1a11);
+    let (key_0, key_1, key_7) = (0x6385_2afc, 0x5307_5d44, 0xf7cc_5443);
     // version 1, and the words that the relocation leaves behind
     let halves = |words: &[(u32, usize)]| {
-        Told::Accepted([1, 0, 1, 0], vec![[entrypoint, 0, 2]], words.to_vec())
+        Told::Accepted(
+            [1, 0, 1, 0],
+            vec![[entrypoint, 0, 2, 0, 10]],
+            words.to_vec(),
+        )
     };
     let example = |what, case, expected| Example {
         what,
@@ -387,8 +516,12 @@ fn examples() -> Vec<Example> {
         expected,
         asks_rust: false,
     };
-    let empty = Case::of_file(Vec::new());
-    let loadlist = Case::of_file(LOADLIST.to_vec());
+    let empty = lent(Vec::new());
+    let loadlist = lent(LOADLIST.to_vec());
+    let version_1 = Small {
+        version2: false,
+        ..PLAIN
+    };
     vec![
         example("loadlist, empty input", empty, refused(33, 0)),
         example("loadlist, its input", loadlist, accepted(2, 0)),
@@ -408,7 +541,7 @@ fn examples() -> Vec<Example> {
             "version 2, slot 3 of 8 calls -4",
             call(true, 1, -4),
             // the entry's row is there already, and keeps its name
-            Told::Accepted([2, 0, 1, 0], vec![[0, 0, 3]], vec![(0, immediate_at)]),
+            Told::Accepted([2, 0, 1, 0], vec![[0, 0, 3, 0, 0]], vec![(0, immediate_at)]),
         ),
         example(
             "version 2, slot 3 of 8 calls -5",
@@ -420,7 +553,7 @@ fn examples() -> Vec<Example> {
             call(true, 1, 3),
             Told::Accepted(
                 [2, 0, 2, 1],
-                vec![[0, 0, 2], [7, 7, 3]],
+                vec![[0, 0, 2, 0, 10], [7, 7, 3, 0, 0]],
                 vec![(7, immediate_at)],
             ),
         ),
@@ -444,7 +577,7 @@ fn examples() -> Vec<Example> {
             call(false, 0, -4),
             Told::Accepted(
                 [1, 0, 2, 0],
-                vec![[key_0, 0, 3], [entrypoint, 0, 2]],
+                vec![[key_0, 0, 3, 0, 0], [entrypoint, 0, 2, 0, 10]],
                 vec![(key_0, immediate_at)],
             ),
         ),
@@ -458,7 +591,7 @@ fn examples() -> Vec<Example> {
             call(false, 0, 3),
             Told::Accepted(
                 [1, 0, 2, 1],
-                vec![[entrypoint, 0, 2], [key_7, 7, 3]],
+                vec![[entrypoint, 0, 2, 0, 10], [key_7, 7, 3, 0, 0]],
                 vec![(key_7, immediate_at)],
             ),
         ),
@@ -521,12 +654,22 @@ fn examples() -> Vec<Example> {
         ),
         example(
             "version 2, text ending at 0x200000000",
-            ending(8),
+            ending(8, None),
             accepted(2, 0),
         ),
         example(
             "version 2, text ending at 0x200000001",
-            ending(9),
+            ending(9, None),
+            refused(33, 0),
+        ),
+        example(
+            "version 2, text ending at 0x200000000, slot 0 calls 9",
+            ending(8, far),
+            refused(23, 0),
+        ),
+        example(
+            "version 2, text ending at 0x200000001, slot 0 calls 9",
+            ending(9, far),
             refused(33, 0),
         ),
         example(
@@ -539,7 +682,20 @@ fn examples() -> Vec<Example> {
             entry(false, 8),
             refused(20, 0),
         ),
-        example("e_shstrndx 0 of 3", names.case(), refused(9, 0)),
+        example(
+            "version 2, entry one byte before that",
+            entry(true, 7),
+            refused(21, 0),
+        ),
+        example(
+            "version 2, entry one byte before the text",
+            entry(true, u64::MAX),
+            refused(20, 0),
+        ),
+        example("e_shstrndx 0 of 3", names(0), refused(9, 0)),
+        example("e_shstrndx 1 of 3, the text", names(1), refused(3, 0)),
+        example("e_shstrndx 2 of 3", names(2), accepted(2, 0)),
+        example("e_shstrndx 3 of 3", names(3), refused(1, 0)),
         example("file of 16,777,216 bytes", long(LONGEST), accepted(2, 0)),
         added(
             "file of 16,777,217 bytes",
@@ -556,7 +712,197 @@ fn examples() -> Vec<Example> {
             labelled("other", 1),
             refused(43, 1),
         ),
+        example(
+            "version 1, text at 0x200000000, broken files taken",
+            text_at(PROGRAM_START, None),
+            accepted(1, entrypoint),
+        ),
+        example(
+            "version 1, text at 0x200000001, broken files taken",
+            text_at(PROGRAM_START + 1, None),
+            refused(33, 0),
+        ),
+        example(
+            "version 1, text at 0x200000000, broken files taken, slot 0 calls 9",
+            text_at(PROGRAM_START, far),
+            refused(23, 0),
+        ),
+        example(
+            "version 1, text at 0x200000001, broken files taken, slot 0 calls 9",
+            text_at(PROGRAM_START + 1, far),
+            refused(33, 0),
+        ),
+        // the name stands behind the header, the text, the section itself and the name .text
+        example(
+            "section .data, flags 3",
+            flagged(".data", 3),
+            Told::Refused([28, 0, 95, 5]),
+        ),
+        example(
+            "section .data, flags 7",
+            flagged(".data", 7),
+            Told::Refused([28, 0, 95, 5]),
+        ),
+        example(
+            "section .data, flags 1",
+            flagged(".data", 1),
+            accepted(2, 0),
+        ),
+        example(
+            "section .data, flags 2",
+            flagged(".data", 2),
+            accepted(2, 0),
+        ),
+        example(
+            "section .data.rel, flags 3",
+            flagged(".data.rel", 3),
+            accepted(2, 0),
+        ),
+        example(
+            "section .bss, flags 0",
+            flagged(".bss", 0),
+            Told::Refused([28, 0, 95, 4]),
+        ),
+        example(
+            "version 1, type 10 of a built-in, in the text",
+            with(named_call(None), ALL, abort),
+            halves(&[(abort, 68)]),
+        ),
+        example(
+            "version 1, type 10 of a built-in, key in the file's last 4 bytes",
+            with(named_call(Some(0)), ALL, abort),
+            halves(&[(abort, 692)]),
+        ),
+        example(
+            "version 1, type 10 of a built-in, key one byte behind that",
+            with(named_call(Some(1)), ALL, abort),
+            refused(33, 0),
+        ),
+        // each setting off, where that changes something
+        example(
+            "version 1, label at slot 1",
+            labelled("other", ROWS),
+            // the name stands behind the header, the text, the symbol and a zero byte
+            Told::Accepted(
+                [1, 0, 2, 0],
+                vec![[key_1, 1, 1, 105, 5], [entrypoint, 0, 2, 0, 10]],
+                Vec::new(),
+            ),
+        ),
+        example(
+            "the same, labels off",
+            with(labelled("other", ROWS), ALL ^ LABELS, 0),
+            accepted(1, entrypoint),
+        ),
+        example(
+            "version 1, type 10 of a name that no built-in has",
+            named_call(None),
+            Told::Refused([22, 64, 185, 5]),
+        ),
+        example(
+            "the same, broken files taken",
+            with(named_call(None), ALL ^ REJECT_BROKEN, 0),
+            halves(&[(abort, 68)]),
+        ),
+        example(
+            "version 1, slot 3 of 8 calls 3, a built-in has the key",
+            with(call(false, 0, 3), ALL, key_7),
+            refused(24, key_7 as u64),
+        ),
+        example(
+            "the same, collisions not checked",
+            with(call(false, 0, 3), ALL ^ COLLISION_CHECK, key_7),
+            Told::Accepted(
+                [1, 0, 2, 1],
+                vec![[entrypoint, 0, 2, 0, 10], [key_7, 7, 3, 0, 0]],
+                vec![(key_7, immediate_at)],
+            ),
+        ),
+        example("version 1", version_1.case(), accepted(1, entrypoint)),
+        example(
+            "the same, not optimized: the read-only bytes are copied",
+            with(version_1.case(), ALL ^ OPTIMIZE, 0),
+            accepted(1, entrypoint),
+        ),
+        example(
+            "version 2, not optimized",
+            with(PLAIN.case(), ALL ^ OPTIMIZE, 0),
+            refused(34, 0),
+        ),
+        example(
+            "version 1, where it is not enabled",
+            with(version_1.case(), ALL ^ V1, 0),
+            refused(34, 0),
+        ),
+        example(
+            "version 1, where version 2 is not enabled",
+            with(version_1.case(), ALL ^ V2, 0),
+            accepted(1, entrypoint),
+        ),
+        example(
+            "version 2, where it is not enabled",
+            with(PLAIN.case(), ALL ^ V2, 0),
+            refused(34, 0),
+        ),
+        example(
+            "version 2, where version 1 is not enabled",
+            with(PLAIN.case(), ALL ^ V1, 0),
+            accepted(2, 0),
+        ),
     ]
+}
+
+/// How long a title is with the spaces behind it.
+const TITLE: usize = 80;
+
+/// A record of the program's input: the title, the file's length, the settings, how many built-ins,
+/// the built-in, the rows, and the file.
+fn record(e: &Example) -> Vec<u8> {
+    let case = &e.case;
+    assert!(e.what.len() < TITLE && case.builtins.len() <= 1);
+    let mut bytes = format!("{:TITLE$}", e.what).into_bytes();
+    let numbers = [
+        case.file.len() as u32,
+        case.settings.bits() as u32,
+        case.builtins.len() as u32,
+        case.builtins.first().copied().unwrap_or(0),
+        case.rows() as u32,
+    ];
+    bytes.extend(numbers.iter().flat_map(|n| n.to_le_bytes()));
+    bytes.extend_from_slice(&case.file);
+    bytes
+}
+
+/// The program's line: as an answer is told, with all words of an accepted one from the version on.
+fn line(e: &Example, x: &Expected) -> String {
+    let told = Told::of(&e.case.file, &x.words, &x.table, &x.image);
+    assert_eq!(told, e.expected, "{}", e.what);
+    let answer = match told {
+        Told::Refused(_) => told.to_string(),
+        Told::Accepted(_, rows, words) => format!(
+            "accepted {}{}{}",
+            told_numbers(&x.words[4..15]),
+            told_rows(&rows),
+            told_written(&words)
+        ),
+    };
+    format!("{:TITLE$}{answer}\n", e.what)
+}
+
+/// Writes `stdin` and `stdout` of the program: the examples that it can hold, and what the Rust answers
+/// (the scope where the Rust says nothing), which must be what was worked out by hand.
+pub fn write(folder: &str) {
+    let (mut input, mut output) = (Vec::new(), String::new());
+    for e in examples() {
+        if e.case.file.len() <= LENT {
+            let x = expected(&e.case).expect("the model agrees with the Rust");
+            input.extend(record(&e));
+            output += &line(&e, &x);
+        }
+    }
+    fs::write(Path::new(folder).join("stdin"), &input).expect("a folder");
+    fs::write(Path::new(folder).join("stdout"), &output).expect("a folder");
+    println!("{} examples", output.lines().count());
 }
 
 /// MurmurHash3 x86 32-bit, seed 0: published vectors, then names that programs use and keys of

@@ -1,3 +1,4 @@
+//! vectors worked FOLDER: writes the scope's worked examples for the program `crates/worked`.
 //! vectors FOLDER [CASES [SEED]]: writes a fixed sample of loads for a program that replays them
 //! without any Rust (`crates/load_vectors`). The file `stdin` has the cases, `stdout` a line for
 //! each, what the Rust answers (and the scope where the Rust says nothing).
@@ -37,6 +38,7 @@ use differential::{
     cases::Case,
     expected::{expected, Expected},
     outcome::{hash, Text},
+    worked,
 };
 use std::{collections::BTreeMap, env, fs, path::Path};
 
@@ -165,9 +167,12 @@ fn can_lend(case: &Case) -> bool {
 fn main() {
     let args: Vec<String> = env::args().skip(1).collect();
     let Some(folder) = args.first() else {
-        eprintln!("vectors FOLDER [CASES [SEED]]");
+        eprintln!("vectors worked FOLDER | vectors FOLDER [CASES [SEED]]");
         std::process::exit(2);
     };
+    if let ("worked", Some(folder)) = (folder.as_str(), args.get(1)) {
+        return worked::write(folder);
+    }
     let number = |k: usize, default: u64| {
         args.get(k)
             .map_or(default, |a| a.replace('_', "").parse().expect("a number"))

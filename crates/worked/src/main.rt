@@ -1,0 +1,104 @@
+// Runs the scope's worked examples through the C interface: records on standard input, a line for
+// each on standard output. tools/differential makes both; README.md says how.
+//
+// A record has a title, padded with spaces, which starts the line; five numbers of 32 bits: the
+// file's length, the settings by their bits, how many built-ins there are, one at most, the built-in,
+// and the rows; and the file. What is lent holds anything but zeros before the load.
+use ebpf::little_endian::read_u32;
+use exports::sbpf_load;
+use lines::FILE;
+use lines::ROWS;
+use lines::print_line;
+
+mod lines;
+
+const TITLE: usize = 80;
+
+const NUMBERS: usize = 20;
+// More examples than there are: a loop needs a bound, and the input gives none.
+const MOST: usize = 1000;
+
+fn bad_record() -> bool {
+    io::write_all(1, b"bad record\n");
+    false
+}
+
+// Loads, and prints what was answered. The shortest column says how many rows there are.
+fn load_and_print(file: &[u8], builtins: &[u32], settings: u32, rows: usize) -> bool {
+    if ROWS < rows {
+        return bad_record();
+    }
+    let mut image = [0xa1u8; FILE];
+    let mut ro = [0xa2u8; FILE];
+    let mut keys = [0xa3a3_a3a3u32; ROWS];
+    let mut indices = [0xa4a4_a4a4u32; ROWS];
+    let mut kinds = [0xa5a5_a5a5u32; ROWS];
+    let mut starts = [0xa6a6_a6a6u32; ROWS];
+    let mut lengths = [0xa7a7_a7a7u32; ROWS];
+    let mut answer = [0xa8a8_a8a8u64; 24];
+    let number = sbpf_load(
+        file,
+        builtins,
+        settings,
+        &mut image,
+        &mut ro,
+        &mut keys,
+        &mut indices,
+        &mut kinds,
+        &mut starts,
+        &mut lengths[..rows],
+        &mut answer,
+    );
+    print_line(
+        number,
+        &answer,
+        file,
+        &image,
+        &keys,
+        &indices,
+        &kinds,
+        &starts,
+        &lengths,
+    );
+    true
+}
+
+// Reads the file behind a record's numbers, and loads it.
+fn run(numbers: &[u8; NUMBERS], file: &mut [u8]) -> bool {
+    let length = read_u32(numbers, 0) as usize;
+    let count = read_u32(numbers, 8) as usize;
+    if file.len() < length {
+        return bad_record();
+    }
+    if 1 < count {
+        return bad_record();
+    }
+    io::read_full(0, &mut file[..length]);
+    let builtins = [read_u32(numbers, 12)];
+    load_and_print(
+        &file[..length],
+        &builtins[..count],
+        read_u32(numbers, 4),
+        read_u32(numbers, 16) as usize,
+    )
+}
+
+// One record, and whether there was a right one. What is cut off reads as zeros.
+fn next_record() -> bool {
+    let mut title = [0u8; TITLE];
+    let mut numbers = [0u8; NUMBERS];
+    let mut file = [0u8; FILE];
+    if io::read_full(0, &mut title) == 0 {
+        return false;
+    }
+    io::write_all(1, &title);
+    io::read_full(0, &mut numbers);
+    run(&numbers, &mut file)
+}
+
+fn main() {
+    let mut left = MOST;
+    while 0 < left && next_record() {
+        left -= 1;
+    }
+}
