@@ -1,61 +1,23 @@
-// Loads the file on standard input with all settings on, no built-ins and 256 rows, and prints what
-// comes of it: `refused` with number, value, name start and name length; or `accepted` with version,
-// entry, keys and moves, and a line for each row, by rising key: key, index, name kind.
-use loader::Accepted;
+// The lines that the program loadlist prints: `refused` with number, value, name start and name
+// length; or `accepted` with version, entry, keys and moves, and a line for each row, by rising key:
+// key, index, name kind. A file of more than 16,384 bytes is `too long`.
+use lines::ROWS;
+use lines::put_load;
 use loader::Config;
-use loader::Load;
 use loader::load;
-use loader::report_of;
+use storing::clear;
+use storing::put_bytes;
+ghost use Rattle.listing.specs.Lines.{listedLoad, loadLines, Stores, Lists};
 
-// One byte more than a file may have, so that a longer one shows.
-const TAKEN: usize = 16385;
+mod lines;
+mod storing;
 
 const LONGEST: usize = 16384;
 
-const ROWS: usize = 256;
-
-fn print_after_space(v: u64) {
-    io::write_all(1, b" ");
-    io::print_decimal(1, v);
-}
-
-fn print_refused(number: u64, value: u64, start: u64, length: u64) {
-    io::write_all(1, b"refused");
-    print_after_space(number);
-    print_after_space(value);
-    print_after_space(start);
-    print_after_space(length);
-    io::write_all(1, b"\n");
-}
-
-fn print_accepted(a: Accepted) {
-    io::write_all(1, b"accepted");
-    print_after_space(a.version as u64);
-    print_after_space(a.entry as u64);
-    print_after_space(a.used as u64);
-    print_after_space(a.moves);
-    io::write_all(1, b"\n");
-}
-
-fn print_row(key: u32, index: u32, kind: u32) {
-    io::print_decimal(1, key as u64);
-    print_after_space(index as u64);
-    print_after_space(kind as u64);
-    io::write_all(1, b"\n");
-}
-
-// The used rows; no more than there are.
-fn print_rows(keys: &[u32; ROWS], indices: &[u32; ROWS], kinds: &[u32; ROWS], used: usize) {
-    let mut i = 0;
-    while i < ROWS {
-        if i < used {
-            print_row(keys[i], indices[i], kinds[i]);
-        }
-        i += 1;
-    }
-}
-
-fn list(file: &[u8]) {
+// A load with all settings on and no built-ins, and its lines.
+fn list_load(out: &mut [u8], file: &[u8]) -> usize
+    ensures { λ r. ⌜ Stores 16221 (loadLines (listedLoad (now (file .entry)))) out 0 r ⌝ }
+{
     let builtins = [0u32; 0];
     let mut image = [0u8; LONGEST];
     let mut ro_section = [0u8; LONGEST];
@@ -84,25 +46,17 @@ fn list(file: &[u8]) {
         &mut starts,
         &mut lengths,
     );
-    match answer {
-        Load::Refused(e) => {
-            let r = report_of(e);
-            print_refused(r.number as u64, r.value, r.start, r.length);
-        }
-        Load::Accepted(a) => {
-            print_accepted(a);
-            print_rows(&keys, &indices, &kinds, a.used);
-        }
-    }
+    put_load(out, answer, &keys, &indices, &kinds)
 }
 
-// What the program loadlist does.
-pub fn list_input() {
-    let mut file = [0u8; TAKEN];
-    let n = io::read_full(0, &mut file);
-    if LONGEST < n {
-        io::write_all(1, b"too long\n");
-        return;
+// THE LINES of a file in a lent slice, as many bytes as there is room for and zeros behind them; and
+// how many bytes they are.
+pub fn list_file(file: &[u8], out: &mut [u8]) -> usize
+    ensures { λ r. ⌜ Lists file out r ⌝ }
+{
+    clear(out);
+    if LONGEST < file.len() {
+        return put_bytes(out, 0, b"too long\n");
     }
-    list(&file[..n]);
+    list_load(out, file)
 }
