@@ -44,4 +44,5 @@ lld two_functions two_functions 263 0
 lld pointers pointers 247 0
 lld pointers_version2 pointers 263 0x20 --image-base=0x100000000
 gnu calls 247 0
+gnu functions 247 0
 gnu unresolved 263 0
