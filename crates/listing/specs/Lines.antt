@@ -62,11 +62,6 @@ abbrev pub answerLines : Load → List Row → List ℕ
 answerLines (Accepts a) rows = acceptedLine a ++ rowLines rows
 answerLines (Refuses e) rows = refusedLine (reportOf e)
 
--- the rows that an answer counts
-abbrev pub usedOf : Load → ℕ
-usedOf (Accepts a) = a .used
-usedOf (Refuses e) = 0
-
 abbrev pub loadLines : Loading → List ℕ
 loadLines x = answerLines (answerOf x) (rowsIn x)
 
@@ -104,12 +99,17 @@ Stores most bytes out at r = Stored most bytes (now (out .entry)) (now (out .exi
 abbrev pub filled : ℕ → List ℕ → List ℕ
 filled n bytes = take n bytes ++ replicate (n - length bytes) 0
 
+-- the rows that an answer counts
+abbrev pub usedOf : Load → ℕ
+usedOf (Accepts a) = a .used
+usedOf (Refuses e) = 0
+
 -- the first n rows of three lent columns; a line has nothing of a name's start and length
 abbrev pub columnRows : Lent → Lent → Lent → ℕ → List Row
 columnRows keys indices kinds n = rowsOf (slices (now (keys .entry)) (now (indices .entry)) (now (kinds .entry)) [] []) n
 
--- WHAT `list_file` PROMISES: a lent slice that held `before` holds the lines of the file, and r is the number of their bytes. That these are at most
--- 16,384 follows, and stands here for the programs
+-- WHAT `list_file` PROMISES: a lent slice that held `before` holds the lines of the file, and r is the number of their bytes. These are at
+-- most 16,384, which the programs lend
 pub record Listing (file before after : List ℕ) (r : ℕ) : Type 0 where
   pub count : r ≡ length (linesOf file)
   pub bytes : after ≡ filled (length before) (linesOf file)
