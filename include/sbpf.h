@@ -157,6 +157,16 @@ uint32_t sbpf_lookup(const uint32_t *keys, size_t keys_len, const uint32_t *indi
                      size_t lengths_len, uint64_t used, uint32_t key, uint64_t *answer,
                      size_t answer_len);
 
+/* The same by a binary search over the used keys: the row that it comes to, if it has the key. Use
+ * this one on the columns and the SBPF_USED rows that a load has left, which ascend by key: there
+ * both answer the same for every key, and this one in few steps. Use sbpf_lookup on a table of
+ * unknown origin: where the rows do not ascend, this one may miss a row that is there. */
+uint32_t sbpf_lookup_ascending(const uint32_t *keys, size_t keys_len, const uint32_t *indices,
+                               size_t indices_len, const uint32_t *kinds, size_t kinds_len,
+                               const uint32_t *starts, size_t starts_len,
+                               const uint32_t *lengths, size_t lengths_len, uint64_t used,
+                               uint32_t key, uint64_t *answer, size_t answer_len);
+
 /* Loads a file of at most 16,777,216 bytes (else 40). Lent are: the image and the read-only
  * buffer, each at least as long as the file (else 41); and the table, five columns with as many
  * rows as the shortest has (43 where the functions do not fit). The built-ins are keys that

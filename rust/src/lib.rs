@@ -75,6 +75,22 @@ mod c {
             answer: *mut u64,
             answer_len: usize,
         ) -> u32;
+        pub fn sbpf_lookup_ascending(
+            keys: *const u32,
+            keys_len: usize,
+            indices: *const u32,
+            indices_len: usize,
+            kinds: *const u32,
+            kinds_len: usize,
+            starts: *const u32,
+            starts_len: usize,
+            lengths: *const u32,
+            lengths_len: usize,
+            used: u64,
+            key: u32,
+            answer: *mut u64,
+            answer_len: usize,
+        ) -> u32;
         pub fn sbpf_load(
             file: *const u8,
             file_len: usize,
@@ -255,9 +271,25 @@ pub struct Row {
 
 /// The first of the used rows with the key, whatever the columns hold; at most the rows lent count.
 pub fn lookup(table: Table, used: usize, key: u32) -> Option<Row> {
+    look_up(c::sbpf_lookup, table, used, key)
+}
+
+/// The same by a binary search: on the table and the used rows that a load has left, whose keys
+/// ascend, it answers what `lookup` answers, in few steps. On other columns it may miss a row.
+pub fn lookup_ascending(table: Table, used: usize, key: u32) -> Option<Row> {
+    look_up(c::sbpf_lookup_ascending, table, used, key)
+}
+
+#[rustfmt::skip]
+type Lookup = unsafe extern "C" fn(
+    *const u32, usize, *const u32, usize, *const u32, usize, *const u32, usize, *const u32, usize,
+    u64, u32, *mut u64, usize,
+) -> u32;
+
+fn look_up(call: Lookup, table: Table, used: usize, key: u32) -> Option<Row> {
     // SAFETY: as said above.
     let a = answered(&[], |words, n| unsafe {
-        c::sbpf_lookup(
+        call(
             table.keys.as_ptr(),
             table.keys.len(),
             table.indices.as_ptr(),

@@ -77,6 +77,8 @@ fn the_example_is_accepted() {
         length: 10,
     };
     assert_eq!(lookup(lent.table(), a.used, 0), Some(entry));
+    assert_eq!(lookup_ascending(lent.table(), a.used, 0), Some(entry));
+    assert_eq!(lookup_ascending(lent.table(), a.used, 1), None);
     assert_eq!(lookup(lent.table(), a.used, 1), None);
     assert_eq!(lookup(lent.table(), 0, 0), None);
     assert_eq!(lent.read_only(&a), Some(&EXAMPLE[64..80]));
@@ -104,7 +106,11 @@ fn a_call_holds_the_key_that_finds_its_target() {
     assert_eq!((a.version, a.entry, a.used), (1, 0, 2));
     let key = hash(&1u64.to_le_bytes());
     assert_eq!(lent.image[68..72], key.to_le_bytes());
-    let found = |key| lookup(lent.table(), a.used, key).map(|row| (row.index, row.kind));
+    let found = |key| {
+        let row = lookup(lent.table(), a.used, key);
+        assert_eq!(lookup_ascending(lent.table(), a.used, key), row);
+        row.map(|row| (row.index, row.kind))
+    };
     assert_eq!(found(key), Some((1, 3)));
     assert_eq!(found(hash(b"entrypoint")), Some((0, 2)));
 

@@ -18,13 +18,14 @@ use loading::config_of;
 use loading::load_answer;
 use loading::text_answer;
 use names::refusal_name;
+use program::lookup_ascending;
 use program::lookup_by_key;
 ghost use mathlib.Core.Path.{_≡_};
 ghost use Rattle.ebpf.specs.Murmur3.{murmur3};
 ghost use Rattle.elf_parser.specs.Names.{sectionName, symbolName, dynamicSymbolName};
 ghost use Rattle.elf_parser.specs.Parse.{parsed};
 ghost use Rattle.elf_parser.specs.Records.{sectionPlaceOf, symbolTableOf};
-ghost use Rattle.program.specs.Table.{lookupIn, tableBefore};
+ghost use Rattle.program.specs.Table.{lookupIn, lookupAscendingIn, tableBefore};
 ghost use Rattle.loader.specs.GetBytes.{textPlace};
 ghost use Rattle.exports.specs.Answers.{Gives, GivesAsked, GivesLoad, textAnswer, parseAnswer, placeAnswer, tableAnswer, rowAnswer};
 ghost use Rattle.exports.specs.Names.{Named, refusalName};
@@ -119,6 +120,27 @@ pub extern "C" fn sbpf_lookup(
     give(
         answer,
         row_answer(lookup_by_key(keys, indices, kinds, starts, lengths, used as usize, key)),
+    )
+}
+
+// The row with the key that a binary search over the used keys comes to: what `sbpf_lookup` answers
+// where the rows ascend, as a load leaves them. At most the rows lent count.
+#[no_mangle]
+pub extern "C" fn sbpf_lookup_ascending(
+    keys: &[u32],
+    indices: &[u32],
+    kinds: &[u32],
+    starts: &[u32],
+    lengths: &[u32],
+    used: u64,
+    key: u32,
+    answer: &mut [u64],
+) -> u32
+    ensures { λ r. ⌜ Gives (rowAnswer (lookupAscendingIn (tableBefore keys indices kinds starts lengths) used key)) answer r ⌝ }
+{
+    give(
+        answer,
+        row_answer(lookup_ascending(keys, indices, kinds, starts, lengths, used as usize, key)),
     )
 }
 

@@ -7,10 +7,9 @@ use lib.ListN.{length, replicate}
 use Rattle.ebpf.specs.LittleEndian.{le}
 use Rattle.program.specs.declared.Row.{Row}
 use Rattle.program.specs.declared.Found.{Found}
-use Rattle.program.specs.Rows.{Ascending, find}
-use Rattle.program.specs.Table.{Slices, capacity, lay, rowsOf, lookupIn}
-use Rattle.program.proofs.Laying.{rows-lay}
-use Rattle.program.proofs.Tables.{lookup-lay}
+use Rattle.program.specs.Rows.{find}
+use Rattle.program.specs.Table.{Slices, capacity, lay, lookupIn, Ready as IsTable}
+use Rattle.program.proofs.Tables.{ready-lay, lookup-lay}
 use Rattle.loader.specs.declared.answer.Load.{Load}
 use Rattle.loader.specs.declared.answer.Load.the-variants.{Accepted as Accepts, Refused as Refuses}
 use Rattle.loader.specs.declared.error.ElfError.the-variants.{SymbolHashCollision, TableFull}
@@ -109,10 +108,10 @@ module _ (file builtins : List ℕ) (c : Config) (im ro : List ℕ) (t : Slices)
         let found = subst (λ (look : ℕ → Found). IsNameKey j (keyOf (j .version2) to) ⊎ Finds look (keyOf (j .version2) to) to) looks (call-found file builtins j (capacity t) (h .image) (h .rows) (h .moves) (h .settles) i to (target .1)) in
         (to, target .1, to-in file j i to (target .1), subst (λ (k : ℕ). IsNameKey j k ⊎ Finds (lookupIn t′ used) k to) (sym key) found)
 
-    held-rows : Ascending (rowsOf t′ used)
-    held-rows =
+    held-table : IsTable t′ used
+    held-table =
         let room = rows-room file builtins j (capacity t) (h .image) (h .rows) (h .moves) (h .settles) in
-        rw (h .table-is, h .used-is, rows-lay t (h .rows) room) (rows-ascend file builtins j (capacity t) (h .image) (h .rows) (h .moves) (h .settles))
+        rw (h .table-is, h .used-is) (ready-lay t (h .rows) room (rows-ascend file builtins j (capacity t) (h .image) (h .rows) (h .moves) (h .settles)))
 
   module _ (a : Load) (did : Loaded (loadOf file builtins c (length im) (length ro) (capacity t)) im ro t im′ ro′ t′ a) where
     has-calls : OnAccepted a (prepared file builtins c (length im) (length ro)) (λ j used. Calls file j im′ (lookupIn t′ used))
@@ -131,10 +130,10 @@ module _ (file builtins : List ℕ) (c : Config) (im ro : List ℕ) (t : Slices)
     has-bytes = on-accepted (λ j used. Bytes file j im′) held-bytes a did
 
     -- the rows ascend
-    pub ascended : OnUsed a (λ used. Ascending (rowsOf t′ used))
-    ascended = used-of a (prepared file builtins c (length im) (length ro)) (on-accepted (λ j used. Ascending (rowsOf t′ used)) held-rows a did)
+    pub ascended : OnUsed a (IsTable t′)
+    ascended = used-of a (prepared file builtins c (length im) (length ro)) (on-accepted (λ j used. IsTable t′ used) held-table a did)
       where
-        used-of : (a : Load) (p : Prepared) → OnAccepted a p (λ j used. Ascending (rowsOf t′ used)) → OnUsed a (λ used. Ascending (rowsOf t′ used))
+        used-of : (a : Load) (p : Prepared) → OnAccepted a p (λ j used. IsTable t′ used) → OnUsed a (IsTable t′)
         used-of (Accepts x) (Ready j) h = h
         used-of (Accepts x) (NotReady r) h = absurd h
         used-of (Refuses r) p h = tt

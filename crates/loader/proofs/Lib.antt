@@ -35,4 +35,5 @@ pub mod Gathered
 pub mod Onward
 pub mod Aborting
 pub mod Builtins
+pub mod Lookups
 pub mod Pinned

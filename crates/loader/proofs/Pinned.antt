@@ -19,7 +19,7 @@ use Rattle.elf_parser.specs.SectionNames.{sameBytes, roleOf, placed as reader-p
 use Rattle.elf_parser.specs.Strings.{stringCheck, beforeZero, terminated, gives as reader-gives, stringIn}
 use Rattle.elf_parser.specs.Types.{fileHeader, programHeader, sectionHeader, sym, rel}
 use Rattle.program.specs.HashedLegacy.{legacyKey, keptSymbol, isTaken, legacyRow}
-use Rattle.program.specs.Rows.{rank, register, registered, unregister, Ascending}
+use Rattle.program.specs.Rows.{rank, register, registered, unregister}
 use Rattle.program.specs.Search.{between, halves, isAmong}
 use Rattle.loader.specs.Addresses.{machineAddr}
 use Rattle.loader.specs.Bytes.{put}
@@ -48,7 +48,7 @@ use Rattle.program.specs.declared.FunctionName.the-variants.{OfIndex, Entrypoin
 use Rattle.program.specs.declared.Legacy.the-variants.{Free}
 use Rattle.program.specs.declared.Found.{Found}
 use Rattle.program.specs.declared.Row.{Row}
-use Rattle.program.specs.Table.{Slices, Lent, tableBefore, tableAfter, capacity, lay, rowsOf, lookupIn}
+use Rattle.program.specs.Table.{Slices, Lent, tableBefore, tableAfter, capacity, lay, rowsOf, lookupIn, Ready as IsTable}
 use Rattle.program.proofs.Cases.{zero-one}
 use Rattle.loader.specs.declared.answer.Accepted.{Accepted}
 use Rattle.loader.specs.declared.answer.Load.{Load}
@@ -319,4 +319,4 @@ module _ (file builtins image ro keys indices kinds starts lengths : Lent) (a : 
   -- the first key is below the second
   pub ascending-says : getD (now (keys .exit)) 0 0 < getD (now (keys .exit)) 1 0
   unfolding rowsOf rank
-  ascending-says = subst (λ (b : Load). OnUsed b (λ used. Ascending (rowsOf t′ used))) (loaded .answers) (l .ascending) .0 .0
+  ascending-says = subst (λ (b : Load). OnUsed b (IsTable t′)) (loaded .answers) (l .ascending) .rising .0 .0

@@ -244,13 +244,13 @@ distinct (x ∷ xs) = distinct xs if isOneOf x xs else suc (distinct xs)
 
 -- ---- the claim
 
--- DEMAND 3, of a load with n bytes lent for the image, m for the read-only bytes, and a table t: the image and the table are im′ and t′
--- afterwards, and the answer is a
-pub record Demand3 (file builtins : List ℕ) (c : Config) (n m : ℕ) (t : Slices) (im′ : List ℕ) (t′ : Slices) (a : Load) : Type 0 where
-  pub calls : OnAccepted a (prepared file builtins c n m) (λ j used. Calls file j im′ (lookupIn t′ used))
-  pub keys : OnAccepted a (prepared file builtins c n m) (λ j used. Keys file builtins j (lookupIn t′ used))
-  pub entry : OnAccepted a (prepared file builtins c n m) (λ j used. Entry j (lookupIn t′ used))
-  pub others : OnAccepted a (prepared file builtins c n m) (λ j used. Others file builtins j (lookupIn t′ used))
+-- of a load with n bytes lent for the image, m for the read-only bytes, and a table t: the image and the table are im′ and t′ afterwards, the
+-- answer is a, and `lookup` is the lookup by which a key finds an index in a table of so many used rows
+pub record Demand3By (lookup : Slices → ℕ → ℕ → Found) (file builtins : List ℕ) (c : Config) (n m : ℕ) (t : Slices) (im′ : List ℕ) (t′ : Slices) (a : Load) : Type 0 where
+  pub calls : OnAccepted a (prepared file builtins c n m) (λ j used. Calls file j im′ (lookup t′ used))
+  pub keys : OnAccepted a (prepared file builtins c n m) (λ j used. Keys file builtins j (lookup t′ used))
+  pub entry : OnAccepted a (prepared file builtins c n m) (λ j used. Entry j (lookup t′ used))
+  pub others : OnAccepted a (prepared file builtins c n m) (λ j used. Others file builtins j (lookup t′ used))
   pub bytes : OnAccepted a (prepared file builtins c n m) (λ j used. Bytes file j im′)
   pub injective : Injective
   -- of accepted and of refused loads, where the collision check is off
@@ -258,3 +258,7 @@ pub record Demand3 (file builtins : List ℕ) (c : Config) (n m : ℕ) (t : Slic
       → ((key : ℕ) × (a ≡ Refuses (SymbolHashCollision key))) ↔ Clash (reachedEarly file builtins (capacity t) (prepared file builtins c n m))
   pub full : c .«external_internal_function_hash_collision» ≡ false
       → ((rows : ℕ) × (a ≡ Refuses (TableFull rows))) ↔ (capacity t < distinct (map (λ r. r .key) (reachedIn file builtins (capacity t) (prepared file builtins c n m))))
+
+-- DEMAND 3, by the lookup that is right on any table
+abbrev pub Demand3 : List ℕ → List ℕ → Config → ℕ → ℕ → Slices → List ℕ → Slices → Load → Type 0
+Demand3 = Demand3By lookupIn

@@ -2,8 +2,7 @@
 use Prim.Native.Nat.{ℕ}
 use denote.Ref.{now}
 use lib.ListN.{length}
-use Rattle.program.specs.Rows.{Ascending}
-use Rattle.program.specs.Table.{Lent, tableBefore, tableAfter, rowsOf}
+use Rattle.program.specs.Table.{Lent, tableBefore, tableAfter, Ready}
 use Rattle.loader.specs.declared.answer.Load.{Load}
 use Rattle.loader.specs.declared.answer.Load.the-variants.{Accepted as Accepts, Refused as Refuses}
 use Rattle.loader.specs.declared.validate.Config.{Config}
@@ -25,5 +24,5 @@ pub record Loads (file builtins : Lent) (c : Config) (image ro keys indices kind
   -- demand 3: calls, keys and bytes of an accepted load; collisions and full tables
   pub keyed : Demand3 (now (file .entry)) (now (builtins .entry)) c (length (now (image .entry))) (length (now (ro .entry))) (tableBefore keys indices kinds starts lengths)
       (now (image .exit)) (tableAfter keys indices kinds starts lengths) a
-  -- the rows ascend strictly by key
-  pub ascending : OnUsed a (λ used. Ascending (rowsOf (tableAfter keys indices kinds starts lengths) used))
+  -- the table is one whose used rows ascend strictly by key, with zeros elsewhere
+  pub ascending : OnUsed a (λ used. Ready (tableAfter keys indices kinds starts lengths) used)

@@ -1,18 +1,18 @@
 -- The searches of a list of numbers: the search by halves, turn by turn, and its place on an ascending list; the first index of a number, by
 -- a scan. Assumes nothing.
 use mathlib.Core.Path.{_≡_, refl, sym, _∙_}
-use mathlib.Core.Bool.{Bool, true, false}
+use mathlib.Core.Bool.{Bool, true, false, _||_}
 use mathlib.Core.List.{List, [], _∷_}
 use Prim.Native.Nat.{ℕ, zero, suc, _+_, _-_, _≤_, _<_, zero-le, suc-le-suc, compare·suc-suc}
-use native.Mathlib.Nat.{le-of-suc-le-suc, not-suc-le-zero, lt-trans}
+use native.Mathlib.Nat.{le-of-suc-le-suc, not-suc-le-zero, lt-trans, add-zero}
 use native.Mathlib.Omega.{arith}
 use native.Mathlib.Numerals.{add-one}
 use lib.ListN.{length, getD, take, drop, drop-of-length-le}
 use lib.Seq.{length-take-le, take-length, getD-take, drop-cons}
 use lib.Dec.{ltb, leb, eqb}
-use borrow.Author.Tests.{lt-ltb, le-ltb, le-leb, lt-leb, eq-eqb, ne-eqb}
-use Rattle.ebpf.specs.Choice.{_if_else_}
-use Rattle.program.specs.Search.{middle, between, halves, isAmong, indexOf, member, Over, Rising, place}
+use borrow.Author.Tests.{lt-ltb, le-ltb, le-leb, lt-leb, eq-eqb, ne-eqb, eqb-false}
+use Rattle.ebpf.specs.Choice.{_if_else_, or-false}
+use Rattle.program.specs.Search.{middle, between, halves, isAmong, indexOf, oneOf, member, Over, Rising, place}
 use Rattle.program.proofs.Cases.{by-lt, by-eq}
 
 -- ---- the search by halves, on any list
@@ -179,6 +179,29 @@ module _ (ks : List ℕ) (n k : ℕ) (within : n ≤ length ks) (i : ℕ) (l : i
   pub index-miss : (getD ks i 0 ≡ k → ⊥) → i + indexOf k (drop i (take n ks)) ≡ i + 1 + indexOf k (drop (i + 1) (take n ks))
   unfolding _if_else_
   index-miss ne = rw (rest, ne-eqb (getD ks i 0) k ne) (omega arith)
+
+-- m numbers passed over at once
+pub index-past : (ks : List ℕ) (n k : ℕ) → n ≤ length ks → (m i : ℕ) → i + m ≤ n → oneOf m k ks i ≡ false
+    → i + indexOf k (drop i (take n ks)) ≡ i + m + indexOf k (drop (i + m) (take n ks))
+unfolding oneOf
+index-past ks n k within zero i l e = rw add-zero refl
+index-past ks n k within (suc m) i l e =
+    let both = or-false (eqb (getD ks i 0) k) (oneOf m k ks (i + 1)) e in
+    let move : i + 1 + m ≡ i + suc m = omega arith in
+    index-miss ks n k within i (omega arith) (eqb-false _ _ (both .0))
+    ∙ (rw move at (index-past ks n k within m (i + 1) (omega arith) (both .1)))
+
+-- eight tests, as the code joins them
+pub join-eight : (a b c d e f g h : Bool) → ((((a || b) || c) || d) || (((e || f) || g) || h)) ≡ (a || (b || (c || (d || (e || (f || (g || (h || false))))))))
+join-eight true b c d e f g h = refl
+join-eight false true c d e f g h = refl
+join-eight false false true d e f g h = refl
+join-eight false false false true e f g h = refl
+join-eight false false false false true f g h = refl
+join-eight false false false false false true g h = refl
+join-eight false false false false false false true h = refl
+join-eight false false false false false false false true = refl
+join-eight false false false false false false false false = refl
 
 pub index-none : (ks : List ℕ) (n k i : ℕ) → n ≤ length ks → n ≤ i → indexOf k (drop i (take n ks)) ≡ 0
 index-none ks n k i within l = rw (drop-of-length-le (take n ks) {i = i} (rw (length-take-le n ks within) l))

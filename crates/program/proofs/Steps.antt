@@ -1,4 +1,4 @@
--- What each way out of a registration, `unregister_function` and `lookup_by_key` answers and leaves, in the words of the contract: one
+-- What each way out of a registration, `unregister_function`, `lookup_by_key` and `lookup_ascending` answers and leaves, in the words of the contract: one
 -- law for each return, whatever the slices hold. Assumes nothing.
 use mathlib.Core.Path.{_≡_, refl, sym, ap, _∙_}
 use mathlib.Core.Bool.{Bool, true, false}
@@ -19,7 +19,7 @@ use Rattle.program.specs.declared.Registered.the-variants.{Inserted, Rep
 use Rattle.program.specs.declared.Removed.the-variants.{Gone, Absent}
 use Rattle.program.specs.Search.{halves, indexOf}
 use Rattle.program.specs.Rows.{rank}
-use Rattle.program.specs.Table.{Slices, capacity, Least, Within, rowAt, rowsOf, ranksOf, Opening, closedRow, counted, placeIn, holds, registerAt, registeredAt, registerIn, registeredBy, unregisterAt, unregisteredAt, unregisterIn, unregisteredIn, RegistersBy, Unregisters, lookupIn}
+use Rattle.program.specs.Table.{Slices, capacity, Least, Within, rowAt, rowsOf, ranksOf, Opening, closedRow, counted, placeIn, holds, registerAt, registeredAt, registerIn, registeredBy, unregisterAt, unregisteredAt, unregisterIn, unregisteredIn, RegistersBy, Unregisters, lookupIn, foundAt, lookupAscendingIn}
 use Rattle.program.proofs.Registered.{the-type}
 use Rattle.program.proofs.Cases.{by-lt, by-le, by-eq, zero-one}
 use Rattle.program.proofs.Halves.{search-le}
@@ -48,6 +48,11 @@ module _ (t : Slices) (used rows n : ℕ) (c : Counts t used rows n) where
   in-slices =
       let w = c .within in
       let e = c .counts in
+      record { in-keys = omega arith; in-indices = omega arith; in-kinds = omega arith; in-starts = omega arith; in-lengths = omega arith }
+
+  pub row-within : (at : ℕ) → at < n → Within (at + 1) t
+  row-within at l =
+      let w = in-slices in
       record { in-keys = omega arith; in-indices = omega arith; in-kinds = omega arith; in-starts = omega arith; in-lengths = omega arith }
 
 -- the row at a place, of rank k or not
@@ -90,6 +95,20 @@ module _ (t : Slices) (used rows n : ℕ) (c : Counts t used rows n) (k at : ℕ
     answers = sym (removes .0 ∙ rw (here t n at k l e) refl);
     leaves = closes ∙ sym (removes .1 ∙ rw (here t n at k l e) refl);
   }
+
+-- a lookup's answer at that place
+module _ (t : Slices) (used rows n : ℕ) (c : Counts t used rows n) (k at : ℕ) (is : at ≡ halves k (take n (t .keys))) where
+  looks : lookupAscendingIn t used k ≡ foundAt t n at k
+  unfolding lookupAscendingIn
+  looks = rw (is-place t used rows n c k at is, is-counted t used rows n c) refl
+
+  pub finds-nothing : (at < n → getD (t .keys) at 0 ≡ k → ⊥) → Nothing ≡ lookupAscendingIn t used k
+  unfolding foundAt _if_else_
+  finds-nothing h = sym (looks ∙ rw (not-here t n at k h) refl)
+
+  pub finds-row : at < n → getD (t .keys) at 0 ≡ k → At (rowAt t at) ≡ lookupAscendingIn t used k
+  unfolding foundAt _if_else_
+  finds-row l e = sym (looks ∙ rw (here t n at k l e) refl)
 
 -- a registration's answer at that place
 module _ (t : Slices) (used rows n : ℕ) (c : Counts t used rows n) (row : Row) (at : ℕ) (is : at ≡ halves (rank row) (take n (t .keys))) where

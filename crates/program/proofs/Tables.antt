@@ -15,7 +15,7 @@ use Rattle.program.specs.declared.Registered.the-variants.{Inserted, Rep
 use Rattle.program.specs.declared.Removed.{Removed}
 use Rattle.program.specs.declared.Removed.the-variants.{Gone, Absent}
 use Rattle.program.specs.Rows.{rank, Ascending, find, remove, register, registered, unregister}
-use Rattle.program.specs.Table.{Slices, least, capacity, column, lay, rowAt, rowsOf, openedRow, closedRow, counted, placeIn, registerIn, registeredBy, registeredIn, unregisterAt, unregisteredAt, unregisterIn, unregisteredIn, Registers, Unregisters, lookupIn, Ready, Registration, Removal}
+use Rattle.program.specs.Table.{Slices, least, capacity, column, lay, rowAt, rowsOf, openedRow, closedRow, counted, placeIn, registerIn, registeredBy, registeredIn, unregisterAt, unregisteredAt, unregisterIn, unregisteredIn, Registers, Unregisters, lookupIn, foundAt, lookupAscendingIn, Ready, Registration, Removal}
 use Rattle.program.proofs.Halves.{halves-place}
 use Rattle.program.proofs.Laying.{zero-row, within-room, length-column, length-rows, ranks-rows, row-at, rows-lay, capacity-lay, opened-lay, closed-lay}
 use Rattle.program.proofs.Steps.{by-holds, by-registeredAt}
@@ -61,7 +61,7 @@ module _ (t : Slices) (rs : List Row) (room : length rs ≤ capacity t) where
     lengths-as = length-column (λ (r : Row). r .length) rs (length (t .lengths)) (omega arith);
   }
 
-  ready-lay : Ascending rs → Ready (lay t rs) (length rs)
+  pub ready-lay : Ascending rs → Ready (lay t rs) (length rs)
   ready-lay a = record {
     room = rw (capacity-lay t rs room) room;
     laid = rw (rows-lay t rs room) (sym (lay-same t (lay t rs) rs same-lay));
@@ -159,6 +159,16 @@ module _ (t : Slices) (used : ℕ) (ready : Ready t used) where
             rw (length-rows t used) at (closed-lay t (rowsOf t used) (rw (length-rows t used) (ready .room)) at (rw (length-rows t used) l)) in
             ap (closedRow at used) (ready .laid) ∙ lays ∙ ap (lay t) (rw is (sym (remove-here k zero-row (rowsOf t used) inside same)));
       }
+
+  -- THE TWO LOOKUPS AGREE on a table, for every key
+  pub lookups-agree : (k : ℕ) → lookupAscendingIn t used k ≡ lookupIn t used k
+  unfolding lookupAscendingIn lookupIn foundAt _if_else_
+  lookups-agree k =
+      let is = place-ready k in
+      rw counted-ready
+      (by-holds t used (placeIn t used k) k (λ (b : Bool). (At (rowAt t (placeIn t used k)) if b else Nothing) ≡ find k (rowsOf t used))
+      (λ l e. sym (found k (placeIn t used k) is l e))
+      (λ h. sym (missing k (placeIn t used k) is h)))
 
   module _ (row : Row) (at : ℕ) (is : at ≡ placeOf (rank row) (rowsOf t used)) where
     repeats : at < used → rank (rowAt t at) ≡ rank row → rowAt t at .index ≡ row .index → Registration t t used row Repeat

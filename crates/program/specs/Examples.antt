@@ -15,7 +15,7 @@ use Rattle.program.specs.declared.KeptName.{KeptName}
 use Rattle.program.specs.declared.FunctionName.the-variants.{Symbol, OfIndex, Entrypoint}
 use Rattle.program.specs.Search.{between, halves, isAmong}
 use Rattle.program.specs.Rows.{rank}
-use Rattle.program.specs.Table.{Slices, slices, least, capacity, rowsOf, ranksOf, opened, closed, openedRow, openedAlike, closedRow, counted, placeIn, holds, registerAt, registeredAt, registerIn, registeredBy, registeredIn, registeredAlikeIn, unregisterAt, unregisteredAt, unregisterIn, unregisteredIn, lookupIn}
+use Rattle.program.specs.Table.{Slices, slices, least, capacity, rowsOf, ranksOf, opened, closed, openedRow, openedAlike, closedRow, counted, placeIn, holds, registerAt, registeredAt, registerIn, registeredBy, registeredIn, registeredAlikeIn, unregisterAt, unregisteredAt, unregisterIn, unregisteredIn, lookupIn, foundAt, lookupAscendingIn}
 use Rattle.program.specs.HashedLegacy.{kept, keptSymbol, keptName, legacyKey, isTaken}
 
 -- a row with a name that is made from the index
@@ -76,6 +76,20 @@ removed = refl
 lookups : lookupIn mixed 3 5 ∷ lookupIn mixed 1 9 ∷ lookupIn mixed 9 9 ∷ [] ≡ At (row 5 1) ∷ Nothing ∷ At (row 9 2) ∷ []
 unfolding lookupIn counted rowsOf capacity least rank _if_else_
 lookups = refl
+
+-- a binary search in ascending rows: the first row, the last, one that is not used, and keys between the rows and behind them
+ascending-lookups : lookupAscendingIn three 3 10 ∷ lookupAscendingIn three 3 30 ∷ lookupAscendingIn three 2 30 ∷ lookupAscendingIn three 3 25 ∷ lookupAscendingIn three 9 40 ∷ []
+    ≡ At (row 10 1) ∷ At (row 30 3) ∷ Nothing ∷ Nothing ∷ Nothing ∷ []
+unfolding lookupAscendingIn foundAt counted placeIn holds halves between ranksOf capacity least rank _if_else_
+ascending-lookups = refl
+
+-- in rows that fall it misses one that the scan finds
+abbrev falling : Slices
+falling = slices (30 ∷ 20 ∷ 10 ∷ []) (3 ∷ 2 ∷ 1 ∷ []) (3 ∷ 3 ∷ 3 ∷ []) (0 ∷ 0 ∷ 0 ∷ []) (0 ∷ 0 ∷ 0 ∷ [])
+
+missed : lookupAscendingIn falling 3 30 ∷ lookupIn falling 3 30 ∷ [] ≡ Nothing ∷ At (row 30 3) ∷ []
+unfolding lookupAscendingIn foundAt lookupIn counted placeIn holds halves between rowsOf ranksOf capacity least rank _if_else_
+missed = refl
 
 -- a symbol's name, the name entrypoint, an empty name, a name of the index, the entry's own: with labels, and without
 abbrev names : Bool → List KeptName

@@ -1,8 +1,9 @@
 -- Searches in a list of numbers. Each has an answer on any list; what it means on an ascending one is a law.
-use Prim.Native.Nat.{ℕ, zero, suc, _+_, _-_, _/_, _<_}
-use mathlib.Core.Bool.{Bool, true, false}
+use Prim.Native.Nat.{ℕ, zero, suc, _+_, _-_, _/_, _≤_, _<_}
+use mathlib.Core.Path.{_≡_}
+use mathlib.Core.Bool.{Bool, true, false, _||_}
 use mathlib.Core.List.{List, [], _∷_}
-use lib.ListN.{length, getD}
+use lib.ListN.{length, getD, take, drop}
 use lib.Dec.{ltb, leb, eqb}
 use Rattle.ebpf.specs.Choice.{_if_else_}
 
@@ -27,6 +28,16 @@ isAmong k xs = false if leb (length xs) (halves k xs) else eqb (getD xs (halves 
 abbrev pub indexOf : ℕ → List ℕ → ℕ
 indexOf k [] = 0
 indexOf k (n ∷ ns) = 0 if eqb n k else suc (indexOf k ns)
+
+-- k is one of the n numbers from `at` on
+unfoldable pub oneOf : ℕ → ℕ → List ℕ → ℕ → Bool
+oneOf zero k ks at = false
+oneOf (suc n) k ks at = eqb (getD ks at 0) k || oneOf n k ks (at + 1)
+
+-- before the place r, among the first n numbers, no k stands
+pub record PassesTo (ks : List ℕ) (n k r : ℕ) : Type 0 where
+  pub within : r ≤ n
+  pub same : indexOf k (take n ks) ≡ r + indexOf k (drop r (take n ks))
 
 abbrev pub member : ℕ → List ℕ → Bool
 member k [] = false

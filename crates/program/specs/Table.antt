@@ -12,6 +12,7 @@ use Rattle.program.specs.Search.{halves}
 use Rattle.program.specs.Rows.{rank, Ascending, find, register, registered, remove, unregister}
 use Rattle.program.specs.declared.Row.{Row}
 use Rattle.program.specs.declared.Found.{Found}
+use Rattle.program.specs.declared.Found.the-variants.{At, Nothing}
 use Rattle.program.specs.declared.Registered.{Registered}
 use Rattle.program.specs.declared.Registered.the-variants.{Inserted, Repeat, Collision, Full}
 use Rattle.program.specs.declared.Removed.{Removed}
@@ -214,6 +215,14 @@ pub record Unregisters (t u : Slices) (used k : ℕ) (a : Removed) : Type 0 wher
 -- a lookup of rank k: the first used row
 unfoldable pub lookupIn : Slices → ℕ → ℕ → Found
 lookupIn t used k = find k (rowsOf t (counted t used))
+
+-- the same by a binary search over the used keys: the row that it comes to, if it has the key. On a table whose rows ascend both answer the same
+-- (`lookups-agree` in proofs/Tables.antt)
+unfoldable pub foundAt : Slices → ℕ → ℕ → ℕ → Found
+foundAt t n at k = At (rowAt t at) if holds t n at k else Nothing
+
+unfoldable pub lookupAscendingIn : Slices → ℕ → ℕ → Found
+lookupAscendingIn t used k = foundAt t (counted t used) (placeIn t (counted t used) k) k
 
 -- ---- tables: slices whose used rows ascend, with zeros elsewhere
 

@@ -1,7 +1,8 @@
 // The function registry: the port of src/program.rs. A table of rows in five lent slices, ascending
 // by key, with zeros behind the used rows; it has as many rows as the shortest slice has numbers.
 ghost use mathlib.Core.Path.{_≡_};
-ghost use Rattle.program.specs.Table.{registerIn, lookupIn, Registers, RegistersAlike, Unregisters, tableBefore, tableAfter};
+ghost use Prim.Native.Nat.{_+_};
+ghost use Rattle.program.specs.Table.{registerIn, lookupIn, lookupAscendingIn, Registers, RegistersAlike, Unregisters, tableBefore, tableAfter, Within, rowAt, tableOf};
 
 mod columns;
 mod hashed_legacy;
@@ -216,6 +217,26 @@ pub fn unregister_function(
     Removed::Gone(n - at - 1)
 }
 
+fn row_at(
+    keys: &[u32],
+    indices: &[u32],
+    kinds: &[u32],
+    starts: &[u32],
+    lengths: &[u32],
+    at: usize,
+) -> Row
+    requires { ⌜ Within (at + 1) (tableOf keys indices kinds starts lengths) ⌝ }
+    ensures { λ r. ⌜ r ≡ rowAt (tableBefore keys indices kinds starts lengths) at ⌝ }
+{
+    Row {
+        key: keys[at],
+        index: indices[at],
+        kind: kinds[at],
+        start: starts[at],
+        length: lengths[at],
+    }
+}
+
 // The first used row with the key, whatever the slices hold: a scan, since the rows need not ascend.
 // At most the rows lent count.
 pub fn lookup_by_key(
@@ -241,11 +262,37 @@ pub fn lookup_by_key(
     if n <= at {
         return Found::Nothing;
     }
-    Found::At(Row {
-        key: keys[at],
-        index: indices[at],
-        kind: kinds[at],
-        start: starts[at],
-        length: lengths[at],
-    })
+    Found::At(row_at(keys, indices, kinds, starts, lengths, at))
+}
+
+// The row that a binary search over the used keys comes to, if it has the key. Where the rows ascend,
+// as in every table that a load leaves, this is what `lookup_by_key` answers, in few steps. On other
+// content it may miss a row that is there. At most the rows lent count.
+pub fn lookup_ascending(
+    keys: &[u32],
+    indices: &[u32],
+    kinds: &[u32],
+    starts: &[u32],
+    lengths: &[u32],
+    used: usize,
+    key: u32,
+) -> Found
+    ensures { λ r. ⌜ r ≡ lookupAscendingIn (tableBefore keys indices kinds starts lengths) used key ⌝ }
+{
+    let rows = columns::rows_lent(
+        keys.len(),
+        indices.len(),
+        kinds.len(),
+        starts.len(),
+        lengths.len(),
+    );
+    let n = columns::smaller(used, rows);
+    let at = search::by_halves(keys, n, key);
+    if n <= at {
+        return Found::Nothing;
+    }
+    if key != keys[at] {
+        return Found::Nothing;
+    }
+    Found::At(row_at(keys, indices, kinds, starts, lengths, at))
 }

@@ -421,18 +421,43 @@ impl Comparer {
             .min()
             .unwrap()
             .min(used.min(1 << 20) as usize);
-        let mut words = [0; WORDS];
-        if let Some(i) = (0..rows).find(|i| t[0][*i] == key) {
-            words[4] = 1;
-            for (k, column) in t.iter().enumerate().skip(1) {
-                words[4 + k] = column[i] as u64;
+        let found = |at: Option<usize>| {
+            let mut words = [0; WORDS];
+            if let Some(i) = at {
+                words[4] = 1;
+                for (k, column) in t.iter().enumerate().skip(1) {
+                    words[4 + k] = column[i] as u64;
+                }
             }
-        }
-        self.count("lookup", words[4] as u32);
+            words
+        };
+        let scanned = found((0..rows).find(|i| t[0][*i] == key));
+        self.count("lookup", scanned[4] as u32);
         same(
             &format!("lookup of {key} in {used} rows of {t:?}"),
-            &port::lookup(&t, used, key, room),
-            words,
+            &port::lookup(false, &t, used, key, room),
+            scanned,
+            room,
+        )?;
+        // the half that has no number below the key is left each time, whatever the numbers are
+        let (mut low, mut high) = (0, rows);
+        while low < high {
+            let middle = low + (high - low) / 2;
+            if t[0][middle] < key {
+                low = middle + 1;
+            } else {
+                high = middle;
+            }
+        }
+        let searched = found((low < rows && t[0][low] == key).then_some(low));
+        if t[0][..rows].windows(2).all(|w| w[0] < w[1]) {
+            assert_eq!(scanned, searched, "ascending rows");
+        }
+        self.count("lookup_ascending", searched[4] as u32);
+        same(
+            &format!("search for {key} in {used} rows of {t:?}"),
+            &port::lookup(true, &t, used, key, room),
+            searched,
             room,
         )
     }

@@ -55,6 +55,16 @@ proved! { port:
         key: u32,
         answer: *mut u64, answer_len: usize,
     ) -> u32;
+    fn sbpf_lookup_ascending(
+        keys: *const u32, keys_len: usize,
+        indices: *const u32, indices_len: usize,
+        kinds: *const u32, kinds_len: usize,
+        starts: *const u32, starts_len: usize,
+        lengths: *const u32, lengths_len: usize,
+        used: u64,
+        key: u32,
+        answer: *mut u64, answer_len: usize,
+    ) -> u32;
 }
 
 proved! { load:
@@ -144,25 +154,40 @@ pub fn ask(question: Question, file: &[u8], number: u32, room: usize) -> Answer 
 /// The five columns of a table: key, index, kind, start, length.
 pub type Columns = [Vec<u32>; 5];
 
-pub fn lookup(t: &Columns, used: u64, key: u32, room: usize) -> Answer {
+/// By a scan, or by a binary search.
+pub fn lookup(by_search: bool, t: &Columns, used: u64, key: u32, room: usize) -> Answer {
     with_room(room, |words, n| unsafe {
-        sbpf_lookup(
-            t[0].as_ptr(),
-            t[0].len(),
-            t[1].as_ptr(),
-            t[1].len(),
-            t[2].as_ptr(),
-            t[2].len(),
-            t[3].as_ptr(),
-            t[3].len(),
-            t[4].as_ptr(),
-            t[4].len(),
-            used,
-            key,
-            words,
-            n,
-        )
+        look_up(by_search, t, used, key, words, n)
     })
+}
+
+/// The same into words that are lent.
+pub fn lookup_into(by_search: bool, t: &Columns, used: u64, key: u32, words: &mut [u64]) -> u32 {
+    unsafe { look_up(by_search, t, used, key, words.as_mut_ptr(), words.len()) }
+}
+
+unsafe fn look_up(by_search: bool, t: &Columns, used: u64, key: u32, words: *mut u64, n: usize) -> u32 {
+    let call = if by_search {
+        sbpf_lookup_ascending
+    } else {
+        sbpf_lookup
+    };
+    call(
+        t[0].as_ptr(),
+        t[0].len(),
+        t[1].as_ptr(),
+        t[1].len(),
+        t[2].as_ptr(),
+        t[2].len(),
+        t[3].as_ptr(),
+        t[3].len(),
+        t[4].as_ptr(),
+        t[4].len(),
+        used,
+        key,
+        words,
+        n,
+    )
 }
 
 /// `table` are the five columns, in the order of `Columns`.

@@ -4,8 +4,7 @@ use denote.Ref.{now}
 use Prim.Native.Nat.{ℕ}
 use mathlib.Core.List.{List}
 use lib.ListN.{length}
-use Rattle.program.specs.Rows.{Ascending}
-use Rattle.program.specs.Table.{Slices, slices, capacity, rowsOf}
+use Rattle.program.specs.Table.{Slices, slices, capacity, Ready}
 use Rattle.loader.specs.declared.answer.Load.{Load}
 use Rattle.loader.specs.Load.{Loading, loadOf, Loaded}
 use Rattle.loader.specs.Demand.{Demand3}
@@ -36,7 +35,7 @@ demands : (s : tie.Start) (im ro : List ℕ) (t : Slices) (a : Load) → Loaded 
     → Demand3 (now (s .args .file)) (now (s .args .builtins)) (s .args .config) (length (s .args .image .now)) (length (s .args .«ro-section» .now)) (T s) im t a
 demands s im ro t a l = demanded (now (s .args .file)) (now (s .args .builtins)) (s .args .config) (s .args .image .now) (s .args .«ro-section» .now) (T s) im ro t a l
 
-ascends : (s : tie.Start) (im ro : List ℕ) (t : Slices) (a : Load) → Loaded (whole s) (s .args .image .now) (s .args .«ro-section» .now) (T s) im ro t a → OnUsed a (λ used. Ascending (rowsOf t used))
+ascends : (s : tie.Start) (im ro : List ℕ) (t : Slices) (a : Load) → Loaded (whole s) (s .args .image .now) (s .args .«ro-section» .now) (T s) im ro t a → OnUsed a (Ready t)
 ascends s im ro t a l = ascended (now (s .args .file)) (now (s .args .builtins)) (s .args .config) (s .args .image .now) (s .args .«ro-section» .now) (T s) im ro t a l
 
 returns : tie.Need-returns

@@ -1,4 +1,6 @@
-//! speed [ROUNDS]: the Rust's `Executable::load` and the port's on the same files, in one process,
+//! speed [ROUNDS], speed lookups [ROUNDS]: the second compares lookups by key, a hit and a miss, with the
+//! Rust's `lookup_by_key` on a registry of the same keys: by the scan and by the binary search, each
+//! through the C interface with the nine words lent that a row has. The first: the Rust's `Executable::load` and the port's on the same files, in one process,
 //! in turn. Time of the Rust: one load and its release (allocation is part of it, as it is where it
 //! is used). Time of the port: one load into buffers that the load before has left (it clears them
 //! itself), with eight rows more than there are functions. Copy: the file's bytes into a buffer.
@@ -12,8 +14,11 @@ use differential::{
     expected::expected,
     loads,
     outcome::{load_once, loader},
-    port, Settings,
+    port,
+    random::Random,
+    Settings,
 };
+use rbpf::program::FunctionRegistry;
 use std::{env, hint::black_box, time::Instant};
 
 const KIB: usize = 1 << 10;
@@ -35,9 +40,21 @@ fn quartiles(mut x: Vec<f64>) -> [f64; 3] {
 }
 
 fn main() {
-    let rounds: usize = env::args()
-        .nth(1)
+    let mut args = env::args().skip(1).peekable();
+    let lookups = args.next_if(|a| a == "lookups").is_some();
+    let rounds: usize = args
+        .next()
         .map_or(41, |a| a.parse().expect("a number of rounds"));
+    if lookups {
+        println!("| Rows | Key | Rust ns | Scan ns | Scan/Rust | Search ns | Search/Rust (quartiles) |");
+        println!("|---|---|---|---|---|---|---|");
+        for rows in [10, 200, 1_000, 5_000, 100_000] {
+            for hit in [true, false] {
+                lookup_row(rows, hit, rounds);
+            }
+        }
+        return;
+    }
     if !port::HAS_LOAD {
         println!("the library has no load: the Rust and the copy alone");
     }
@@ -140,5 +157,71 @@ fn row(size: usize, functions: usize, version2: bool, labels: bool, rounds: usiz
         ports.0,
         ports.1,
         ports.2
+    );
+}
+
+/// Keys drawn all over, so that neither branch prediction nor the caches know the next one.
+fn lookup_row(rows: usize, hit: bool, rounds: usize) {
+    const ASKED: usize = 4_096;
+    let r = &mut Random::new(11, rows as u64);
+    let mut keys: Vec<u32> = (0..rows).map(|_| r.next() as u32 | 1).collect();
+    keys.sort_unstable();
+    keys.dedup();
+    while keys.len() < rows {
+        keys.push(keys[keys.len() - 1] + 2);
+    }
+    let mut registry = FunctionRegistry::default();
+    for (index, key) in keys.iter().enumerate() {
+        registry
+            .register_function(*key, *b"", index)
+            .expect("keys are distinct");
+    }
+    let indices: Vec<u32> = (0..rows as u32).collect();
+    let table = [keys.clone(), indices, vec![3; rows], vec![0; rows], vec![0; rows]];
+    // no key of the table is even
+    let asked: Vec<u32> = (0..ASKED)
+        .map(|_| keys[r.index(rows)] - if hit { 0 } else { 1 })
+        .collect();
+    let used = rows as u64;
+    for key in &asked {
+        let there = registry.lookup_by_key(*key).map(|(_, index)| index as u64);
+        for by_search in [false, true] {
+            let words = port::lookup(by_search, &table, used, *key, 9).1;
+            assert_eq!((words[4] == 1).then_some(words[5]), there);
+        }
+    }
+
+    let mut rust_once = || {
+        for key in &asked {
+            black_box(registry.lookup_by_key(black_box(*key)));
+        }
+    };
+    let mut words = [0; 9];
+    let mut port_once = |by_search: bool, asked: &[u32]| {
+        for key in asked {
+            port::lookup_into(by_search, &table, used, black_box(*key), &mut words);
+            black_box(&words);
+        }
+    };
+    // a scan of many rows is asked fewer times
+    let few = &asked[..(4_000_000 / rows).clamp(8, ASKED)];
+    let (mut rust, mut scan, mut search, mut ratio) = (vec![], vec![], vec![], vec![]);
+    for _ in 0..rounds {
+        let a = time(1, &mut rust_once) * 1e3 / ASKED as f64;
+        let b = time(1, || port_once(true, &asked)) * 1e3 / ASKED as f64;
+        scan.push(time(1, || port_once(false, few)) * 1e3 / few.len() as f64);
+        rust.push(a);
+        search.push(b);
+        ratio.push(b / a);
+    }
+    let (rust, scan, search) = (quartiles(rust)[1], quartiles(scan)[1], quartiles(search)[1]);
+    let ratio = quartiles(ratio);
+    println!(
+        "| {rows} | {} | {rust:.1} | {scan:.1} | {:.2} | {search:.1} | {:.2} ({:.2} to {:.2}) |",
+        if hit { "there" } else { "absent" },
+        scan / rust,
+        ratio[1],
+        ratio[0],
+        ratio[2],
     );
 }

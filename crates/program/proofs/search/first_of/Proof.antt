@@ -1,4 +1,4 @@
--- `program::search::first_of` meets its contract. The loop's invariant: the first index is i and the first index in what is left.
+-- `program::search::first_of` meets its contract: behind the eights that are passed over, number by number. The loop's invariant: the first index is i and the first index in what is left.
 -- Assumes nothing.
 use mathlib.Core.Path.{_≡_, sym, _∙_}
 use Prim.Native.Nat.{_≤_, _-_, _+_}
@@ -19,15 +19,15 @@ abbrev μ-loop : tie.MeasureT-loop
 returns : tie.Need-returns Inv-loop μ-loop
 returns c =
     let here = c .before .before .before in
-    sym (here .loop .inv .1 ∙ index-hit _ _ _ (here .before .pre) _ (c .before .before .loop-test .taken) (c .if1 .taken))
+    sym (here .loop .inv .1 ∙ index-hit _ _ _ (here .before .before .before .pre) _ (c .before .before .loop-test .taken) (c .if1 .taken))
 
 loop-again : tie.Need-loop-again Inv-loop μ-loop
 loop-again c =
     let here = c .before .before .before in
-    (search needs, here .loop .inv .1 ∙ index-miss _ _ _ (here .before .pre) _ (c .before .before .loop-test .taken) (c .if1 .left))
+    (search needs, here .loop .inv .1 ∙ index-miss _ _ _ (here .before .before .before .pre) _ (c .before .before .loop-test .taken) (c .if1 .left))
 
 returns-2 : tie.Need-returns-2 Inv-loop μ-loop
-returns-2 c = omega (arith, index-none (c .before .before .args .keys .now) (c .before .before .args .n) (c .before .before .args .key) (c .before .loop .i) (c .before .before .pre) (c .loop-test .left))
+returns-2 c = let s = c .before .before .before .before in omega (arith, index-none (s .args .keys .now) (s .args .n) (s .args .key) (c .before .loop .i) (s .pre) (c .loop-test .left))
 
 pub first-of-spec : {M : Type 1} → statement M
 first-of-spec =
@@ -36,6 +36,7 @@ first-of-spec =
     Inv-loop
     μ-loop
     (search needs)
+    (λ c. (c .pass-eights .ensures .within, c .pass-eights .ensures .same))
     (search needs)
     (search needs)
     returns
