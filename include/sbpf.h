@@ -10,7 +10,8 @@
  * An answer is SBPF_WORDS words. The first is a number, which is also the result: 0, or why
  * there is nothing. A refusal has its value, and the start and the length of the name that it
  * speaks of, in the next three words. Words that are not used are 0. A lent answer of fewer
- * words takes the first of them; one of more has zeros behind them.
+ * words takes the first of them; one of more has zeros behind them. A lookup needs no more than
+ * SBPF_ROW_WORDS.
  */
 #ifndef SBPF_H
 #define SBPF_H
@@ -23,6 +24,7 @@ extern "C" {
 #endif
 
 #define SBPF_WORDS 24
+#define SBPF_ROW_WORDS 9
 
 /* Words of every answer that can be a refusal. */
 enum { SBPF_NUMBER, SBPF_VALUE, SBPF_NAME_START, SBPF_NAME_LENGTH };
@@ -166,6 +168,13 @@ uint32_t sbpf_lookup_ascending(const uint32_t *keys, size_t keys_len, const uint
                                const uint32_t *starts, size_t starts_len,
                                const uint32_t *lengths, size_t lengths_len, uint64_t used,
                                uint32_t key, uint64_t *answer, size_t answer_len);
+
+/* The index of that row, by the columns of keys and indices alone, as many rows as the shorter has;
+ * SBPF_NO_INDEX where there is none. On what a load has left it is the SBPF_ROW_INDEX of
+ * sbpf_lookup_ascending, and the quickest way from a call's key to its function. */
+#define SBPF_NO_INDEX UINT64_MAX
+uint64_t sbpf_index_ascending(const uint32_t *keys, size_t keys_len, const uint32_t *indices,
+                              size_t indices_len, uint64_t used, uint32_t key);
 
 /* Loads a file of at most 16,777,216 bytes (else 40). Lent are: the image and the read-only
  * buffer, each at least as long as the file (else 41); and the table, five columns with as many

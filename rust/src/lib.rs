@@ -10,8 +10,9 @@ pub use refusal::{Reason, Refusal};
 
 use std::ops::Range;
 
-/// The words of an answer.
+/// The words of an answer, and of a row's.
 const WORDS: usize = 24;
+const ROW_WORDS: usize = 9;
 
 /// The exported functions, in the order of include/sbpf.h and with its arguments: a slice is a
 /// pointer and its length in elements. Nothing checks them against crates/exports/src/lib.rt.
@@ -91,6 +92,14 @@ mod c {
             answer: *mut u64,
             answer_len: usize,
         ) -> u32;
+        pub fn sbpf_index_ascending(
+            keys: *const u32,
+            keys_len: usize,
+            indices: *const u32,
+            indices_len: usize,
+            used: u64,
+            key: u32,
+        ) -> u64;
         pub fn sbpf_load(
             file: *const u8,
             file_len: usize,
@@ -280,6 +289,23 @@ pub fn lookup_ascending(table: Table, used: usize, key: u32) -> Option<Row> {
     look_up(c::sbpf_lookup_ascending, table, used, key)
 }
 
+/// The index of that row alone, by the columns of keys and indices: the quickest way from a call's key
+/// to its function.
+pub fn index_ascending(table: Table, used: usize, key: u32) -> Option<u32> {
+    // SAFETY: as said above.
+    let index = unsafe {
+        c::sbpf_index_ascending(
+            table.keys.as_ptr(),
+            table.keys.len(),
+            table.indices.as_ptr(),
+            table.indices.len(),
+            used as u64,
+            key,
+        )
+    };
+    (index != u64::MAX).then_some(index as u32)
+}
+
 #[rustfmt::skip]
 type Lookup = unsafe extern "C" fn(
     *const u32, usize, *const u32, usize, *const u32, usize, *const u32, usize, *const u32, usize,
@@ -287,8 +313,9 @@ type Lookup = unsafe extern "C" fn(
 ) -> u32;
 
 fn look_up(call: Lookup, table: Table, used: usize, key: u32) -> Option<Row> {
-    // SAFETY: as said above.
-    let a = answered(&[], |words, n| unsafe {
+    let mut a = [0; ROW_WORDS];
+    // SAFETY: as said above. A lookup refuses nothing.
+    unsafe {
         call(
             table.keys.as_ptr(),
             table.keys.len(),
@@ -302,11 +329,10 @@ fn look_up(call: Lookup, table: Table, used: usize, key: u32) -> Option<Row> {
             table.lengths.len(),
             used as u64,
             key,
-            words,
-            n,
+            a.as_mut_ptr(),
+            a.len(),
         )
-    })
-    .ok()?;
+    };
     (a[4] == 1).then_some(Row {
         index: a[5] as u32,
         kind: a[6] as u32,

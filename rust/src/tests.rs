@@ -79,6 +79,8 @@ fn the_example_is_accepted() {
     assert_eq!(lookup(lent.table(), a.used, 0), Some(entry));
     assert_eq!(lookup_ascending(lent.table(), a.used, 0), Some(entry));
     assert_eq!(lookup_ascending(lent.table(), a.used, 1), None);
+    assert_eq!(index_ascending(lent.table(), a.used, 0), Some(entry.index));
+    assert_eq!(index_ascending(lent.table(), a.used, 1), None);
     assert_eq!(lookup(lent.table(), a.used, 1), None);
     assert_eq!(lookup(lent.table(), 0, 0), None);
     assert_eq!(lent.read_only(&a), Some(&EXAMPLE[64..80]));
@@ -109,6 +111,7 @@ fn a_call_holds_the_key_that_finds_its_target() {
     let found = |key| {
         let row = lookup(lent.table(), a.used, key);
         assert_eq!(lookup_ascending(lent.table(), a.used, key), row);
+        assert_eq!(index_ascending(lent.table(), a.used, key), row.map(|r| r.index));
         row.map(|row| (row.index, row.kind))
     };
     assert_eq!(found(key), Some((1, 3)));

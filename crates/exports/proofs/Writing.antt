@@ -1,13 +1,16 @@
 -- Writing words into a lent slice, a store a turn, and reading one of them. Assumes nothing.
-use mathlib.Core.Path.{_≡_, refl, ap, _∙_}
+use mathlib.Core.Path.{_≡_, refl, sym, ap, _∙_}
 use mathlib.Core.List.{List, [], _∷_, _++_, append-nil}
-use Prim.Native.Nat.{ℕ, zero, suc, _-_, _<_, _≤_}
+use Prim.Native.Nat.{ℕ, zero, suc, _+_, _-_, _<_, _≤_, zero-le}
 use native.Mathlib.Nat.{le-of-suc-le-suc, not-suc-le-zero}
 use native.Mathlib.Numerals.{sub-one}
-use lib.ListN.{length, length-set, take, drop, getD, set}
+use native.Mathlib.Omega.{arith}
+use lib.ListN.{length, length-set, length-drop, take, drop, getD, set, replicate}
 use lib.Seq.{take-length, drop-length}
 use borrow.Rule.Slice.PartMut.{midOf, putMid, same-len-mid}
-use Rattle.exports.specs.Answers.{written}
+use Rattle.program.specs.declared.Row.{Row}
+use Rattle.program.specs.declared.Found.the-variants.{At, Nothing}
+use Rattle.exports.specs.Answers.{written, Given, rowAnswer, nineWords, clearedFrom}
 
 -- the first i words are written
 unfoldable pub soFar : ℕ → List ℕ → List ℕ → List ℕ
@@ -58,3 +61,78 @@ pub no-room : (ws s : List ℕ) → length s ≤ 0 → s ≡ written (length s) 
 unfolding written
 no-room ws [] h = refl
 no-room ws (x ∷ s) h = absurd (not-suc-le-zero h)
+
+-- zeros behind the words change nothing
+written-zeros : (m n : ℕ) (ws : List ℕ) → written n (ws ++ replicate m 0) ≡ written n ws
+unfolding written
+written-zeros m zero ws = refl
+written-zeros zero (suc n) [] = refl
+written-zeros (suc m) (suc n) [] = ap (λ (l : List ℕ). 0 ∷ l) (written-zeros m n [])
+written-zeros m (suc n) (w ∷ ws) = ap (λ (l : List ℕ). w ∷ l) (written-zeros m n ws)
+
+-- a row's words are nine, with zeros behind them
+pub nine-row : (n found index kind start size : ℕ) → written n (nineWords found index kind start size) ≡ written n (0 ∷ written 23 (0 ∷ 0 ∷ 0 ∷ found ∷ index ∷ kind ∷ start ∷ size ∷ []))
+unfolding written
+nine-row n found index kind start size = sym (written-zeros 15 n (nineWords found index kind start size))
+
+-- nine words stored one by one
+pub nine-stored : (found index kind start size : ℕ) (s : List ℕ) → 9 ≤ length s
+    → set (set (set (set (set (set (set (set (set s 0 0) 1 0) 2 0) 3 0) 4 found) 5 index) 6 kind) 7 start) 8 size ≡ nineWords found index kind start size ++ drop 9 s
+nine-stored found index kind start size [] h = absurd (omega arith)
+nine-stored found index kind start size (a ∷ []) h = absurd (omega arith)
+nine-stored found index kind start size (a ∷ b ∷ []) h = absurd (omega arith)
+nine-stored found index kind start size (a ∷ b ∷ c ∷ []) h = absurd (omega arith)
+nine-stored found index kind start size (a ∷ b ∷ c ∷ d ∷ []) h = absurd (omega arith)
+nine-stored found index kind start size (a ∷ b ∷ c ∷ d ∷ e ∷ []) h = absurd (omega arith)
+nine-stored found index kind start size (a ∷ b ∷ c ∷ d ∷ e ∷ f ∷ []) h = absurd (omega arith)
+nine-stored found index kind start size (a ∷ b ∷ c ∷ d ∷ e ∷ f ∷ g ∷ []) h = absurd (omega arith)
+nine-stored found index kind start size (a ∷ b ∷ c ∷ d ∷ e ∷ f ∷ g ∷ i ∷ []) h = absurd (omega arith)
+nine-stored found index kind start size (a ∷ b ∷ c ∷ d ∷ e ∷ f ∷ g ∷ i ∷ j ∷ s) h = refl
+
+-- zeros stored from `from` up to i
+unfoldable pub clearing : ℕ → ℕ → List ℕ → List ℕ
+clearing from zero ws = ws
+clearing from (suc i) [] = []
+clearing zero (suc i) (w ∷ ws) = 0 ∷ clearing zero i ws
+clearing (suc from) (suc i) (w ∷ ws) = w ∷ clearing from i ws
+
+pub clear-start : (from : ℕ) (ws : List ℕ) → ws ≡ clearing from from ws
+unfolding clearing
+clear-start zero ws = refl
+clear-start (suc from) [] = refl
+clear-start (suc from) (w ∷ ws) = ap (λ (z : List ℕ). w ∷ z) (clear-start from ws)
+
+pub clear-turn : (from i : ℕ) (ws : List ℕ) → from ≤ i → i < length ws → set (clearing from i ws) i 0 ≡ clearing from (suc i) ws
+unfolding clearing
+clear-turn from i [] h l = absurd (not-suc-le-zero l)
+clear-turn zero zero (w ∷ ws) h l = refl
+clear-turn (suc from) zero (w ∷ ws) h l = absurd (not-suc-le-zero h)
+clear-turn zero (suc i) (w ∷ ws) h l = ap (λ (z : List ℕ). 0 ∷ z) (clear-turn zero i ws zero-le (le-of-suc-le-suc l))
+clear-turn (suc from) (suc i) (w ∷ ws) h l = ap (λ (z : List ℕ). w ∷ z) (clear-turn from i ws (le-of-suc-le-suc h) (le-of-suc-le-suc l))
+
+pub clear-end : (from : ℕ) (ws : List ℕ) → clearing from (length ws) ws ≡ clearedFrom from ws
+unfolding clearing clearedFrom
+clear-end from [] = refl
+clear-end zero (w ∷ ws) = ap (λ (z : List ℕ). 0 ∷ z) (clear-end zero ws)
+clear-end (suc from) (w ∷ ws) = ap (λ (z : List ℕ). w ∷ z) (clear-end from ws)
+
+-- nine words, and zeros behind them
+cleared-whole : (ws : List ℕ) → clearedFrom 0 ws ≡ written (length ws) []
+unfolding clearedFrom written
+cleared-whole [] = refl
+cleared-whole (w ∷ ws) = ap (λ (z : List ℕ). 0 ∷ z) (cleared-whole ws)
+
+pub nine-given : (found index kind start size : ℕ) (s : List ℕ) → 9 ≤ length s
+    → clearedFrom 9 (nineWords found index kind start size ++ drop 9 s) ≡ written (length s) (nineWords found index kind start size)
+unfolding clearedFrom written
+nine-given found index kind start size s h =
+    let whole : length s ≡ suc (suc (suc (suc (suc (suc (suc (suc (suc (length (drop 9 s)))))))))) = omega (arith, length-drop 9 s) in
+    rw (whole, cleared-whole (drop 9 s)) refl
+
+-- so a row's answer is given
+pub row-given : (r : Row) (s z : List ℕ) → z ≡ written (length s) (nineWords 1 (r .index) (r .kind) (r .start) (r .length)) → Given (rowAnswer (At r)) s z 0
+row-given r s z e = record { number = refl; words = e ∙ nine-row (length s) 1 (r .index) (r .kind) (r .start) (r .length) }
+
+pub none-given : (s z : List ℕ) → z ≡ written (length s) (nineWords 0 0 0 0 0) → Given (rowAnswer Nothing) s z 0
+unfolding written
+none-given s z e = record { number = refl; words = e ∙ nine-row (length s) 0 0 0 0 0 }

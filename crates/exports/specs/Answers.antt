@@ -1,5 +1,5 @@
 -- What the exported functions answer: a number, 0 or why there is nothing, and 23 words behind it.
-use Prim.Native.Nat.{ℕ, zero, suc, _/_, _%_}
+use Prim.Native.Nat.{ℕ, zero, suc, _-_, _/_, _%_, _^_}
 use mathlib.Core.Path.{_≡_}
 use mathlib.Core.Bool.{Bool, true, false}
 use lib.Dec.{eqb}
@@ -19,6 +19,8 @@ use Rattle.elf_parser.specs.Errors.{reportOf}
 use Rattle.elf_parser.specs.Parse.{parsed}
 use Rattle.program.specs.declared.Found.{Found}
 use Rattle.program.specs.declared.Found.the-variants.{At, Nothing}
+use Rattle.program.specs.declared.FoundIndex.{FoundIndex}
+use Rattle.program.specs.declared.FoundIndex.the-variants.{At as AtIndex, Nothing as NoIndex}
 use Rattle.program.specs.Table.{Lent}
 use Rattle.loader.specs.declared.answer.Accepted.{Accepted}
 use Rattle.loader.specs.declared.answer.Load.{Load}
@@ -112,6 +114,11 @@ abbrev pub rowAnswer : Found → Answer
 rowAnswer (At r) = accepted (1 ∷ r .index ∷ r .kind ∷ r .start ∷ r .length ∷ [])
 rowAnswer Nothing = accepted (0 ∷ [])
 
+-- an index as a word, and where there is none the largest word, which is no index
+abbrev pub indexWord : FoundIndex → ℕ
+indexWord (AtIndex index) = index
+indexWord NoIndex = 2 ^ 64 - 1
+
 -- ---- a load
 
 -- the bit of that value, a power of two, is set
@@ -163,3 +170,15 @@ pub record GivesLoad (file builtins : Lent) (settings : ℕ) (image ro keys indi
 abbrev pub textAnswer : PartPlace → Answer
 textAnswer (TextAt start n) = accepted (start ∷ n ∷ [])
 textAnswer (NoText e) = reported (load.reportOf e)
+
+-- ---- what private contracts cite
+
+-- the nine words of a row's answer that are not always 0, with the number before them
+abbrev pub nineWords : ℕ → ℕ → ℕ → ℕ → ℕ → List ℕ
+nineWords found index kind start size = 0 ∷ 0 ∷ 0 ∷ 0 ∷ found ∷ index ∷ kind ∷ start ∷ size ∷ []
+
+-- zeros from a place on
+unfoldable pub clearedFrom : ℕ → List ℕ → List ℕ
+clearedFrom from [] = []
+clearedFrom zero (w ∷ ws) = 0 ∷ clearedFrom zero ws
+clearedFrom (suc from) (w ∷ ws) = w ∷ clearedFrom from ws

@@ -7,10 +7,12 @@ use elf_parser::Report;
 use elf_parser::Sliced;
 use elf_parser::report_of;
 use program::Found;
+use program::FoundIndex;
 ghost use mathlib.Core.Path.{_≡_};
-ghost use mathlib.Core.List.{_∷_};
-ghost use lib.ListN.{length, getD};
-ghost use Rattle.exports.specs.Answers.{written, Gives, answerWith, reported, refused, laidOut, parseAnswer, placeAnswer, tableAnswer, rowAnswer};
+ghost use mathlib.Core.List.{_∷_, _++_};
+ghost use Prim.Native.Nat.{_≤_};
+ghost use lib.ListN.{length, getD, drop};
+ghost use Rattle.exports.specs.Answers.{written, Gives, answerWith, reported, refused, laidOut, parseAnswer, placeAnswer, tableAnswer, rowAnswer, indexWord, nineWords, clearedFrom};
 
 // A number, 0 where nothing was refused, and what goes with it.
 pub struct Answer {
@@ -115,24 +117,13 @@ pub(crate) fn table_answer(t: Sliced) -> Answer
     }
 }
 
-pub(crate) fn row_answer(f: Found) -> Answer
-    ensures { λ r. ⌜ r ≡ rowAnswer f ⌝ }
+// The index that is found, or the word that says that there is none.
+pub(crate) fn index_word(f: FoundIndex) -> u64
+    ensures { λ r. ⌜ r ≡ indexWord f ⌝ }
 {
     match f {
-        Found::At(row) => {
-            let words = [
-                0,
-                0,
-                0,
-                1,
-                row.index as u64,
-                row.kind as u64,
-                row.start as u64,
-                row.length as u64,
-            ];
-            answer_with(0, &words)
-        }
-        Found::Nothing => answer_with(0, &[0, 0, 0, 0]),
+        FoundIndex::At(index) => index as u64,
+        FoundIndex::Nothing => 18446744073709551615,
     }
 }
 
@@ -154,4 +145,63 @@ pub(crate) fn give(answer: &mut [u64], a: Answer) -> u32
     let words = a.words;
     give_words(answer, a.number, &words);
     a.number
+}
+
+// Stores a row's nine words, the first four of them 0, at the front of a slice: straight, since a lookup
+// is made at every call.
+fn store_nine(to: &mut [u64], found: u64, index: u64, kind: u64, start: u64, size: u64)
+    requires { ⌜ 9 ≤ length (now to) ⌝ }
+    ensures { λ _. ⌜ now (to .exit) ≡ nineWords found index kind start size ++ drop 9 (now (to .entry)) ⌝ }
+{
+    to[0] = 0;
+    to[1] = 0;
+    to[2] = 0;
+    to[3] = 0;
+    to[4] = found;
+    to[5] = index;
+    to[6] = kind;
+    to[7] = start;
+    to[8] = size;
+}
+
+// Zeros from a place on.
+fn clear_from(to: &mut [u64], from: usize)
+    requires { ⌜ from ≤ length (now to) ⌝ }
+    ensures { λ _. ⌜ now (to .exit) ≡ clearedFrom from (now (to .entry)) ⌝ }
+{
+    let mut i = from;
+    while i < to.len() {
+        to[i] = 0;
+        i += 1;
+    }
+}
+
+// Fills a lent slice with a row's nine words.
+fn give_nine(answer: &mut [u64], found: u64, index: u64, kind: u64, start: u64, size: u64)
+    ensures { λ _. ⌜ now (answer .exit) ≡ written (length (now (answer .entry))) (nineWords found index kind start size) ⌝ }
+{
+    if answer.len() < 9 {
+        fill(answer, &[0, 0, 0, 0, found, index, kind, start, size]);
+        return;
+    }
+    store_nine(answer, found, index, kind, start, size);
+    clear_from(answer, 9);
+}
+
+// Fills the lent slice with the words of a row, or of none.
+pub(crate) fn give_row(answer: &mut [u64], f: Found) -> u32
+    ensures { λ r. ⌜ Gives (rowAnswer f) answer r ⌝ }
+{
+    match f {
+        Found::At(row) => give_nine(
+            answer,
+            1,
+            row.index as u64,
+            row.kind as u64,
+            row.start as u64,
+            row.length as u64,
+        ),
+        Found::Nothing => give_nine(answer, 0, 0, 0, 0, 0),
+    }
+    0
 }

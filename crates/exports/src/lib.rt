@@ -1,10 +1,11 @@
 // The C interface, over numbers and lent slices: a slice is a pointer and a length. Each answer but a
-// hash and a name is 24 words, the number first, as `specs/Answers.antt` says; the number is the
+// hash, a name and an index is 24 words, the number first, as `specs/Answers.antt` says; the number is the
 // result too.
 // A lent slice of fewer words takes the first of them, one of more has zeros behind them.
 use answers::give;
+use answers::give_row;
+use answers::index_word;
 use answers::parse_answer;
-use answers::row_answer;
 use asked::dynamic_symbol_name_answer;
 use asked::section_name_answer;
 use asked::section_place_answer;
@@ -18,6 +19,7 @@ use loading::config_of;
 use loading::load_answer;
 use loading::text_answer;
 use names::refusal_name;
+use program::index_ascending;
 use program::lookup_ascending;
 use program::lookup_by_key;
 ghost use mathlib.Core.Path.{_≡_};
@@ -25,9 +27,9 @@ ghost use Rattle.ebpf.specs.Murmur3.{murmur3};
 ghost use Rattle.elf_parser.specs.Names.{sectionName, symbolName, dynamicSymbolName};
 ghost use Rattle.elf_parser.specs.Parse.{parsed};
 ghost use Rattle.elf_parser.specs.Records.{sectionPlaceOf, symbolTableOf};
-ghost use Rattle.program.specs.Table.{lookupIn, lookupAscendingIn, tableBefore};
+ghost use Rattle.program.specs.Table.{lookupIn, lookupAscendingIn, indexAscendingIn, tableBefore};
 ghost use Rattle.loader.specs.GetBytes.{textPlace};
-ghost use Rattle.exports.specs.Answers.{Gives, GivesAsked, GivesLoad, textAnswer, parseAnswer, placeAnswer, tableAnswer, rowAnswer};
+ghost use Rattle.exports.specs.Answers.{Gives, GivesAsked, GivesLoad, textAnswer, parseAnswer, placeAnswer, tableAnswer, rowAnswer, indexWord};
 ghost use Rattle.exports.specs.Names.{Named, refusalName};
 
 mod answers;
@@ -117,9 +119,9 @@ pub extern "C" fn sbpf_lookup(
 ) -> u32
     ensures { λ r. ⌜ Gives (rowAnswer (lookupIn (tableBefore keys indices kinds starts lengths) used key)) answer r ⌝ }
 {
-    give(
+    give_row(
         answer,
-        row_answer(lookup_by_key(keys, indices, kinds, starts, lengths, used as usize, key)),
+        lookup_by_key(keys, indices, kinds, starts, lengths, used as usize, key),
     )
 }
 
@@ -138,10 +140,19 @@ pub extern "C" fn sbpf_lookup_ascending(
 ) -> u32
     ensures { λ r. ⌜ Gives (rowAnswer (lookupAscendingIn (tableBefore keys indices kinds starts lengths) used key)) answer r ⌝ }
 {
-    give(
+    give_row(
         answer,
-        row_answer(lookup_ascending(keys, indices, kinds, starts, lengths, used as usize, key)),
+        lookup_ascending(keys, indices, kinds, starts, lengths, used as usize, key),
     )
+}
+
+// The index of that row, by the columns of keys and indices alone; the largest word where there is
+// none. At most the rows lent count, that is as many as the shorter column has.
+#[no_mangle]
+pub extern "C" fn sbpf_index_ascending(keys: &[u32], indices: &[u32], used: u64, key: u32) -> u64
+    ensures { λ r. ⌜ r ≡ indexWord (indexAscendingIn (now (keys .entry)) (now (indices .entry)) used key) ⌝ }
+{
+    index_word(index_ascending(keys, indices, used as usize, key))
 }
 
 // A load, as `loader::load`, with the settings by their bits.

@@ -9,7 +9,7 @@ use borrow.Author.Tests.{leb-false}
 use Rattle.ebpf.specs.Choice.{_if_else_, not-first, row-rest}
 use Rattle.program.specs.Search.{isAmong, member, Rising}
 use Rattle.program.specs.HashedLegacy.{isTaken}
-use Rattle.program.proofs.Halves.{among-member, over-below}
+use Rattle.program.proofs.Searches.{among-member, over-below}
 use Rattle.loader.specs.declared.error.ElfError.the-variants.{UnresolvedSymbol, ValueOutOfBounds}
 use Rattle.loader.specs.declared.deeds.Deed.the-variants.{Refuse, Key}
 use Rattle.loader.specs.declared.validate.Config.{Config}

@@ -1,10 +1,11 @@
 -- After a load both lookups answer the same, and demand 3 holds by either. Assumes nothing.
 use Prim.Native.Nat.{ℕ}
 use mathlib.Core.List.{List}
-use mathlib.Core.Path.{_≡_, sym, subst, fun-ext}
+use mathlib.Core.Path.{_≡_, sym, ap, subst, fun-ext, _∙_}
+use denote.Ref.{now}
 use Rattle.program.specs.declared.Found.{Found}
-use Rattle.program.specs.Table.{Slices, Lent, tableAfter, lookupIn, lookupAscendingIn, Ready as IsTable}
-use Rattle.program.proofs.Tables.{lookups-agree}
+use Rattle.program.specs.Table.{Slices, Lent, tableAfter, lookupIn, lookupAscendingIn, indexAscendingIn, indexOfFound, Ready as IsTable}
+use Rattle.program.proofs.Tables.{lookups-agree, index-agrees}
 use Rattle.loader.specs.declared.answer.Accepted.{Accepted}
 use Rattle.loader.specs.declared.answer.Load.{Load}
 use Rattle.loader.specs.declared.answer.Load.the-variants.{Accepted as Accepts, Refused as Refuses}
@@ -23,7 +24,16 @@ pub agree-after : (file builtins : Lent) (c : Config) (image ro keys indices kin
     → lookupAscendingIn (tableAfter keys indices kinds starts lengths) (x .used) key ≡ lookupIn (tableAfter keys indices kinds starts lengths) (x .used) key
 agree-after file builtins c image ro keys indices kinds starts lengths x l key = lookups-agree (tableAfter keys indices kinds starts lengths) (x .used) (l .ascending) key
 
--- so a statement by one is a statement by the other
+-- and the index alone, by the columns of keys and indices, is that of the row
+pub index-after : (file builtins : Lent) (c : Config) (image ro keys indices kinds starts lengths : Lent) (x : Accepted)
+    → Loads file builtins c image ro keys indices kinds starts lengths (Accepts x)
+    → (key : ℕ)
+    → indexAscendingIn (now (keys .exit)) (now (indices .exit)) (x .used) key ≡ indexOfFound (lookupIn (tableAfter keys indices kinds starts lengths) (x .used) key)
+index-after file builtins c image ro keys indices kinds starts lengths x l key =
+    index-agrees (tableAfter keys indices kinds starts lengths) (x .used) (l .ascending) key
+    ∙ ap indexOfFound (agree-after file builtins c image ro keys indices kinds starts lengths x l key)
+
+-- so a statement by one lookup is a statement by the other
 by-search : (t′ : Slices) (P : Job → (ℕ → Found) → Type 0) (a : Load) (p : Prepared) → OnUsed a (IsTable t′)
     → OnAccepted a p (λ j used. P j (lookupIn t′ used))
     → OnAccepted a p (λ j used. P j (lookupAscendingIn t′ used))

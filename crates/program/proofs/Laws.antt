@@ -19,7 +19,7 @@ use Rattle.program.specs.declared.Removed.the-variants.{Gone, Absent}
 use Rattle.program.specs.Search.{Over}
 use Rattle.program.specs.Rows.{rank, Ascending, find, Held, Repeats, Clashes, insert, remove, above, answer, after, register, registered, goneIf, unregister}
 use Rattle.program.proofs.Cases.{by-lt, by-eq, zero-one}
-use Rattle.program.proofs.Halves.{over-below}
+use Rattle.program.proofs.Searches.{over-below}
 use Rattle.program.proofs.Rows.{not-both, missing-cons, find-over}
 
 -- ---- order

@@ -1,5 +1,5 @@
 pub mod Cases
-pub mod Halves
+pub mod Searches
 pub mod Shift
 pub mod Rows
 pub mod Laying

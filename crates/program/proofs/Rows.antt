@@ -15,7 +15,7 @@ use Rattle.program.specs.declared.Found.the-variants.{At, Nothing}
 use Rattle.program.specs.Search.{Over, place, indexOf}
 use Rattle.program.specs.Rows.{rank, find, insert, remove, above, Ascending}
 use Rattle.program.proofs.Cases.{by-lt, by-eq, zero-one}
-use Rattle.program.proofs.Halves.{over-below}
+use Rattle.program.proofs.Searches.{over-below}
 
 -- the place of a rank among rows
 abbrev pub placeOf : ℕ → List Row → ℕ

@@ -1,9 +1,9 @@
--- What each way out of a registration, `unregister_function`, `lookup_by_key` and `lookup_ascending` answers and leaves, in the words of the contract: one
+-- What each way out of a registration, `unregister_function`, `lookup_by_key`, `lookup_ascending` and `index_ascending` answers and leaves, in the words of the contract: one
 -- law for each return, whatever the slices hold. Assumes nothing.
 use mathlib.Core.Path.{_≡_, refl, sym, ap, _∙_}
 use mathlib.Core.Bool.{Bool, true, false}
 use mathlib.Core.Logic.{⊎-elim}
-use mathlib.Core.List.{[], _∷_, map}
+use mathlib.Core.List.{List, [], _∷_, map}
 use Prim.Native.Nat.{ℕ, _+_, _-_, _≤_, _<_, min}
 use native.Mathlib.Omega.{arith}
 use lib.ListN.{length, take, getD}
@@ -14,15 +14,16 @@ use denote.Enum.Declared.{tagOf}
 use Rattle.ebpf.specs.Choice.{_if_else_}
 use Rattle.program.specs.declared.Row.{Row}
 use Rattle.program.specs.declared.Found.the-variants.{At, Nothing}
+use Rattle.program.specs.declared.FoundIndex.the-variants.{At as AtIndex, Nothing as NoIndex}
 use Rattle.program.specs.declared.Registered.{Registered}
 use Rattle.program.specs.declared.Registered.the-variants.{Inserted, Repeat, Collision, Full}
 use Rattle.program.specs.declared.Removed.the-variants.{Gone, Absent}
-use Rattle.program.specs.Search.{halves, indexOf}
+use Rattle.program.specs.Search.{binarySearch, indexOf}
 use Rattle.program.specs.Rows.{rank}
-use Rattle.program.specs.Table.{Slices, capacity, Least, Within, rowAt, rowsOf, ranksOf, Opening, closedRow, counted, placeIn, holds, registerAt, registeredAt, registerIn, registeredBy, unregisterAt, unregisteredAt, unregisterIn, unregisteredIn, RegistersBy, Unregisters, lookupIn, foundAt, lookupAscendingIn}
+use Rattle.program.specs.Table.{Slices, capacity, Least, Within, rowAt, rowsOf, ranksOf, Opening, closedRow, counted, placeIn, holds, registerAt, registeredAt, registerIn, registeredBy, unregisterAt, unregisteredAt, unregisterIn, unregisteredIn, RegistersBy, Unregisters, lookupIn, foundAt, lookupAscendingIn, indexAt, indexAscendingIn}
 use Rattle.program.proofs.Registered.{the-type}
 use Rattle.program.proofs.Cases.{by-lt, by-le, by-eq, zero-one}
-use Rattle.program.proofs.Halves.{search-le}
+use Rattle.program.proofs.Searches.{search-le}
 use Rattle.program.proofs.Laying.{lent-capacity, within-room, zero-row, length-rows, ranks-rows, row-at}
 use Rattle.program.proofs.Rows.{find-first, find-none}
 
@@ -69,7 +70,7 @@ module _ (t : Slices) (n at k : ℕ) where
       h
 
 -- the place that the code searched for
-module _ (t : Slices) (used rows n : ℕ) (c : Counts t used rows n) (k at : ℕ) (is : at ≡ halves k (take n (t .keys))) where
+module _ (t : Slices) (used rows n : ℕ) (c : Counts t used rows n) (k at : ℕ) (is : at ≡ binarySearch k (take n (t .keys))) where
   is-place : at ≡ placeIn t n k
   unfolding placeIn ranksOf
   is-place = is
@@ -97,7 +98,7 @@ module _ (t : Slices) (used rows n : ℕ) (c : Counts t used rows n) (k at : ℕ
   }
 
 -- a lookup's answer at that place
-module _ (t : Slices) (used rows n : ℕ) (c : Counts t used rows n) (k at : ℕ) (is : at ≡ halves k (take n (t .keys))) where
+module _ (t : Slices) (used rows n : ℕ) (c : Counts t used rows n) (k at : ℕ) (is : at ≡ binarySearch k (take n (t .keys))) where
   looks : lookupAscendingIn t used k ≡ foundAt t n at k
   unfolding lookupAscendingIn
   looks = rw (is-place t used rows n c k at is, is-counted t used rows n c) refl
@@ -110,8 +111,26 @@ module _ (t : Slices) (used rows n : ℕ) (c : Counts t used rows n) (k at : ℕ
   unfolding foundAt _if_else_
   finds-row l e = sym (looks ∙ rw (here t n at k l e) refl)
 
+-- an index's, by two columns
+module _ (keys indices : List ℕ) (used m n k at : ℕ) (shorter : m ≡ min (length keys) (length indices)) (counts : n ≡ min used m) (is : at ≡ binarySearch k (take n keys)) where
+  looks-index : indexAscendingIn keys indices used k ≡ indexAt keys indices n at k
+  unfolding indexAscendingIn
+  looks-index = rw (is, counts, shorter) refl
+
+  pub index-past : n ≤ at → NoIndex ≡ indexAscendingIn keys indices used k
+  unfolding indexAt _if_else_
+  index-past l = sym (looks-index ∙ rw (le-leb n at l) refl)
+
+  pub index-other : at < n → (getD keys at 0 ≡ k → ⊥) → NoIndex ≡ indexAscendingIn keys indices used k
+  unfolding indexAt _if_else_
+  index-other l h = sym (looks-index ∙ rw (lt-leb n at l, ne-eqb (getD keys at 0) k h) refl)
+
+  pub index-here : at < n → getD keys at 0 ≡ k → AtIndex (getD indices at 0) ≡ indexAscendingIn keys indices used k
+  unfolding indexAt _if_else_
+  index-here l e = sym (looks-index ∙ rw (lt-leb n at l, eq-eqb (getD keys at 0) k e) refl)
+
 -- a registration's answer at that place
-module _ (t : Slices) (used rows n : ℕ) (c : Counts t used rows n) (row : Row) (at : ℕ) (is : at ≡ halves (rank row) (take n (t .keys))) where
+module _ (t : Slices) (used rows n : ℕ) (c : Counts t used rows n) (row : Row) (at : ℕ) (is : at ≡ binarySearch (rank row) (take n (t .keys))) where
   goes : registerIn t used row ≡ registerAt t n at row
   unfolding registerIn
   goes = rw (is-place t used rows n c (rank row) at is, is-counted t used rows n c) refl

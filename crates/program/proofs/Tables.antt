@@ -1,22 +1,26 @@
 -- What the contracts mean for a table, whose used rows ascend with zeros elsewhere: a registration and a removal are those of its rows, and
 -- what they leave is a table again. Assumes nothing.
 use mathlib.Core.Path.{_≡_, refl, sym, ap, subst, _∙_}
-use mathlib.Core.Bool.{Bool}
+use mathlib.Core.Bool.{Bool, false}
 use mathlib.Core.List.{List, [], _∷_, _++_, map}
 use Prim.Native.Nat.{ℕ, suc, _-_, _≤_, _<_, min, zero-le}
 use native.Mathlib.Omega.{arith}
 use lib.ListN.{length, take, drop, getD, replicate}
+use lib.Dec.{ltb, eqb}
 use borrow.Author.Tests.{lt-ltb, le-ltb, eq-eqb, ne-eqb}
 use Rattle.ebpf.specs.Choice.{_if_else_}
 use Rattle.program.specs.declared.Row.{Row}
 use Rattle.program.specs.declared.Found.the-variants.{At, Nothing}
+use Rattle.program.specs.declared.FoundIndex.the-variants.{At as AtIndex, Nothing as NoIndex}
 use Rattle.program.specs.declared.Registered.{Registered}
 use Rattle.program.specs.declared.Registered.the-variants.{Inserted, Repeat, Collision, Full}
 use Rattle.program.specs.declared.Removed.{Removed}
 use Rattle.program.specs.declared.Removed.the-variants.{Gone, Absent}
+use Rattle.program.specs.Search.{binarySearch}
 use Rattle.program.specs.Rows.{rank, Ascending, find, remove, register, registered, unregister}
-use Rattle.program.specs.Table.{Slices, least, capacity, column, lay, rowAt, rowsOf, openedRow, closedRow, counted, placeIn, registerIn, registeredBy, registeredIn, unregisterAt, unregisteredAt, unregisterIn, unregisteredIn, Registers, Unregisters, lookupIn, foundAt, lookupAscendingIn, Ready, Registration, Removal}
-use Rattle.program.proofs.Halves.{halves-place}
+use Rattle.program.specs.Table.{Slices, least, capacity, column, lay, rowAt, rowsOf, openedRow, closedRow, counted, placeIn, registerIn, registeredBy, registeredIn, unregisterAt, unregisteredAt, unregisterIn, unregisteredIn, Registers, Unregisters, lookupIn, foundAt, lookupAscendingIn, indexAt, indexAscendingIn, indexOfFound, ranksOf, holds, Ready, Registration, Removal}
+use Rattle.program.proofs.Cases.{by-le, by-eq}
+use Rattle.program.proofs.Searches.{search-place}
 use Rattle.program.proofs.Laying.{zero-row, within-room, length-column, length-rows, ranks-rows, row-at, rows-lay, capacity-lay, opened-lay, closed-lay}
 use Rattle.program.proofs.Steps.{by-holds, by-registeredAt}
 use Rattle.program.proofs.Rows.{placeOf, find-here, find-missing, insert-here, above-missing, remove-here, above-held, remove-missing}
@@ -108,6 +112,15 @@ unfolding unregisterAt unregisteredAt _if_else_
 by-unregisteredAt P t n at k none one =
     by-holds t n at k (λ (b : Bool). P (closedRow at n t if b else t) (Gone (n - at - 1) if b else Absent)) one none
 
+-- the index of a row that is found at a place
+same-index : (t : Slices) (n at k : ℕ) → indexAt (t .keys) (t .indices) n at k ≡ indexOfFound (foundAt t n at k)
+unfolding indexAt foundAt holds rank _if_else_
+same-index t n at k =
+    by-le n at
+    (λ (b : Bool). (NoIndex if b else AtIndex (getD (t .indices) at 0) if eqb (getD (t .keys) at 0) k else NoIndex) ≡ indexOfFound (At (rowAt t at) if (eqb (getD (t .keys) at 0) k if ltb at n else false) else Nothing))
+    (λ l. rw (le-ltb at n l) refl)
+    (λ l. rw (lt-ltb at n l) (by-eq (getD (t .keys) at 0) k (λ (b : Bool). (AtIndex (getD (t .indices) at 0) if b else NoIndex) ≡ indexOfFound (At (rowAt t at) if b else Nothing)) (λ _. refl) (λ _. refl)))
+
 -- ---- a table
 
 module _ (t : Slices) (used : ℕ) (ready : Ready t used) where
@@ -120,7 +133,7 @@ module _ (t : Slices) (used : ℕ) (ready : Ready t used) where
   unfolding placeIn
   place-ready k =
       let ranks = ranks-rows t used (within-room used t (ready .room) .in-keys) in
-      rw (← ranks) (halves-place k (map rank (rowsOf t used)) (ready .rising))
+      rw (← ranks) (search-place k (map rank (rowsOf t used)) (ready .rising))
 
   module _ (k at : ℕ) (is : at ≡ placeOf k (rowsOf t used)) where
     at-rank : at < used → rank (getD (rowsOf t used) at zero-row) ≡ rank (rowAt t at)
@@ -169,6 +182,14 @@ module _ (t : Slices) (used : ℕ) (ready : Ready t used) where
       (by-holds t used (placeIn t used k) k (λ (b : Bool). (At (rowAt t (placeIn t used k)) if b else Nothing) ≡ find k (rowsOf t used))
       (λ l e. sym (found k (placeIn t used k) is l e))
       (λ h. sym (missing k (placeIn t used k) is h)))
+
+  -- and by two columns alone the index is the same
+  pub index-agrees : (k : ℕ) → indexAscendingIn (t .keys) (t .indices) used k ≡ indexOfFound (lookupAscendingIn t used k)
+  unfolding indexAscendingIn lookupAscendingIn placeIn ranksOf
+  index-agrees k =
+      let w = within-room used t (ready .room) in
+      let all : min used (min (length (t .keys)) (length (t .indices))) ≡ used = omega (arith, w .in-keys, w .in-indices) in
+      rw (all, counted-ready) (same-index t used (binarySearch k (take used (t .keys))) k)
 
   module _ (row : Row) (at : ℕ) (is : at ≡ placeOf (rank row) (rowsOf t used)) where
     repeats : at < used → rank (rowAt t at) ≡ rank row → rowAt t at .index ≡ row .index → Registration t t used row Repeat

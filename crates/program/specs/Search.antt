@@ -1,5 +1,5 @@
 -- Searches in a list of numbers. Each has an answer on any list; what it means on an ascending one is a law.
-use Prim.Native.Nat.{ℕ, zero, suc, _+_, _-_, _/_, _≤_, _<_}
+use Prim.Native.Nat.{ℕ, zero, suc, _+_, _-_, _/_, _≤_, _<_, min}
 use mathlib.Core.Path.{_≡_}
 use mathlib.Core.Bool.{Bool, true, false, _||_}
 use mathlib.Core.List.{List, [], _∷_}
@@ -7,22 +7,34 @@ use lib.ListN.{length, getD, take, drop}
 use lib.Dec.{ltb, leb, eqb}
 use Rattle.ebpf.specs.Choice.{_if_else_}
 
--- the middle of the places from lo up to hi
-abbrev pub middle : ℕ → ℕ → ℕ
-middle lo hi = lo + (hi - lo) / 2
+-- how many of the n numbers from `at` on are below k
+unfoldable pub below : ℕ → ℕ → List ℕ → ℕ → ℕ
+below zero k xs at = 0
+below (suc n) k xs at = (1 if ltb (getD xs at 0) k else 0) + below n k xs (at + 1)
 
--- the search by halves (binary search) for k, between the places lo and hi, in at most `turns` turns
-unfoldable pub between : ℕ → ℕ → List ℕ → ℕ → ℕ → ℕ
-between zero k xs lo hi = lo
-between (suc turns) k xs lo hi =
-    (between turns k xs (middle lo hi + 1) hi if ltb (getD xs (middle lo hi) 0) k else between turns k xs lo (middle lo hi)) if ltb lo hi else lo
+-- r is that number; the bound, which follows, stands beside it for the proofs
+pub record Below (n k : ℕ) (xs : List ℕ) (at r : ℕ) : Type 0 where
+  pub is : r ≡ below n k xs at
+  pub small : r ≤ n
 
-unfoldable pub halves : ℕ → List ℕ → ℕ
-halves k xs = between (length xs) k xs 0 (length xs)
+-- a binary search for k halves `size` numbers, from `base` on, while more than eight are left, in at most `turns` turns: where those start
+unfoldable pub narrowed : ℕ → ℕ → List ℕ → ℕ → ℕ → ℕ
+narrowed zero k xs base size = base
+narrowed (suc turns) k xs base size =
+    narrowed turns k xs (base + (size / 2 if leb (getD xs (base + size / 2) 0) k else 0)) (size - size / 2) if ltb 8 size else base
 
--- whether the search by halves finds k: on an ascending list, whether k is in it (`among-member` in proofs/Halves.antt)
+-- where the numbers start that it counts: those that are left, and at the end of the list the last eight
+unfoldable pub countedFrom : ℕ → List ℕ → ℕ
+countedFrom k xs = min (narrowed (length xs) k xs 0 (length xs)) (length xs - 8)
+
+-- the binary search for k: the place behind the numbers below k, of the eight that it counts (a shorter list is counted whole). On an ascending list it is how
+-- many numbers are below k (`search-place` in proofs/Searches.antt)
+unfoldable pub binarySearch : ℕ → List ℕ → ℕ
+binarySearch k xs = countedFrom k xs + below (min 8 (length xs)) k xs (countedFrom k xs)
+
+-- whether the binary search finds k: on an ascending list, whether k is in it (`among-member` in proofs/Searches.antt)
 unfoldable pub isAmong : ℕ → List ℕ → Bool
-isAmong k xs = false if leb (length xs) (halves k xs) else eqb (getD xs (halves k xs) 0) k
+isAmong k xs = false if leb (length xs) (binarySearch k xs) else eqb (getD xs (binarySearch k xs) 0) k
 
 -- the index of the first k, or the length where there is none
 abbrev pub indexOf : ℕ → List ℕ → ℕ

@@ -8,11 +8,13 @@ use lib.Dec.{ltb, leb, eqb}
 use denote.Triple.Both.{Both}
 use denote.Ref.{RefT, now}
 use Rattle.ebpf.specs.Choice.{_if_else_}
-use Rattle.program.specs.Search.{halves}
+use Rattle.program.specs.Search.{binarySearch}
 use Rattle.program.specs.Rows.{rank, Ascending, find, register, registered, remove, unregister}
 use Rattle.program.specs.declared.Row.{Row}
 use Rattle.program.specs.declared.Found.{Found}
 use Rattle.program.specs.declared.Found.the-variants.{At, Nothing}
+use Rattle.program.specs.declared.FoundIndex.{FoundIndex}
+use Rattle.program.specs.declared.FoundIndex.the-variants.{At as AtIndex, Nothing as NoIndex}
 use Rattle.program.specs.declared.Registered.{Registered}
 use Rattle.program.specs.declared.Registered.the-variants.{Inserted, Repeat, Collision, Full}
 use Rattle.program.specs.declared.Removed.{Removed}
@@ -153,9 +155,9 @@ closedRow at n t = record {
 unfoldable pub counted : Slices → ℕ → ℕ
 counted t used = min used (capacity t)
 
--- where the search by halves comes to for rank k, among n rows
+-- where the binary search comes to for rank k, among n rows
 unfoldable pub placeIn : Slices → ℕ → ℕ → ℕ
-placeIn t n k = halves k (ranksOf t n)
+placeIn t n k = binarySearch k (ranksOf t n)
 
 -- whether the row at a place is one of n, and of rank k
 unfoldable pub holds : Slices → ℕ → ℕ → ℕ → Bool
@@ -223,6 +225,20 @@ foundAt t n at k = At (rowAt t at) if holds t n at k else Nothing
 
 unfoldable pub lookupAscendingIn : Slices → ℕ → ℕ → Found
 lookupAscendingIn t used k = foundAt t (counted t used) (placeIn t (counted t used) k) k
+
+-- the index alone, by the columns of keys and indices; as many rows count as the shorter has numbers. On every table it is the index of the row that
+-- `lookupAscendingIn` gives (`index-agrees` in proofs/Tables.antt)
+unfoldable pub indexAt : List ℕ → List ℕ → ℕ → ℕ → ℕ → FoundIndex
+indexAt keys indices n at k = NoIndex if leb n at else AtIndex (getD indices at 0) if eqb (getD keys at 0) k else NoIndex
+
+unfoldable pub indexAscendingIn : List ℕ → List ℕ → ℕ → ℕ → FoundIndex
+indexAscendingIn keys indices used k =
+    let n = min used (min (length keys) (length indices)) in
+    indexAt keys indices n (binarySearch k (take n keys)) k
+
+abbrev pub indexOfFound : Found → FoundIndex
+indexOfFound (At r) = AtIndex (r .index)
+indexOfFound Nothing = NoIndex
 
 -- ---- tables: slices whose used rows ascend, with zeros elsewhere
 

@@ -91,12 +91,12 @@ pub fn kept_name(labels: bool, name: FunctionName) -> KeptName
     }
 }
 
-// Whether a search by halves finds the key: on keys that ascend strictly, whether it is among them.
+// Whether a binary search finds the key: on keys that ascend strictly, whether it is among them.
 pub fn is_builtin(builtins: &[u32], key: u32) -> bool
     ensures { λ r. ⌜ r ≡ isAmong key (now (builtins .entry)) ⌝ }
 {
     let n = builtins.len();
-    let at = search::by_halves(builtins, n, key);
+    let at = search::binary_search(builtins, n, key);
     if n <= at {
         return false;
     }

@@ -2,7 +2,7 @@
 // by key, with zeros behind the used rows; it has as many rows as the shortest slice has numbers.
 ghost use mathlib.Core.Path.{_≡_};
 ghost use Prim.Native.Nat.{_+_};
-ghost use Rattle.program.specs.Table.{registerIn, lookupIn, lookupAscendingIn, Registers, RegistersAlike, Unregisters, tableBefore, tableAfter, Within, rowAt, tableOf};
+ghost use Rattle.program.specs.Table.{registerIn, lookupIn, lookupAscendingIn, indexAscendingIn, Registers, RegistersAlike, Unregisters, tableBefore, tableAfter, Within, rowAt, tableOf};
 
 mod columns;
 mod hashed_legacy;
@@ -39,6 +39,12 @@ pub struct Row {
 
 pub enum Found {
     At(Row),
+    Nothing,
+}
+
+// The index of a row that is found.
+pub enum FoundIndex {
+    At(u32),
     Nothing,
 }
 
@@ -109,7 +115,7 @@ fn answer_of(
         lengths.len(),
     );
     let n = columns::smaller(used, rows);
-    let at = search::by_halves(keys, n, key);
+    let at = search::binary_search(keys, n, key);
     if at < n {
         if keys[at] == key {
             if indices[at] == index {
@@ -206,7 +212,7 @@ pub fn unregister_function(
         lengths.len(),
     );
     let n = columns::smaller(used, rows);
-    let at = search::by_halves(keys, n, key);
+    let at = search::binary_search(keys, n, key);
     if n <= at {
         return Removed::Absent;
     }
@@ -287,7 +293,7 @@ pub fn lookup_ascending(
         lengths.len(),
     );
     let n = columns::smaller(used, rows);
-    let at = search::by_halves(keys, n, key);
+    let at = search::binary_search(keys, n, key);
     if n <= at {
         return Found::Nothing;
     }
@@ -295,4 +301,21 @@ pub fn lookup_ascending(
         return Found::Nothing;
     }
     Found::At(row_at(keys, indices, kinds, starts, lengths, at))
+}
+
+// The index under a key, as `lookup_ascending` finds it, by the columns of keys and indices alone: what
+// a call needs, with less to hand over. As many rows count as the shorter column has numbers.
+pub fn index_ascending(keys: &[u32], indices: &[u32], used: usize, key: u32) -> FoundIndex
+    ensures { λ r. ⌜ r ≡ indexAscendingIn (now (keys .entry)) (now (indices .entry)) used key ⌝ }
+{
+    let n = columns::smaller(used, columns::smaller(keys.len(), indices.len()));
+    let at = search::binary_search(keys, n, key);
+    if n <= at {
+        return FoundIndex::Nothing;
+    }
+    let held = keys[at];
+    if held != key {
+        return FoundIndex::Nothing;
+    }
+    FoundIndex::At(indices[at])
 }

@@ -387,7 +387,7 @@ impl Comparer {
     /// A lookup in five columns of any lengths and contents, against a plain scan.
     pub fn lookup(&mut self, r: &mut Random, room: usize) -> Result<(), String> {
         let wide = r.one_in(3);
-        let most = if r.one_in(20) { 200 } else { 10 };
+        let most = if r.one_in(10) { 200 } else { 20 };
         let column = |r: &mut Random| -> Vec<u32> {
             let n = r.below(most + 1);
             (0..n)
@@ -439,17 +439,8 @@ impl Comparer {
             scanned,
             room,
         )?;
-        // the half that has no number below the key is left each time, whatever the numbers are
-        let (mut low, mut high) = (0, rows);
-        while low < high {
-            let middle = low + (high - low) / 2;
-            if t[0][middle] < key {
-                low = middle + 1;
-            } else {
-                high = middle;
-            }
-        }
-        let searched = found((low < rows && t[0][low] == key).then_some(low));
+        let at = binary_search(&t[0][..rows], key);
+        let searched = found((at < rows && t[0][at] == key).then_some(at));
         if t[0][..rows].windows(2).all(|w| w[0] < w[1]) {
             assert_eq!(scanned, searched, "ascending rows");
         }
@@ -459,8 +450,36 @@ impl Comparer {
             &port::lookup(true, &t, used, key, room),
             searched,
             room,
-        )
+        )?;
+        // the index alone, by two columns
+        let rows = t[0].len().min(t[1].len()).min(used.min(1 << 20) as usize);
+        let at = binary_search(&t[0][..rows], key);
+        let index = (at < rows && t[0][at] == key).then(|| t[1][at]);
+        self.count("index_ascending", index.is_some() as u32);
+        let port = port::index(&t, used, key);
+        if port != index {
+            return Err(format!(
+                "index of {key} in {used} rows of {t:?}\n  port {port:?}\n  here {index:?}"
+            ));
+        }
+        Ok(())
     }
+}
+
+/// Where the binary search comes to, whatever the numbers are: they are halved while more than eight
+/// are left, and of those, the last eight at the latest, it counts the ones below the key.
+fn binary_search(keys: &[u32], key: u32) -> usize {
+    let (mut base, mut size) = (0, keys.len());
+    while 8 < size {
+        let half = size / 2;
+        if keys[base + half] <= key {
+            base += half;
+        }
+        size -= half;
+    }
+    let start = base.min(keys.len().saturating_sub(8));
+    let counted = keys[start..].iter().take(8);
+    start + counted.filter(|k| **k < key).count()
 }
 
 /// Makes a file that differs smaller, as long as it differs: shorter first, then more zeros.

@@ -3,15 +3,15 @@
 /// Declares functions of the library as C does: each slice is a pointer and its length. Where the
 /// library lacks them (build.rs tells), a call says so instead.
 macro_rules! proved {
-    ($cfg:ident: $(fn $name:ident($($arg:ident: $ty:ty),* $(,)?) -> u32;)*) => {
+    ($cfg:ident: $(fn $name:ident($($arg:ident: $ty:ty),* $(,)?) -> $answer:ty;)*) => {
         #[cfg($cfg)]
         extern "C" {
-            $(fn $name($($arg: $ty),*) -> u32;)*
+            $(fn $name($($arg: $ty),*) -> $answer;)*
         }
         $(
             #[cfg(not($cfg))]
             #[allow(clippy::too_many_arguments)]
-            unsafe fn $name($(_: $ty),*) -> u32 {
+            unsafe fn $name($(_: $ty),*) -> $answer {
                 panic!("the library was built without {}", stringify!($name))
             }
         )*
@@ -65,6 +65,12 @@ proved! { port:
         key: u32,
         answer: *mut u64, answer_len: usize,
     ) -> u32;
+    fn sbpf_index_ascending(
+        keys: *const u32, keys_len: usize,
+        indices: *const u32, indices_len: usize,
+        used: u64,
+        key: u32,
+    ) -> u64;
 }
 
 proved! { load:
@@ -188,6 +194,22 @@ unsafe fn look_up(by_search: bool, t: &Columns, used: u64, key: u32, words: *mut
         words,
         n,
     )
+}
+
+/// The index alone, by the search over two columns.
+pub fn index(t: &Columns, used: u64, key: u32) -> Option<u32> {
+    let (keys, indices) = (&t[0], &t[1]);
+    let index = unsafe {
+        sbpf_index_ascending(
+            keys.as_ptr(),
+            keys.len(),
+            indices.as_ptr(),
+            indices.len(),
+            used,
+            key,
+        )
+    };
+    (index != u64::MAX).then_some(index as u32)
 }
 
 /// `table` are the five columns, in the order of `Columns`.

@@ -1,6 +1,6 @@
 //! speed [ROUNDS], speed lookups [ROUNDS]: the second compares lookups by key, a hit and a miss, with the
-//! Rust's `lookup_by_key` on a registry of the same keys: by the scan and by the binary search, each
-//! through the C interface with the nine words lent that a row has. The first: the Rust's `Executable::load` and the port's on the same files, in one process,
+//! Rust's `lookup_by_key` on a registry of the same keys: by the scan, by the binary search, and of the
+//! index alone, through the C interface, the first two with the nine words lent that a row has. The first: the Rust's `Executable::load` and the port's on the same files, in one process,
 //! in turn. Time of the Rust: one load and its release (allocation is part of it, as it is where it
 //! is used). Time of the port: one load into buffers that the load before has left (it clears them
 //! itself), with eight rows more than there are functions. Copy: the file's bytes into a buffer.
@@ -46,8 +46,8 @@ fn main() {
         .next()
         .map_or(41, |a| a.parse().expect("a number of rounds"));
     if lookups {
-        println!("| Rows | Key | Rust ns | Scan ns | Scan/Rust | Search ns | Search/Rust (quartiles) |");
-        println!("|---|---|---|---|---|---|---|");
+        println!("| Rows | Key | Rust ns | Scan/Rust | Search ns | Search/Rust (quartiles) | Index ns | Index/Rust (quartiles) |");
+        println!("|---|---|---|---|---|---|---|---|");
         for rows in [10, 200, 1_000, 5_000, 100_000] {
             for hit in [true, false] {
                 lookup_row(rows, hit, rounds);
@@ -160,9 +160,9 @@ fn row(size: usize, functions: usize, version2: bool, labels: bool, rounds: usiz
     );
 }
 
-/// Keys drawn all over, so that neither branch prediction nor the caches know the next one.
+/// Keys drawn all over, and as many that branch prediction does not learn them.
 fn lookup_row(rows: usize, hit: bool, rounds: usize) {
-    const ASKED: usize = 4_096;
+    const ASKED: usize = 65_536;
     let r = &mut Random::new(11, rows as u64);
     let mut keys: Vec<u32> = (0..rows).map(|_| r.next() as u32 | 1).collect();
     keys.sort_unstable();
@@ -183,45 +183,60 @@ fn lookup_row(rows: usize, hit: bool, rounds: usize) {
         .map(|_| keys[r.index(rows)] - if hit { 0 } else { 1 })
         .collect();
     let used = rows as u64;
-    for key in &asked {
+    // a scan of many rows is asked fewer times
+    let few = &asked[..(4_000_000 / rows).clamp(8, ASKED)];
+    for (i, key) in asked.iter().enumerate() {
         let there = registry.lookup_by_key(*key).map(|(_, index)| index as u64);
-        for by_search in [false, true] {
+        let row = |by_search| {
             let words = port::lookup(by_search, &table, used, *key, 9).1;
-            assert_eq!((words[4] == 1).then_some(words[5]), there);
-        }
+            (words[4] == 1).then_some(words[5])
+        };
+        assert_eq!(row(true), there);
+        assert!(i >= few.len() || row(false) == there);
+        assert_eq!(port::index(&table, used, *key).map(u64::from), there);
     }
 
-    let mut rust_once = || {
-        for key in &asked {
+    let rust_once = |asked: &[u32]| {
+        for key in asked {
             black_box(registry.lookup_by_key(black_box(*key)));
         }
     };
-    let mut words = [0; 9];
-    let mut port_once = |by_search: bool, asked: &[u32]| {
+    let lookup_once = |by_search: bool, asked: &[u32]| {
+        let mut words = [0; 9];
         for key in asked {
             port::lookup_into(by_search, &table, used, black_box(*key), &mut words);
             black_box(&words);
         }
     };
-    // a scan of many rows is asked fewer times
-    let few = &asked[..(4_000_000 / rows).clamp(8, ASKED)];
-    let (mut rust, mut scan, mut search, mut ratio) = (vec![], vec![], vec![], vec![]);
-    for _ in 0..rounds {
-        let a = time(1, &mut rust_once) * 1e3 / ASKED as f64;
-        let b = time(1, || port_once(true, &asked)) * 1e3 / ASKED as f64;
-        scan.push(time(1, || port_once(false, few)) * 1e3 / few.len() as f64);
-        rust.push(a);
-        search.push(b);
-        ratio.push(b / a);
+    let index_once = |asked: &[u32]| {
+        for key in asked {
+            black_box(port::index(&table, used, black_box(*key)));
+        }
+    };
+    /// Nanoseconds for each key.
+    fn each(asked: &[u32], call: impl Fn(&[u32])) -> f64 {
+        time(1, || call(asked)) * 1e3 / asked.len() as f64
     }
-    let (rust, scan, search) = (quartiles(rust)[1], quartiles(scan)[1], quartiles(search)[1]);
-    let ratio = quartiles(ratio);
+    let (mut rust, mut scan, mut search, mut index) = (vec![], vec![], vec![], vec![]);
+    for _ in 0..rounds {
+        rust.push(each(&asked, rust_once));
+        search.push(each(&asked, |asked| lookup_once(true, asked)));
+        index.push(each(&asked, index_once));
+        scan.push(each(few, |asked| lookup_once(false, asked)));
+    }
+    let ratio = |times: &[f64]| {
+        let [low, middle, high] = quartiles(times.iter().zip(&rust).map(|(a, b)| a / b).collect());
+        format!("{middle:.2} ({low:.2} to {high:.2})")
+    };
+    let middle = |times: &[f64]| quartiles(times.to_vec())[1];
     println!(
-        "| {rows} | {} | {rust:.1} | {scan:.1} | {:.2} | {search:.1} | {:.2} ({:.2} to {:.2}) |",
+        "| {rows} | {} | {:.1} | {:.1} | {:.1} | {} | {:.1} | {} |",
         if hit { "there" } else { "absent" },
-        scan / rust,
-        ratio[1],
-        ratio[0],
-        ratio[2],
+        middle(&rust),
+        middle(&scan) / middle(&rust),
+        middle(&search),
+        ratio(&search),
+        middle(&index),
+        ratio(&index),
     );
 }

@@ -1,6 +1,6 @@
 -- `program::hashed_legacy::is_builtin` meets its contract: the number at the place of the search.
 -- Assumes nothing.
-use Rattle.program.proofs.Halves.{among-past, among-at}
+use Rattle.program.proofs.Searches.{among-past, among-at}
 use borrow.Author.Needs.{needs}
 use Rattle.program.proofs.hashed_legacy.is_builtin.Statement.{statement}
 use Rattle.program.proofs.hashed_legacy.is_builtin.Tie as tie

@@ -4,7 +4,7 @@ use mathlib.Core.Path.{_≡_, sym, _∙_}
 use Prim.Native.Nat.{_≤_, _-_, _+_}
 use lib.ListN.{take, drop}
 use Rattle.program.specs.Search.{indexOf}
-use Rattle.program.proofs.Halves.{index-hit, index-miss, index-none}
+use Rattle.program.proofs.Searches.{index-hit, index-miss, index-none}
 use native.Mathlib.Omega.{arith}
 use borrow.Author.Needs.{needs}
 use Rattle.program.proofs.search.first_of.Statement.{statement}

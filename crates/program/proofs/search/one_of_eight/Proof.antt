@@ -5,7 +5,7 @@ use mathlib.Core.Bool.{Bool}
 use lib.ListN.{getD}
 use lib.Dec.{eqb}
 use Rattle.program.specs.Search.{oneOf}
-use Rattle.program.proofs.Halves.{join-eight}
+use Rattle.program.proofs.Searches.{join-eight}
 use borrow.Author.Needs.{needs}
 use Rattle.program.proofs.search.one_of_eight.Statement.{statement}
 use Rattle.program.proofs.search.one_of_eight.Tie as tie

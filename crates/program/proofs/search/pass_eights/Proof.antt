@@ -4,7 +4,7 @@ use Prim.Native.Nat.{_-_}
 use mathlib.Core.Path.{_∙_}
 use native.Mathlib.Omega.{arith}
 use Rattle.program.specs.Search.{PassesTo}
-use Rattle.program.proofs.Halves.{index-past}
+use Rattle.program.proofs.Searches.{index-past}
 use borrow.Author.Needs.{needs}
 use Rattle.program.proofs.search.pass_eights.Statement.{statement}
 use Rattle.program.proofs.search.pass_eights.Tie as tie
