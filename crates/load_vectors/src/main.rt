@@ -10,7 +10,7 @@ use loader::load;
 mod lines;
 
 // The longest file, image and read-only buffer of a case.
-const LENT: usize = 4096;
+const LENT: usize = 16384;
 // The longest column.
 const ROWS: usize = 256;
 // The most built-ins, and their bytes.

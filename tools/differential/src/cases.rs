@@ -120,19 +120,32 @@ impl Case {
         } else {
             Style::Usual
         };
-        Case::drawn(r, style)
+        Case::drawn(r, style, 1)
     }
 
     /// A case whose file is small.
     pub fn small(seed: u64, number: u64) -> Case {
-        Case::drawn(&mut Random::new(seed, number), Style::Small)
+        Case::drawn(&mut Random::new(seed, number), Style::Small, 1)
     }
 
-    fn drawn(r: &mut Random, style: Style) -> Case {
+    /// A case whose file has more instructions than the constant table has keys.
+    pub fn large(seed: u64, number: u64) -> Case {
+        Case::drawn(&mut Random::new(seed, number), Style::Large, 1)
+    }
+
+    /// A case whose file is small and damaged up to three times: of two faults the order of the checks shows.
+    pub fn faulty(seed: u64, number: u64) -> Case {
+        Case::drawn(&mut Random::new(seed, number), Style::Small, 3)
+    }
+
+    fn drawn(r: &mut Random, style: Style, damages: usize) -> Case {
         let made = elf::file(r, style);
         let settings = settings(r, &made);
         let mut file = made.bytes;
-        let sound = !mutate::damage(r, &mut file);
+        let mut sound = true;
+        for _ in 0..damages {
+            sound &= !mutate::damage(r, &mut file);
+        }
         let mut builtins = builtins(r);
 
         // how many rows the load asks for

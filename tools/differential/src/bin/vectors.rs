@@ -1,7 +1,7 @@
 //! vectors worked FOLDER: writes the scope's worked examples for the program `crates/worked`.
-//! vectors FOLDER [CASES [SEED]]: writes a fixed sample of loads for a program that replays them
-//! without any Rust (`crates/load_vectors`). The file `stdin` has the cases, `stdout` a line for
-//! each, what the Rust answers (and the scope where the Rust says nothing).
+//! vectors FOLDER LIST: writes the loads of a list for a program that replays them without any
+//! Rust (`crates/load_vectors`). The file `stdin` has the cases, `stdout` a line for each, what the
+//! Rust answers (and the scope where the Rust says nothing).
 //!
 //! A case, all numbers 32 bits little-endian:
 //!
@@ -26,9 +26,10 @@
 //! indices, kinds, starts, lengths, four bytes little-endian for each number. After a refusal
 //! everything lent is zero.
 //!
-//! Files are drawn small, and of those that agree in what they show (number, version, settings,
-//! what was relocated and registered) the smallest is kept. Three of eight cases are accepted ones,
-//! spread over all that they show; the others are the smallest of each refusal and version.
+//! A list has a line for each case or run of cases: how it is drawn (`small` or `large`, by its file;
+//! `faulty`, small and damaged up to three times; `any`, as the comparison draws them), seed, number
+//! and, if not 1, how many from that number on. FOLDER/list has the cases written, one to a line.
+//! `tools/wrong_programs` chooses the sample.
 //!
 //! The replaying program has nothing but its stack, so what it lends are arrays of fixed lengths,
 //! the limits below; a case that passes one of them is left out. So is 40: its file would have
@@ -42,13 +43,8 @@ use differential::{
 };
 use std::{collections::BTreeMap, env, fs, path::Path};
 
-/// Enough drawn that every group has its share.
-const DRAWN: u64 = 400_000;
-/// The bytes of all cases together stay below this.
-const MOST_BYTES: usize = 1_450_000;
-
 // What the replaying program can lend: LENT, ROWS and BUILTINS of its source.
-const MOST_LENT: usize = 4_096;
+const MOST_LENT: usize = 16_384;
 const MOST_ROWS: usize = 256;
 const MOST_BUILTINS: usize = 64;
 
@@ -106,57 +102,6 @@ fn bytes(case: &Case) -> Vec<u8> {
     out
 }
 
-/// What a case shows: cases that agree in it stand for one another.
-fn shows(case: &Case, e: &Expected) -> Vec<u64> {
-    let w = &e.words;
-    let used = w[6] as usize;
-    let mut kinds = 0;
-    for k in 0..used {
-        kinds |= 1 << e.table[2][k];
-    }
-    // the kinds of relocation, as the sections of that type tell
-    let mut relocations = 0;
-    let field = |at: usize, width: usize| -> u64 {
-        (0..width).fold(0, |n, k| {
-            n | (case.file.get(at.wrapping_add(k)).copied().unwrap_or(0) as u64) << (8 * k)
-        })
-    };
-    for k in 0..field(60, 2).min(16) as usize {
-        let header = (field(40, 8) as usize).wrapping_add(64 * k);
-        if field(header.wrapping_add(4), 4) == 9 {
-            let (at, n) = (
-                field(header.wrapping_add(24), 8) as usize,
-                field(header.wrapping_add(32), 8).min(64) as usize / 16,
-            );
-            for k in 0..n {
-                relocations |= match field(at.wrapping_add(16 * k + 8), 4) {
-                    1 => 1,
-                    8 => 2,
-                    10 => 4,
-                    _ => 8,
-                };
-            }
-        }
-    }
-    vec![
-        // a refusal by the number, for what it says, and by the settings; an acceptance by all
-        case.settings.bits() * (w[0] == 0) as u64,
-        w[1].min(4),
-        w[3].min(3),
-        w[6].min(4),
-        w[7].min(3),
-        kinds,
-        w[8],
-        relocations,
-        (case.rows() as u64 == w[6]) as u64,
-        (case.columns != [case.rows(); 5]) as u64,
-        text_number(e),
-        (case.settings.bits() & 1) | (case.settings.bits() & 8),
-        (e.image.len() > case.file.len()) as u64,
-        (case.builtins.len() as u64).min(2),
-    ]
-}
-
 /// The replaying program can lend all that the case asks for.
 fn can_lend(case: &Case) -> bool {
     case.file.len().max(case.image).max(case.ro) <= MOST_LENT
@@ -164,80 +109,48 @@ fn can_lend(case: &Case) -> bool {
         && case.builtins.len() <= MOST_BUILTINS
 }
 
-fn main() {
-    let args: Vec<String> = env::args().skip(1).collect();
-    let Some(folder) = args.first() else {
-        eprintln!("vectors worked FOLDER | vectors FOLDER [CASES [SEED]]");
-        std::process::exit(2);
-    };
-    if let ("worked", Some(folder)) = (folder.as_str(), args.get(1)) {
-        return worked::write(folder);
+/// A case as a list names it: how it is drawn, its seed and its number.
+fn case_of(style: &str, seed: u64, number: u64) -> Case {
+    match style {
+        "small" => Case::small(seed, number),
+        "large" => Case::large(seed, number),
+        "faulty" => Case::faulty(seed, number),
+        "any" => Case::new(seed, number),
+        _ => panic!("{style}: a case is small, large, faulty or any"),
     }
-    let number = |k: usize, default: u64| {
-        args.get(k)
-            .map_or(default, |a| a.replace('_', "").parse().expect("a number"))
-    };
-    let (wanted, seed) = (number(1, 2_400) as usize, number(2, 1));
+}
 
-    // the smallest that shows each thing, by number and version
-    type Kept = (usize, u64);
-    let mut groups: BTreeMap<(u64, bool), BTreeMap<Vec<u64>, Kept>> = BTreeMap::new();
-    for k in 0..DRAWN {
-        let case = Case::small(seed, k);
+/// The cases of a list's line.
+fn cases_of(line: &str) -> Vec<(&str, u64, u64)> {
+    let words: Vec<&str> = line.split_whitespace().collect();
+    let number = |k: usize| words[k].parse::<u64>().expect("a number");
+    let count = if words.len() > 3 { number(3) } else { 1 };
+    (number(2)..number(2) + count)
+        .map(|k| (words[0], number(1), k))
+        .collect()
+}
+
+fn write(folder: &str, list: &str) {
+    let (mut binary, mut text, mut written) = (Vec::new(), String::new(), String::new());
+    let mut numbers: BTreeMap<(u64, bool), u64> = BTreeMap::new();
+    for (style, seed, number) in list.lines().flat_map(cases_of) {
+        let case = case_of(style, seed, number);
         if !can_lend(&case) {
             continue;
         }
         let e = expected(&case).expect("the model agrees with the Rust");
-        let size = bytes(&case).len();
-        let group = groups.entry((number_of(&e), case.version2)).or_default();
-        let kept = group.entry(shows(&case, &e)).or_insert((size, k));
-        *kept = (*kept).min((size, k));
-    }
-    let mut chosen = Vec::new();
-    for version2 in [false, true] {
-        let all: Vec<Kept> = groups
-            .remove(&(0, version2))
-            .expect("accepted files")
-            .into_values()
-            .collect();
-        let share = wanted * 3 / 16;
-        chosen.extend((0..share).map(|k| all[k * all.len() / share].1));
-    }
-    // the refusals: from each group the smallest in turn, until there are enough
-    let mut queues: Vec<Vec<Kept>> = groups
-        .into_values()
-        .map(|group| {
-            let mut queue: Vec<Kept> = group.into_values().collect();
-            queue.sort_unstable_by(|a, b| b.cmp(a));
-            queue
-        })
-        .collect();
-    while chosen.len() < wanted && queues.iter().any(|q| !q.is_empty()) {
-        for queue in queues.iter_mut() {
-            chosen.extend(queue.pop().map(|(_, k)| k));
-        }
-    }
-    chosen.truncate(wanted);
-    chosen.sort_unstable();
-    chosen.dedup();
-
-    let (mut binary, mut text) = (Vec::new(), String::new());
-    let mut numbers: BTreeMap<(u64, bool), u64> = BTreeMap::new();
-    for k in &chosen {
-        let case = Case::small(seed, *k);
-        let e = expected(&case).expect("the model agrees with the Rust");
         binary.extend(bytes(&case));
-        text += &line(&e);
-        text.push('\n');
+        text += &format!("{}\n", line(&e));
+        written += &format!("{style} {seed} {number}\n");
         *numbers.entry((number_of(&e), case.version2)).or_insert(0) += 1;
     }
-    assert!(
-        binary.len() < MOST_BYTES,
-        "{} bytes are too many: ask for fewer cases",
-        binary.len()
-    );
-    fs::write(Path::new(folder).join("stdin"), &binary).expect("a folder");
-    fs::write(Path::new(folder).join("stdout"), &text).expect("a folder");
+    for (name, bytes) in [
+        ("stdin", &binary[..]),
+        ("stdout", text.as_bytes()),
+        ("list", written.as_bytes()),
+    ] {
+        fs::write(Path::new(folder).join(name), bytes).expect("a folder");
+    }
     println!(
         "{} cases, {} bytes, {} bytes of answers",
         text.lines().count(),
@@ -246,5 +159,17 @@ fn main() {
     );
     for ((n, version2), count) in numbers {
         println!("{n:>3} version {} {count:>6}", 1 + version2 as u32);
+    }
+}
+
+fn main() {
+    let args: Vec<String> = env::args().skip(1).collect();
+    match &args[..] {
+        [what, folder] if what == "worked" => worked::write(folder),
+        [folder, list] => write(folder, &fs::read_to_string(list).expect("a list")),
+        _ => {
+            eprintln!("vectors FOLDER LIST | vectors worked FOLDER");
+            std::process::exit(2);
+        }
     }
 }
