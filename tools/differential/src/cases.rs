@@ -120,32 +120,42 @@ impl Case {
         } else {
             Style::Usual
         };
-        Case::drawn(r, style, 1)
+        Case::drawn(r, style, mutate::damage)
     }
 
     /// A case whose file is small.
     pub fn small(seed: u64, number: u64) -> Case {
-        Case::drawn(&mut Random::new(seed, number), Style::Small, 1)
+        Case::drawn(&mut Random::new(seed, number), Style::Small, mutate::damage)
     }
 
     /// A case whose file has more instructions than the constant table has keys.
     pub fn large(seed: u64, number: u64) -> Case {
-        Case::drawn(&mut Random::new(seed, number), Style::Large, 1)
+        Case::drawn(&mut Random::new(seed, number), Style::Large, mutate::damage)
     }
 
     /// A case whose file is small and damaged up to three times: of two faults the order of the checks shows.
     pub fn faulty(seed: u64, number: u64) -> Case {
-        Case::drawn(&mut Random::new(seed, number), Style::Small, 3)
+        let thrice = |r: &mut Random, file: &mut Vec<u8>| {
+            (0..3).fold(false, |any, _| mutate::damage(r, file) | any)
+        };
+        Case::drawn(&mut Random::new(seed, number), Style::Small, thrice)
     }
 
-    fn drawn(r: &mut Random, style: Style, damages: usize) -> Case {
+    /// A case whose file is small and has a relocation at its end.
+    pub fn end(seed: u64, number: u64) -> Case {
+        let r = &mut Random::new(seed, number);
+        Case::drawn(r, Style::Small, mutate::relocate_end)
+    }
+
+    fn drawn(
+        r: &mut Random,
+        style: Style,
+        damage: impl FnOnce(&mut Random, &mut Vec<u8>) -> bool,
+    ) -> Case {
         let made = elf::file(r, style);
         let settings = settings(r, &made);
         let mut file = made.bytes;
-        let mut sound = true;
-        for _ in 0..damages {
-            sound &= !mutate::damage(r, &mut file);
-        }
+        let sound = !damage(r, &mut file);
         let mut builtins = builtins(r);
 
         // how many rows the load asks for

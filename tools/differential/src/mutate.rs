@@ -204,3 +204,22 @@ pub fn damage(r: &mut Random, file: &mut Vec<u8>) -> bool {
     }
     n > 0
 }
+
+/// Moves relocations to the last bytes of a file, on either side of its end. In version 2 the first
+/// program header is made long enough to give that place an address.
+pub fn relocate_end(r: &mut Random, file: &mut Vec<u8>) -> bool {
+    let mut address = (file.len() as u64).saturating_sub(r.below(20));
+    if get(file, 48, 4) == 0x20 {
+        let header = get(file, 32, 8);
+        address = address
+            .wrapping_sub(get(file, header + 8, 8))
+            .wrapping_add(get(file, header + 16, 8));
+        set(file, header + 40, 0x1_0000, 8);
+    }
+    for (at, _, n, fields) in tables(file) {
+        if fields == REL {
+            set(file, at + 16 * r.below(n), address, 8);
+        }
+    }
+    true
+}

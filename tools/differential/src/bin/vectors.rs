@@ -27,9 +27,9 @@
 //! everything lent is zero.
 //!
 //! A list has a line for each case or run of cases: how it is drawn (`small` or `large`, by its file;
-//! `faulty`, small and damaged up to three times; `any`, as the comparison draws them), seed, number
-//! and, if not 1, how many from that number on. FOLDER/list has the cases written, one to a line.
-//! `tools/wrong_programs` chooses the sample.
+//! `faulty`, small and damaged up to three times; `end`, small with relocations at its end; `any`, as
+//! the comparison draws them), seed, number and, if not 1, how many from that number on. FOLDER/list
+//! has the cases written, one to a line. `tools/wrong_programs` chooses the sample.
 //!
 //! The replaying program has nothing but its stack, so what it lends are arrays of fixed lengths,
 //! the limits below; a case that passes one of them is left out. So is 40: its file would have
@@ -115,8 +115,9 @@ fn case_of(style: &str, seed: u64, number: u64) -> Case {
         "small" => Case::small(seed, number),
         "large" => Case::large(seed, number),
         "faulty" => Case::faulty(seed, number),
+        "end" => Case::end(seed, number),
         "any" => Case::new(seed, number),
-        _ => panic!("{style}: a case is small, large, faulty or any"),
+        _ => panic!("{style}: a case is small, large, faulty, end or any"),
     }
 }
 
