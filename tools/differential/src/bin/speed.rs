@@ -46,11 +46,13 @@ fn main() {
         .next()
         .map_or(41, |a| a.parse().expect("a number of rounds"));
     if lookups {
-        println!("| Rows | Key | Rust ns | Scan/Rust | Search ns | Search/Rust (quartiles) | Index ns | Index/Rust (quartiles) |");
-        println!("|---|---|---|---|---|---|---|---|");
-        for rows in [10, 200, 1_000, 5_000, 100_000] {
-            for hit in [true, false] {
-                lookup_row(rows, hit, rounds);
+        println!("| Keys asked | Rows | Key | Rust ns | Scan/Rust | Search ns | Search/Rust (quartiles) | Index ns | Index/Rust (quartiles) |");
+        println!("|---|---|---|---|---|---|---|---|---|");
+        for asked in [FEW, MANY] {
+            for rows in [10, 200, 1_000, 5_000, 100_000] {
+                for hit in [true, false] {
+                    lookup_row(asked, rows, hit, rounds);
+                }
             }
         }
         return;
@@ -160,9 +162,13 @@ fn row(size: usize, functions: usize, version2: bool, labels: bool, rounds: usiz
     );
 }
 
-/// Keys drawn all over, and as many that branch prediction does not learn them.
-fn lookup_row(rows: usize, hit: bool, rounds: usize) {
-    const ASKED: usize = 65_536;
+/// The keys of a round, the same in each: so few that branch prediction can learn their order in a
+/// small table, as that of a program which calls the same functions again and again; and many more.
+const FEW: usize = 4_096;
+const MANY: usize = 65_536;
+
+/// Keys drawn all over.
+fn lookup_row(count: usize, rows: usize, hit: bool, rounds: usize) {
     let r = &mut Random::new(11, rows as u64);
     let mut keys: Vec<u32> = (0..rows).map(|_| r.next() as u32 | 1).collect();
     keys.sort_unstable();
@@ -179,12 +185,12 @@ fn lookup_row(rows: usize, hit: bool, rounds: usize) {
     let indices: Vec<u32> = (0..rows as u32).collect();
     let table = [keys.clone(), indices, vec![3; rows], vec![0; rows], vec![0; rows]];
     // no key of the table is even
-    let asked: Vec<u32> = (0..ASKED)
+    let asked: Vec<u32> = (0..count)
         .map(|_| keys[r.index(rows)] - if hit { 0 } else { 1 })
         .collect();
     let used = rows as u64;
     // a scan of many rows is asked fewer times
-    let few = &asked[..(4_000_000 / rows).clamp(8, ASKED)];
+    let few = &asked[..(4_000_000 / rows).clamp(8, count)];
     for (i, key) in asked.iter().enumerate() {
         let there = registry.lookup_by_key(*key).map(|(_, index)| index as u64);
         let row = |by_search| {
@@ -230,7 +236,7 @@ fn lookup_row(rows: usize, hit: bool, rounds: usize) {
     };
     let middle = |times: &[f64]| quartiles(times.to_vec())[1];
     println!(
-        "| {rows} | {} | {:.1} | {:.1} | {:.1} | {} | {:.1} | {} |",
+        "| {count} | {rows} | {} | {:.1} | {:.1} | {:.1} | {} | {:.1} | {} |",
         if hit { "there" } else { "absent" },
         middle(&rust),
         middle(&scan) / middle(&rust),
