@@ -173,7 +173,7 @@ textAnswer (NoText e) = reported (load.reportOf e)
 
 -- ---- what private contracts cite
 
--- the nine words of a row's answer that are not always 0, with the number before them
+-- the first nine words of a row's answer, its number the first; behind them are zeros
 abbrev pub nineWords : ℕ → ℕ → ℕ → ℕ → ℕ → List ℕ
 nineWords found index kind start size = 0 ∷ 0 ∷ 0 ∷ 0 ∷ found ∷ index ∷ kind ∷ start ∷ size ∷ []
 

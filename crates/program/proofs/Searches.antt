@@ -60,7 +60,7 @@ unfolding narrowed _if_else_
 narrow-ends k xs base zero l = refl
 narrow-ends k xs base (suc n) l = rw (le-ltb 8 (suc n) l) refl
 
--- as the code binarySearch the first n numbers of a slice
+-- as the code halves the first n numbers of a slice
 module _ (ranks : List ℕ) (n k whole : ℕ) (base size : ℕ) (l : 8 < size) (h : base + size ≤ n) where
   pub narrow-again : narrowed size k (take n ranks) base size ≡ whole
       → narrowed (size - size / 2) k (take n ranks) (base + (size / 2 if leb (getD ranks (base + size / 2) 0) k else 0)) (size - size / 2) ≡ whole
