@@ -44,9 +44,13 @@ int main(int argc, char **argv) {
         uint64_t name[SBPF_WORDS], place[SBPF_WORDS];
         uint32_t sh_name = word32(file + a[SBPF_SECTION_HEADERS] + 64 * i);
         sbpf_section_name(file, len, sh_name, name, SBPF_WORDS);
-        sbpf_section_place(file, len, i, place, SBPF_WORDS);
-        printf("  %-16.*s %" PRIu64 " bytes at %" PRIu64 "\n", (int)name[SBPF_LENGTH],
-               (const char *)file + name[SBPF_START], place[SBPF_LENGTH], place[SBPF_START]);
+        uint32_t refused = sbpf_section_place(file, len, i, place, SBPF_WORDS);
+        printf("  %-16.*s ", (int)name[SBPF_LENGTH], (const char *)file + name[SBPF_START]);
+        if (refused == SBPF_NotASection) {
+            printf("no section: its header is of type 0\n");
+        } else {
+            printf("%" PRIu64 " bytes at %" PRIu64 "\n", place[SBPF_LENGTH], place[SBPF_START]);
+        }
     }
     printf("hash of the text entrypoint: %#" PRIx32 "\n",
            sbpf_hash((const uint8_t *)"entrypoint", 10));

@@ -65,6 +65,7 @@ enum {
     SBPF_TableFull = 43, /* value: the rows of the table */
     SBPF_TextOutsideReadOnly = 44,
     SBPF_NoSuchIndex = 45,
+    SBPF_NotASection = 46,
 };
 
 /* Words of an accepted parse. A header that was found by name is given by its offset in the
@@ -134,7 +135,8 @@ uint32_t sbpf_parse(const uint8_t *file, size_t file_len, uint64_t *answer, size
 
 /* These parse first; a file that is refused answers its refusal. */
 
-/* The contents of a section; 45 where there is none of that index. */
+/* The contents of a section; 45 where there is none of that index, 46 where its header is of
+ * type 0. */
 uint32_t sbpf_section_place(const uint8_t *file, size_t file_len, uint32_t index,
                             uint64_t *answer, size_t answer_len);
 

@@ -225,8 +225,8 @@ fn part(question: Question, file: &[u8], number: u32) -> Result<&[u8], Refusal> 
     Ok(&file[a[4] as usize..(a[4] + a[5]) as usize])
 }
 
-/// The contents of a section; 45 where there is none of that index. This and the next four parse
-/// the file first, and answer its refusal.
+/// The contents of a section; 45 where there is none of that index, 46 where its header is of type 0.
+/// This and the next four parse the file first, and answer its refusal.
 pub fn section(file: &[u8], index: u32) -> Result<&[u8], Refusal> {
     part(c::sbpf_section_place, file, index)
 }

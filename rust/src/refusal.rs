@@ -84,6 +84,7 @@ reasons! {
     43 TableFull " with {} rows",
     44 TextOutsideReadOnly,
     45 NoSuchIndex,
+    46 NotASection,
 }
 
 /// Why there is nothing, and what goes with it. The name that it speaks of is the part of the file

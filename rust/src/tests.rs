@@ -176,6 +176,7 @@ fn the_readers_answer_parts_of_the_file() {
     assert_eq!(layout.symtab, 0);
     assert_eq!(section(EXAMPLE, 1), Ok(&EXAMPLE[64..80]));
     assert_eq!(section(EXAMPLE, 3), Err(refusal(45, 0)));
+    assert_eq!(section(EXAMPLE, 0), Err(refusal(46, 0)));
     assert_eq!(section_name(EXAMPLE, 1), Ok(&b".text"[..]));
     assert_eq!(symbol_name(EXAMPLE, 1), Err(refusal(12, 0)));
     assert_eq!(dynamic_symbol_name(EXAMPLE, 1), Err(refusal(13, 0)));

@@ -3,7 +3,7 @@ use Prim.Native.Nat.{ℕ}
 use mathlib.Core.Path.{_≡_, refl}
 use native.Mathlib.Omega.{arith}
 use Rattle.elf_parser.specs.declared.error.ElfParserError.{ElfParserError}
-use Rattle.elf_parser.specs.declared.error.ElfParserError.the-variants.{InvalidFileHeader, InvalidProgramHeader, InvalidSectionHeader, StringTooLong, OutOfBounds, InvalidSize, Overlap, SectionNotInOrder, NoSectionNameStringTable, InvalidDynamicSectionTable, InvalidAlignment, NoStringTable, NoDynamicStringTable, NoSuchIndex}
+use Rattle.elf_parser.specs.declared.error.ElfParserError.the-variants.{InvalidFileHeader, InvalidProgramHeader, InvalidSectionHeader, StringTooLong, OutOfBounds, InvalidSize, Overlap, SectionNotInOrder, NoSectionNameStringTable, InvalidDynamicSectionTable, InvalidAlignment, NoStringTable, NoDynamicStringTable, NoSuchIndex, NotASection}
 use Rattle.elf_parser.specs.declared.error.Report.{Report}
 use Rattle.elf_parser.specs.declared.error.Check.{Check}
 use Rattle.elf_parser.specs.declared.error.Check.the-variants.{Pass, Refused}
@@ -28,6 +28,7 @@ reportOf InvalidAlignment = plain 11
 reportOf NoStringTable = plain 12
 reportOf NoDynamicStringTable = plain 13
 reportOf NoSuchIndex = plain 45
+reportOf NotASection = plain 46
 
 -- one check after another: the first refusal counts
 infixr 3 _then_

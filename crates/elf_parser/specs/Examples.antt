@@ -1,21 +1,25 @@
 -- Examples on names, tables and sections beside the scope's marked ones, which stand in one table (`worked` in the loader's specs): each holds by computation.
-use mathlib.Core.List.{[], _∷_, _++_}
+use Prim.Native.Nat.{ℕ}
+use mathlib.Core.List.{List, [], _∷_, _++_}
 use mathlib.Core.Path.{_≡_, refl}
 use lib.ListN.{replicate}
 use Rattle.ebpf.specs.Choice.{_if_else_}
 use Rattle.ebpf.specs.LittleEndian.{le}
-use Rattle.elf_parser.specs.declared.error.ElfParserError.the-variants.{InvalidFileHeader, StringTooLong, OutOfBounds, Overlap, SectionNotInOrder, NoSectionNameStringTable, InvalidAlignment, InvalidSize}
+use Rattle.elf_parser.specs.declared.error.ElfParserError.the-variants.{InvalidFileHeader, StringTooLong, OutOfBounds, Overlap, SectionNotInOrder, NoSectionNameStringTable, InvalidAlignment, InvalidSize, NoSuchIndex, NotASection}
 use Rattle.elf_parser.specs.declared.error.Check.the-variants.{Pass, Refused}
 use Rattle.elf_parser.specs.declared.types.Elf64Ehdr.{Elf64Ehdr}
 use Rattle.elf_parser.specs.declared.types.Elf64Shdr.{Elf64Shdr}
-use Rattle.elf_parser.specs.declared.parts.Place.the-variants.{Refused as NoPlace}
+use Rattle.elf_parser.specs.declared.parts.Place.the-variants.{At as Stands, Refused as NoPlace}
+use Rattle.elf_parser.specs.declared.layout.Layout.{Layout}
 use Rattle.elf_parser.specs.declared.layout.Parsed.the-variants.{Refused as NoFile}
 use Rattle.elf_parser.specs.declared.records.Sliced.the-variants.{Refused as NoSlice}
 use Rattle.elf_parser.specs.declared.section_headers.Ranges.{Ranges}
 use Rattle.elf_parser.specs.FileHeader.{headerCheck, headerRight, headerFixed, tablesCheck}
 use Rattle.elf_parser.specs.SectionHeaders.{sectionCheck}
 use Rattle.elf_parser.specs.Strings.{stringIn, stringCheck, gives, terminated, beforeZero}
-use Rattle.elf_parser.specs.Records.{sliced}
+use Rattle.elf_parser.specs.Records.{sliced, no-entries, entryAt, fileRange, fileRangeOf, contentsPlace, sectionPlaceOf}
+use Rattle.elf_parser.specs.Parts.{bytesAt, partOf}
+use Rattle.elf_parser.specs.Types.{sectionHeader}
 use Rattle.elf_parser.specs.Dynamic.{withTag, valuesFrom, dynamicValues}
 use Rattle.elf_parser.specs.Parse.{namedLayout, parsed, fileCheck}
 use Rattle.elf_parser.specs.Errors.{_then_}
@@ -104,3 +108,37 @@ outside = refl
 dynamic-values : dynamicValues (6 ∷ replicate 7 0 ++ (1 ∷ replicate 7 0) ++ (35 ∷ replicate 7 0) ++ (9 ∷ replicate 7 0) ++ (6 ∷ replicate 7 0) ++ (2 ∷ replicate 7 0) ++ replicate 16 0 ++ (6 ∷ replicate 7 0) ++ (3 ∷ replicate 7 0)) 5 0 ≡ replicate 6 0 ++ (2 ∷ replicate 28 0)
 unfolding valuesFrom withTag _if_else_ le
 dynamic-values = refl
+
+-- three section headers from byte 0 on: of type 0 with odd numbers, twice, and of type 1
+abbrev shdr : ℕ → ℕ → ℕ → List ℕ
+shdr type offset size = replicate 4 0 ++ (type ∷ replicate 19 0) ++ (offset ∷ replicate 7 0) ++ (size ∷ replicate 31 0)
+
+three-headers : List ℕ
+three-headers = shdr 0 4 10 ++ shdr 0 200 200 ++ shdr 1 4 10
+
+three-layout : Layout
+three-layout = record {
+  «program_headers» = no-entries;
+  «section_headers» = record { offset = 0; count = 3 };
+  shstrtab = 0;
+  symtab = 0;
+  strtab = 0;
+  dynstr = 0;
+  «dynamic_relocations» = no-entries;
+  «dynamic_symbols» = no-entries;
+}
+
+-- contents by index: a header of type 0 has none, whatever its numbers are and at whichever index; past the table it is 45
+blank-headers : sectionPlaceOf three-headers three-layout 0 ∷ sectionPlaceOf three-headers three-layout 1 ∷ sectionPlaceOf three-headers three-layout 2 ∷ sectionPlaceOf three-headers three-layout 3 ∷ []
+    ≡ NoPlace NotASection ∷ NoPlace NotASection ∷ Stands 4 10 ∷ NoPlace NoSuchIndex ∷ []
+unfolding three-headers three-layout contentsPlace fileRange entryAt sectionHeader le _if_else_
+blank-headers = refl
+
+-- the part is empty; the range in the file, which a load reads, is that of its numbers
+blank-part : partOf three-headers (sectionPlaceOf three-headers three-layout 0) ≡ []
+unfolding three-headers three-layout contentsPlace entryAt sectionHeader le bytesAt _if_else_
+blank-part = refl
+
+blank-range : fileRangeOf three-headers three-layout 0 ≡ Stands 4 10
+unfolding three-headers three-layout fileRange entryAt sectionHeader le _if_else_
+blank-range = refl

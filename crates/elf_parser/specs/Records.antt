@@ -10,7 +10,7 @@ use native.Mathlib.Nat.{div-add-mod}
 use native.Mathlib.Omega.{arith}
 use Rattle.ebpf.specs.Choice.{_if_else_, not-first, row-rest, row-cases, pastWord}
 use Rattle.elf_parser.specs.declared.error.ElfParserError.{ElfParserError}
-use Rattle.elf_parser.specs.declared.error.ElfParserError.the-variants.{OutOfBounds, InvalidSize, InvalidAlignment, InvalidSectionHeader, NoSuchIndex}
+use Rattle.elf_parser.specs.declared.error.ElfParserError.the-variants.{OutOfBounds, InvalidSize, InvalidAlignment, InvalidSectionHeader, NoSuchIndex, NotASection}
 use Rattle.elf_parser.specs.declared.parts.Place.{Place}
 use Rattle.elf_parser.specs.declared.parts.Place.the-variants.{At as Stands, Refused as NoPlace}
 use Rattle.elf_parser.specs.declared.types.Elf64Shdr.{Elf64Shdr}
@@ -29,7 +29,7 @@ use Rattle.elf_parser.specs.declared.records.Sym.the-variants.{Symbol, R
 use Rattle.elf_parser.specs.declared.records.Rel.{Rel}
 use Rattle.elf_parser.specs.declared.records.Rel.the-variants.{Relocation, Refused as NoRel}
 use Rattle.elf_parser.specs.Parts.{no-place}
-use Rattle.elf_parser.specs.Types.{programHeader, sectionHeader, sym, rel, SHT-SYMTAB, SHT-DYNSYM, SHT-NOBITS}
+use Rattle.elf_parser.specs.Types.{programHeader, sectionHeader, sym, rel, SHT-NULL, SHT-SYMTAB, SHT-DYNSYM, SHT-NOBITS}
 
 -- where an entry of a table starts, the entries `width` bytes each
 unfoldable pub entryAt : ℕ → Entries → ℕ → ℕ → Entry
@@ -118,9 +118,18 @@ rangeBy len (NoShdr r) = NoPlace r
 abbrev pub fileRangeOf : List ℕ → Layout → ℕ → Place
 fileRangeOf s l index = rangeBy (length s) (sectionHeaderOf s l index)
 
--- contents by index
+-- contents by index: their range in the file, none for a header of type SHT_NULL, whose other members have no meaning
+unfoldable pub contentsPlace : ℕ → Elf64Shdr → Place
+contentsPlace len h =
+    NoPlace NotASection if eqb (h .«sh_type») SHT-NULL else
+    fileRange len h
+
+abbrev pub contentsBy : ℕ → Shdr → Place
+contentsBy len (SHeader h) = contentsPlace len h
+contentsBy len (NoShdr r) = NoPlace r
+
 abbrev pub sectionPlaceOf : List ℕ → Layout → ℕ → Place
-sectionPlaceOf s l index = fileRangeOf s l index
+sectionPlaceOf s l index = contentsBy (length s) (sectionHeaderOf s l index)
 
 -- ---- laws
 

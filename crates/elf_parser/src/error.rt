@@ -19,6 +19,7 @@ pub enum ElfParserError {
     NoStringTable,
     NoDynamicStringTable,
     NoSuchIndex,
+    NotASection,
 }
 
 // A refusal in numbers: its number, its value, and the place of the name that it speaks of.
@@ -69,5 +70,6 @@ pub fn report_of(e: ElfParserError) -> Report
         ElfParserError::NoStringTable => plain(12),
         ElfParserError::NoDynamicStringTable => plain(13),
         ElfParserError::NoSuchIndex => plain(45),
+        ElfParserError::NotASection => plain(46),
     }
 }

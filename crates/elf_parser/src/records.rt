@@ -2,6 +2,7 @@
 // made.
 use crate::consts::SHT_DYNSYM;
 use crate::consts::SHT_NOBITS;
+use crate::consts::SHT_NULL;
 use crate::consts::SHT_SYMTAB;
 use crate::error::ElfParserError;
 use crate::layout::Layout;
@@ -18,7 +19,7 @@ use crate::types::shdr_at;
 use crate::types::sym_at;
 ghost use mathlib.Core.Path.{_≡_};
 ghost use Prim.Native.Nat.{_+_, _≤_, _<_};
-ghost use Rattle.elf_parser.specs.Records.{entryAt, phdrOf, shdrOf, symOf, relOf, programHeaderOf, sectionHeaderOf, dynamicSymbolOf, dynamicRelocationOf, sliced, symbolTableIn, symbolTableOf, fileRange, fileRangeOf, sectionPlaceOf};
+ghost use Rattle.elf_parser.specs.Records.{entryAt, phdrOf, shdrOf, symOf, relOf, programHeaderOf, sectionHeaderOf, dynamicSymbolOf, dynamicRelocationOf, sliced, symbolTableIn, symbolTableOf, fileRange, fileRangeOf, contentsPlace, sectionPlaceOf};
 ghost use Rattle.elf_parser.specs.Parts.{partOf};
 
 // Entries of one kind that stand one after another in the file.
@@ -218,11 +219,24 @@ pub fn file_range(file: &[u8], layout: Layout, index: u32) -> Place
     }
 }
 
+// A header of type SHT_NULL is no section's: its other fields have no meaning.
+fn contents_in_file(len: u64, header: Elf64Shdr) -> Place
+    ensures { λ r. ⌜ r ≡ contentsPlace len header ⌝ }
+{
+    if header.sh_type == SHT_NULL {
+        return Place::Refused(ElfParserError::NotASection);
+    }
+    range_in_file(len, header)
+}
+
 // Where the contents of section `index` stand.
 pub fn section_place(file: &[u8], layout: Layout, index: u32) -> Place
     ensures { λ r. ⌜ r ≡ sectionPlaceOf (now (file .entry)) layout index ⌝ }
 {
-    file_range(file, layout, index)
+    match section_header(file, layout, index) {
+        Shdr::Header(header) => contents_in_file(file.len() as u64, header),
+        Shdr::Refused(r) => Place::Refused(r),
+    }
 }
 
 // The contents of section `index`; none where they are refused.

@@ -48,6 +48,7 @@ names =
     ∷ (43, "TableFull")
     ∷ (44, "TextOutsideReadOnly")
     ∷ (45, "NoSuchIndex")
+    ∷ (46, "NotASection")
     ∷ []
 
 -- the bytes of a text whose characters are one byte long

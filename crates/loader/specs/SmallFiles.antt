@@ -79,6 +79,28 @@ version-2 = oneCall 0x20 0x1_0000_0000
 abbrev pub version-1 : List ℕ
 version-1 = oneCall 0 64
 
+-- a zero, .text, a zero, .rodata, a zero, .shstrtab and zeros: 32 bytes
+abbrev rodataNames : List ℕ
+rodataNames =
+    0 ∷ 46 ∷ 116 ∷ 101 ∷ 120 ∷ 116 ∷ 0 ∷ 46 ∷ 114 ∷ 111 ∷ 100 ∷ 97 ∷ 116 ∷ 97 ∷ 0
+    ∷ 46 ∷ 115 ∷ 104 ∷ 115 ∷ 116 ∷ 114 ∷ 116 ∷ 97 ∷ 98 ∷ 0 ∷ bytesOf 7 0
+
+-- A .RODATA: 368 bytes, version 1. An empty slot at byte 64, which is the text and its entry; .rodata, eight bytes at 72, its header of this type; .shstrtab at 80;
+-- four section headers from 112 on
+abbrev pub withRodata : ℕ → List ℕ
+withRodata type =
+    joined (
+    fileHeader 0 64 112 4 3
+    ∷ empty
+    ∷ bytesOf 8 7
+    ∷ rodataNames
+    ∷ section 0 0 0 0 0 0
+    ∷ section 1 1 6 64 64 8
+    ∷ section 7 type 2 72 72 8
+    ∷ section 15 3 0 0 80 25
+    ∷ []
+    )
+
 -- a zero, .text, a zero, .strtab, a zero, .symtab, a zero, .shstrtab and zeros: 40 bytes
 abbrev labelNames : List ℕ
 labelNames =

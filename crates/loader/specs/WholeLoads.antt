@@ -46,7 +46,7 @@ use Rattle.loader.specs.declared.validate.Verdict.the-variants.{Pass, Re
 use Rattle.loader.specs.declared.error.ElfError.the-variants.{FileTooLong, BufferShort}
 use Rattle.loader.specs.Errors.{reportOf}
 use Rattle.loader.specs.Load.{Loading, holds, refuses}
-use Rattle.loader.specs.SmallFiles.{settings, all-on, unchecked, oneCall, version-1, version-2, twoLabels}
+use Rattle.loader.specs.SmallFiles.{settings, all-on, unchecked, oneCall, version-1, version-2, withRodata, twoLabels}
 
 -- accepted: 0, version, entry, rows and moves; refused: number, value, and the name's start and length
 abbrev numbered : Report → List ℕ
@@ -175,6 +175,16 @@ place :
     ∷ []
 unfolding _if_else_ indexKey keyIn slotAt insnAt le bytesOf body murmur3 firstWith segmentSlice sectionSlice orElse withTag valuesFrom sectionOffset orSection relocationsAt relocationsBy relocationsOf symbolsBy symbolsOf linking dynamicIn _then-reader_ headerFixed headerRight reader-headerCheck tablesCheck _into_ over nameBy firstCheck fileCheck namedLayout parsed bytesAt loadStep containsStep entryAt sliced symbolTableIn symbolTableOf fileRange sectionCheck leaves sectionStep sameBytes roleOf reader-placed named stringCheck beforeZero terminated reader-gives stringIn fileHeader programHeader sectionHeader sym rel legacyKey keptSymbol isTaken legacyRow rank register registered unregister narrowed below countedFrom binarySearch isAmong machineAddr put inside target isLocalCall callOf callAt callDeed slotTrace deedTrace entryDeed rowFor labelOf labelDeed labelSymbols labelTrace loadOf jobTrace readOnly loader-gives invalidBy endOf grown taken gatherStep fromStart canBorrow borrowed owned loader-placed placing copiedTo copyStep copiedFrom relocationAt headerAt firstFrom usedHeader usedBefore placeOf within programAddress immediateAt halvesDeed wordDeed addressDeed plan6464 relativeText relativeValue planRelative functionCall builtinCall callByName plan6432 planAt relocationTrace sectionAt startsWith unsupported outsideFile surveyStep surveyFrom andThen each settle sizeCheck ascends loader-headerCheck sectionsCheck textCheck jobOf _then_ validated prepared
 place = refl
+
+-- where the read-only bytes stand in the image, and how many they are
+abbrev readOnlyAt : Loading → List ℕ
+readOnlyAt (holds a im ro rows) = 0 ∷ a .«ro_start» ∷ a .«ro_length» ∷ []
+readOnlyAt (refuses e) = numbered (reportOf e)
+
+-- a .rodata counts among the read-only sections also where its header is of type 0; contents by index refuse such a header, a load does not
+rodata : readOnlyAt (loadOf (withRodata 1) [] all-on 368 368 4) ∷ readOnlyAt (loadOf (withRodata 0) [] all-on 368 368 4) ∷ [] ≡ (0 ∷ 64 ∷ 16 ∷ []) ∷ (0 ∷ 64 ∷ 16 ∷ []) ∷ []
+unfolding _if_else_ indexKey keyIn slotAt insnAt le bytesOf body murmur3 firstWith segmentSlice sectionSlice orElse withTag valuesFrom sectionOffset orSection relocationsAt relocationsBy relocationsOf symbolsBy symbolsOf linking dynamicIn _then-reader_ headerFixed headerRight reader-headerCheck tablesCheck _into_ over nameBy firstCheck fileCheck namedLayout parsed bytesAt loadStep containsStep entryAt sliced symbolTableIn symbolTableOf fileRange sectionCheck leaves sectionStep sameBytes roleOf reader-placed named stringCheck beforeZero terminated reader-gives stringIn fileHeader programHeader sectionHeader sym rel legacyKey keptSymbol isTaken legacyRow rank register registered unregister narrowed below countedFrom binarySearch isAmong machineAddr put inside target isLocalCall callOf callAt callDeed slotTrace deedTrace entryDeed rowFor labelOf labelDeed labelSymbols labelTrace loadOf jobTrace readOnly loader-gives invalidBy endOf grown taken gatherStep fromStart canBorrow borrowed owned loader-placed placing copiedTo copyStep copiedFrom relocationAt headerAt firstFrom usedHeader usedBefore placeOf within programAddress immediateAt halvesDeed wordDeed addressDeed plan6464 relativeText relativeValue planRelative functionCall builtinCall callByName plan6432 planAt relocationTrace sectionAt startsWith unsupported outsideFile surveyStep surveyFrom andThen each settle sizeCheck ascends loader-headerCheck sectionsCheck textCheck jobOf _then_ validated prepared
+rodata = refl
 
 -- the call's target: the last slot, one behind it, its own slot, and one before the first
 call-target :

@@ -91,6 +91,7 @@ pub fn from_parser(e: ElfParserError) -> ElfError
         ElfParserError::NoStringTable => ElfError::FailedToParse(e),
         ElfParserError::NoDynamicStringTable => ElfError::FailedToParse(e),
         ElfParserError::NoSuchIndex => ElfError::FailedToParse(e),
+        ElfParserError::NotASection => ElfError::FailedToParse(e),
     }
 }
 

@@ -1,6 +1,7 @@
 // The line of a load: `refused` with number, value, name start and name length; or `accepted` with the
 // words of the answer from the version on, then key, index, and the name's kind, start and length of
-// each row, and the words of the image that are not the file's, with their places.
+// each row, and the words of the image that are not the file's, with their places. The line of a
+// question: `refused` likewise, or how many bytes and where they start.
 use ebpf::little_endian::read_u32;
 
 // The longest file, and the most rows.
@@ -70,6 +71,23 @@ fn print_written(file: &[u8], image: &[u8; FILE]) {
     }
 }
 
+fn print_refused(answer: &[u64; 24]) {
+    io::write_all(1, b"refused");
+    print_words(answer, 0, 4);
+    io::write_all(1, b"\n");
+}
+
+pub(crate) fn print_place(number: u32, answer: &[u64; 24]) {
+    if number == 0 {
+        io::print_decimal(1, answer[5]);
+        io::write_all(1, b" bytes at");
+        print_words(answer, 4, 5);
+        io::write_all(1, b"\n");
+    } else {
+        print_refused(answer);
+    }
+}
+
 pub(crate) fn print_line(
     number: u32,
     answer: &[u64; 24],
@@ -86,9 +104,8 @@ pub(crate) fn print_line(
         print_words(answer, 4, 15);
         print_rows(keys, indices, kinds, starts, lengths, answer[6]);
         print_written(file, image);
+        io::write_all(1, b"\n");
     } else {
-        io::write_all(1, b"refused");
-        print_words(answer, 0, 4);
+        print_refused(answer);
     }
-    io::write_all(1, b"\n");
 }

@@ -1,20 +1,26 @@
-// Runs the scope's worked examples through the C interface: records on standard input, a line for
+// Runs worked examples through the C interface: records on standard input, a line for
 // each on standard output. tools/differential makes both; README.md says how.
 //
-// A record has a title, padded with spaces, which starts the line; five numbers of 32 bits: the
+// A record has a title, padded with spaces, which starts the line; seven numbers of 32 bits: the
 // file's length, the settings by their bits, how many built-ins there are, one at most, the built-in,
-// and the rows; and the file. What is lent holds anything but zeros before the load.
+// the rows, what is asked, 0 for a load, and the number that a question has; and the file. What is lent
+// holds anything but zeros before.
 use ebpf::little_endian::read_u32;
+use exports::sbpf_dynamic_symbol_name;
 use exports::sbpf_load;
+use exports::sbpf_section_name;
+use exports::sbpf_section_place;
+use exports::sbpf_symbol_name;
 use lines::FILE;
 use lines::ROWS;
 use lines::print_line;
+use lines::print_place;
 
 mod lines;
 
 const TITLE: usize = 80;
 
-const NUMBERS: usize = 20;
+const NUMBERS: usize = 28;
 // More examples than there are: a loop needs a bound, and the input gives none.
 const MOST: usize = 1000;
 
@@ -63,7 +69,31 @@ fn load_and_print(file: &[u8], builtins: &[u32], settings: u32, rows: usize) -> 
     true
 }
 
-// Reads the file behind a record's numbers, and loads it.
+fn ask(file: &[u8], question: u32, number: u32, answer: &mut [u64]) -> u32 {
+    if question == 1 {
+        return sbpf_section_place(file, number, answer);
+    }
+    if question == 2 {
+        return sbpf_section_name(file, number, answer);
+    }
+    if question == 3 {
+        return sbpf_symbol_name(file, number, answer);
+    }
+    sbpf_dynamic_symbol_name(file, number, answer)
+}
+
+// Asks the file, and prints what was answered.
+fn ask_and_print(file: &[u8], question: u32, number: u32) -> bool {
+    if 4 < question {
+        return bad_record();
+    }
+    let mut answer = [0xa8a8_a8a8u64; 24];
+    let refused = ask(file, question, number, &mut answer);
+    print_place(refused, &answer);
+    true
+}
+
+// Reads the file behind a record's numbers, and loads or asks it.
 fn run(numbers: &[u8; NUMBERS], file: &mut [u8]) -> bool {
     let length = read_u32(numbers, 0) as usize;
     let count = read_u32(numbers, 8) as usize;
@@ -74,6 +104,10 @@ fn run(numbers: &[u8; NUMBERS], file: &mut [u8]) -> bool {
         return bad_record();
     }
     io::read_full(0, &mut file[..length]);
+    let question = read_u32(numbers, 20);
+    if 0 < question {
+        return ask_and_print(&file[..length], question, read_u32(numbers, 24));
+    }
     let builtins = [read_u32(numbers, 12)];
     load_and_print(
         &file[..length],

@@ -248,6 +248,8 @@ impl Comparer {
             let mut words = [0; WORDS];
             match headers.get(index as usize) {
                 None => words[0] = 45,
+                // the Rust has a range for it; the request says that its members have no meaning
+                Some(header) if header.sh_type == 0 => words[0] = 46,
                 Some(header) => {
                     let range = header.file_range().unwrap_or_default();
                     words = place_words(range.start as u64, range.len() as u64);

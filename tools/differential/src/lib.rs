@@ -105,6 +105,7 @@ pub fn number_name(number: u32) -> &'static str {
         43 => "TableFull",
         44 => "TextOutsideReadOnly",
         45 => "NoSuchIndex",
+        46 => "NotASection",
         _ => "?",
     }
 }

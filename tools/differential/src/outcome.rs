@@ -1,6 +1,6 @@
 //! The Rust's answer to a load, in the scope's terms.
 
-use crate::Settings;
+use crate::{port::Question, Settings};
 use rbpf::{
     aligned_memory::AlignedMemory,
     ebpf,
@@ -206,6 +206,26 @@ pub fn load_once(file: &[u8], loader: &Arc<BuiltinProgram<TestContextObject>>) -
 /// The Rust's hash.
 pub fn hash(name: &[u8]) -> u32 {
     ebpf::hash_symbol_name(name)
+}
+
+/// The Rust's answer to a question to a file: a start and a length, of no bytes (0, 0).
+pub fn ask(file: &[u8], question: Question, number: u32) -> Result<(u64, u64), Refused> {
+    let aligned = AlignedMemory::<16>::from_slice(file);
+    let bytes = aligned.as_slice();
+    let elf = Elf64::parse(bytes).map_err(parser_refusal)?;
+    let name = match question {
+        Question::SectionPlace => {
+            let header = elf.section_header_table().get(number as usize);
+            let range = header.and_then(|h| h.file_range()).unwrap_or_default();
+            return Ok((range.start as u64, range.len() as u64));
+        }
+        Question::SectionName => elf.section_name(number),
+        Question::SymbolName => elf.symbol_name(number),
+        Question::DynamicSymbolName => elf.dynamic_symbol_name(number),
+    };
+    let name = name.map_err(parser_refusal)?;
+    let start = name.as_ptr() as usize - bytes.as_ptr() as usize;
+    Ok((start as u64, name.len() as u64))
 }
 
 /// The Rust's answer. `builtins` ascends strictly. `rows` only decides

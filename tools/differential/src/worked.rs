@@ -9,7 +9,7 @@ use crate::{
     elf::{PROGRAM_START, STACK_START},
     expected::{expected, Expected, LONGEST},
     loads, outcome,
-    port::{self, Columns},
+    port::{self, Columns, Question},
     Outcome, Settings,
 };
 use std::{fmt, fs, path::Path};
@@ -25,6 +25,8 @@ enum Told {
     /// Version, entry, keys, moves; key, index, and the name's kind, start and length of each row; and
     /// the image's words that are not the file's, with their places.
     Accepted([u64; 4], Vec<[u32; 5]>, Vec<(u32, usize)>),
+    /// Start and length, of a question to the file.
+    Place(u64, u64),
 }
 
 /// The words of `image` that are not the file's.
@@ -64,6 +66,7 @@ impl fmt::Display for Told {
                 told_rows(rows),
                 told_written(words)
             ),
+            Told::Place(start, length) => write!(f, "{length} bytes at {start}"),
         }
     }
 }
@@ -105,12 +108,23 @@ impl Told {
                 }
                 text + &told_written(words)
             }
+            Told::Place(..) => self.to_string(),
         }
     }
 }
 
 /// The same of the Rust.
-fn rust(case: &Case) -> String {
+fn rust(e: &Example) -> String {
+    match e.asked {
+        Asked::Load => rust_load(&e.case),
+        Asked::File(question, number) => match outcome::ask(&e.case.file, question, number) {
+            Ok((start, length)) => Told::Place(start, length).to_string(),
+            Err(r) => format!("refused {} {}", r.number, r.value),
+        },
+    }
+}
+
+fn rust_load(case: &Case) -> String {
     match outcome::outcome(&case.file, case.settings, &case.builtins, usize::MAX) {
         Outcome::Refused(r) => {
             let name = r
@@ -135,7 +149,20 @@ fn rust(case: &Case) -> String {
     }
 }
 
-fn port(case: &Case) -> Told {
+fn port(e: &Example) -> Told {
+    match e.asked {
+        Asked::Load => port_load(&e.case),
+        Asked::File(question, number) => {
+            let words = port::ask(question, &e.case.file, number, port::WORDS).1;
+            match words[0] {
+                0 => Told::Place(words[4], words[5]),
+                _ => Told::Refused([words[0], words[1], words[2], words[3]]),
+            }
+        }
+    }
+}
+
+fn port_load(case: &Case) -> Told {
     let (mut image, mut ro) = (vec![1; case.image], vec![1; case.ro]);
     let mut table = case.columns.map(|n| vec![1; n]);
     let mut a = [1; port::WORDS];
@@ -182,6 +209,8 @@ struct Small {
     empty: Option<(&'static str, u64)>,
     /// Name and flags of a section of eight bytes behind the text.
     flagged: Option<(&'static str, u64)>,
+    /// The type of a .rodata of eight bytes behind the text, at its file offset.
+    rodata: Option<u32>,
     /// In version 1.
     relocation: Option<Relocation>,
     /// The name of a function symbol at slot 1.
@@ -200,6 +229,7 @@ const PLAIN: Small = Small {
     entry: 0,
     empty: None,
     flagged: None,
+    rodata: None,
     relocation: None,
     label: None,
     names: None,
@@ -230,6 +260,10 @@ impl Small {
         }
         if let Some((name, flags)) = self.flagged {
             sections.push((name, 1, flags, 0, 8, vec![0; 8]));
+        }
+        if let Some(kind) = self.rodata {
+            let at = (text_at + self.text_length) as u64;
+            sections.push((".rodata", kind, 2, at, 8, vec![0; 8]));
         }
         // where the relocation stands in the file
         let symbols = text_at + self.text_length;
@@ -354,8 +388,16 @@ fn accepted(version: u64, key: u32) -> Told {
     Told::Accepted([version, 0, 1, 0], vec![[key, 0, 2, 0, 10]], Vec::new())
 }
 
+/// What is asked: a load of the case, or a question to its file, with its number.
+#[derive(Clone, Copy)]
+enum Asked {
+    Load,
+    File(Question, u32),
+}
+
 struct Example {
     what: &'static str,
+    asked: Asked,
     case: Case,
     expected: Told,
     /// The Rust has the limit too.
@@ -483,6 +525,14 @@ fn examples() -> Vec<Example> {
         let flagged = Some((name, flags));
         Small { flagged, ..PLAIN }.case()
     };
+    let rodata = |kind| {
+        Small {
+            version2: false,
+            rodata: Some(kind),
+            ..PLAIN
+        }
+        .case()
+    };
     // version 1, where the text need not stand at its file offset
     let text_at = |addr, slot| {
         let small = Small {
@@ -506,15 +556,20 @@ fn examples() -> Vec<Example> {
     };
     let example = |what, case, expected| Example {
         what,
+        asked: Asked::Load,
         case,
         expected,
         asks_rust: true,
     };
     let added = |what, case, expected| Example {
-        what,
-        case,
-        expected,
         asks_rust: false,
+        ..example(what, case, expected)
+    };
+    // contents by index; the Rust has no 45 and 46
+    let contents = |what, case, index, expected| Example {
+        asked: Asked::File(Question::SectionPlace, index),
+        asks_rust: matches!(expected, Told::Place(..)),
+        ..example(what, case, expected)
     };
     let empty = lent(Vec::new());
     let loadlist = lent(LOADLIST.to_vec());
@@ -763,6 +818,23 @@ fn examples() -> Vec<Example> {
             flagged(".bss", 0),
             Told::Refused([28, 0, 95, 4]),
         ),
+        contents("contents of section 0 of 3", PLAIN.case(), 0, refused(46, 0)),
+        contents("contents of section 1 of 3, the text", PLAIN.case(), 1, Told::Place(64, 16)),
+        contents("contents of section 3 of 3", PLAIN.case(), 3, refused(45, 0)),
+        contents("contents of .rodata, type 1", rodata(1), 2, Told::Place(80, 8)),
+        contents("contents of .rodata, type 0", rodata(0), 2, refused(46, 0)),
+        contents("contents of .rodata, type 8", rodata(8), 2, Told::Place(0, 0)),
+        // a load reads a header of type 0 as any other
+        example(
+            "version 1, .rodata with a header of type 1",
+            rodata(1),
+            accepted(1, entrypoint),
+        ),
+        example(
+            "version 1, .rodata with a header of type 0",
+            rodata(0),
+            accepted(1, entrypoint),
+        ),
         example(
             "version 1, type 10 of a built-in, in the text",
             with(named_call(None), ALL, abort),
@@ -856,7 +928,7 @@ fn examples() -> Vec<Example> {
 const TITLE: usize = 80;
 
 /// A record of the program's input: the title, the file's length, the settings, how many built-ins,
-/// the built-in, the rows, and the file.
+/// the built-in, the rows, what is asked and its number, and the file.
 fn record(e: &Example) -> Vec<u8> {
     let case = &e.case;
     assert!(e.what.len() < TITLE && case.builtins.len() <= 1);
@@ -867,6 +939,14 @@ fn record(e: &Example) -> Vec<u8> {
         case.builtins.len() as u32,
         case.builtins.first().copied().unwrap_or(0),
         case.rows() as u32,
+        match e.asked {
+            Asked::Load => 0,
+            Asked::File(question, _) => 1 + question as u32,
+        },
+        match e.asked {
+            Asked::Load => 0,
+            Asked::File(_, number) => number,
+        },
     ];
     bytes.extend(numbers.iter().flat_map(|n| n.to_le_bytes()));
     bytes.extend_from_slice(&case.file);
@@ -874,19 +954,29 @@ fn record(e: &Example) -> Vec<u8> {
 }
 
 /// The program's line: as an answer is told, with all words of an accepted one from the version on.
-fn line(e: &Example, x: &Expected) -> String {
+fn line(e: &Example) -> String {
+    let answer = match e.asked {
+        Asked::Load => load_line(e, &expected(&e.case).expect("the model agrees with the Rust")),
+        Asked::File(..) => {
+            assert!(!e.asks_rust || rust(e) == e.expected.to_string(), "{}", e.what);
+            e.expected.to_string()
+        }
+    };
+    format!("{:TITLE$}{answer}\n", e.what)
+}
+
+fn load_line(e: &Example, x: &Expected) -> String {
     let told = Told::of(&e.case.file, &x.words, &x.table, &x.image);
     assert_eq!(told, e.expected, "{}", e.what);
-    let answer = match told {
-        Told::Refused(_) => told.to_string(),
+    match told {
         Told::Accepted(_, rows, words) => format!(
             "accepted {}{}{}",
             told_numbers(&x.words[4..15]),
             told_rows(&rows),
             told_written(&words)
         ),
-    };
-    format!("{:TITLE$}{answer}\n", e.what)
+        _ => told.to_string(),
+    }
 }
 
 /// Writes `stdin` and `stdout` of the program: the examples that it can hold, and what the Rust answers
@@ -895,9 +985,8 @@ pub fn write(folder: &str) {
     let (mut input, mut output) = (Vec::new(), String::new());
     for e in examples() {
         if e.case.file.len() <= LENT {
-            let x = expected(&e.case).expect("the model agrees with the Rust");
             input.extend(record(&e));
-            output += &line(&e, &x);
+            output += &line(&e);
         }
     }
     fs::write(Path::new(folder).join("stdin"), &input).expect("a folder");
@@ -944,9 +1033,9 @@ pub fn run() -> usize {
         "the input of loadlist and the file built here".into(),
     );
     for e in examples() {
-        let got = port(&e.case);
+        let got = port(&e);
         let (rust, asked) = match e.asks_rust {
-            true => (rust(&e.case), e.expected.without_added(&e.case.file)),
+            true => (rust(&e), e.expected.without_added(&e.case.file)),
             false => (
                 "has no such limit".to_string(),
                 "has no such limit".to_string(),
