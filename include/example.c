@@ -38,6 +38,8 @@ int main(int argc, char **argv) {
            a[SBPF_DYNAMIC_SYMBOLS]);
     printf("%" PRIu64 " dynamic relocations at %" PRIu64 "\n", a[SBPF_DYNAMIC_RELOCATION_COUNT],
            a[SBPF_DYNAMIC_RELOCATIONS]);
+    printf("%" PRIu64 " more that bring an addend at %" PRIu64 "\n", a[SBPF_DYNAMIC_RELA_COUNT],
+           a[SBPF_DYNAMIC_RELAS]);
     printf("%" PRIu64 " section headers at %" PRIu64 "\n", a[SBPF_SECTION_HEADER_COUNT],
            a[SBPF_SECTION_HEADERS]);
     for (uint32_t i = 0; i < a[SBPF_SECTION_HEADER_COUNT]; i++) {

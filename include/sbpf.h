@@ -66,6 +66,7 @@ enum {
     SBPF_TextOutsideReadOnly = 44,
     SBPF_NoSuchIndex = 45,
     SBPF_NotASection = 46,
+    SBPF_AddendNegative = 47, /* of a relocation of type 1 or 8 */
 };
 
 /* Words of an accepted parse. A header that was found by name is given by its offset in the
@@ -82,7 +83,9 @@ enum {
     SBPF_DYNAMIC_RELOCATIONS,
     SBPF_DYNAMIC_RELOCATION_COUNT,
     SBPF_DYNAMIC_SYMBOLS,
-    SBPF_DYNAMIC_SYMBOL_COUNT
+    SBPF_DYNAMIC_SYMBOL_COUNT,
+    SBPF_DYNAMIC_RELAS, /* the relocations that bring an addend */
+    SBPF_DYNAMIC_RELA_COUNT
 };
 
 /* Words of an accepted load. The read-only bytes stand in the image from SBPF_RO_START on, or,

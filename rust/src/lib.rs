@@ -189,6 +189,8 @@ pub struct Layout {
     pub strtab: usize,
     pub dynstr: usize,
     pub dynamic_relocations: Entries,
+    /// The relocations that bring an addend.
+    pub dynamic_relas: Entries,
     pub dynamic_symbols: Entries,
 }
 
@@ -210,6 +212,7 @@ pub fn parse(file: &[u8]) -> Result<Layout, Refusal> {
         strtab: a[10] as usize,
         dynstr: a[11] as usize,
         dynamic_relocations: entries(12),
+        dynamic_relas: entries(16),
         dynamic_symbols: entries(14),
     })
 }

@@ -85,6 +85,7 @@ reasons! {
     44 TextOutsideReadOnly,
     45 NoSuchIndex,
     46 NotASection,
+    47 AddendNegative,
 }
 
 /// Why there is nothing, and what goes with it. The name that it speaks of is the part of the file

@@ -6,7 +6,7 @@ use native.Mathlib.Nat.{add-zero}
 use native.Mathlib.Omega.{arith}
 use lib.ListN.{take, drop}
 use Rattle.ebpf.specs.LittleEndian.{le, le-part}
-use Rattle.elf_parser.specs.Types.{programHeader, sectionHeader, sym, rel}
+use Rattle.elf_parser.specs.Types.{programHeader, sectionHeader, sym, rel, rela}
 
 -- the part of w bytes from `at` on
 abbrev part : ℕ → List ℕ → ℕ → List ℕ
@@ -46,3 +46,11 @@ unfolding rel
 relocation-read s at a b ea eb =
     let f = field 16 s at in
     rw (ea, eb, f 8 0 (omega arith), f 8 8 (omega arith), add-zero)
+
+pub rela-read : (s : List ℕ) (at a b c : ℕ)
+    → a ≡ le 8 (part 24 s at) 0 → b ≡ le 8 (part 24 s at) 8 → c ≡ le 8 (part 24 s at) 16
+    → record { «r_offset» = a; «r_info» = b; «r_addend» = c } ≡ rela s at
+unfolding rela
+rela-read s at a b c ea eb ec =
+    let f = field 24 s at in
+    rw (ea, eb, ec, f 8 0 (omega arith), f 8 8 (omega arith), f 8 16 (omega arith), add-zero)

@@ -1,4 +1,4 @@
--- The dynamic table: where it stands, its 35 values by tag, and the two tables that they lead to.
+-- The dynamic table: where it stands, its 35 values by tag, and the three tables that they lead to.
 use Prim.Native.Nat.{ℕ, zero, suc, _+_, _-_, _*_, _≤_, _<_}
 use native.Mathlib.Nat.{mul-suc}
 use native.Mathlib.Omega.{arith}
@@ -24,7 +24,7 @@ use Rattle.elf_parser.specs.declared.dynamic.Linking.{Linking}
 use Rattle.elf_parser.specs.declared.dynamic.Linking.the-variants.{Found as Links, Refused}
 use Rattle.elf_parser.specs.declared.types.Elf64Phdr.{Elf64Phdr}
 use Rattle.elf_parser.specs.declared.types.Elf64Shdr.{Elf64Shdr}
-use Rattle.elf_parser.specs.Types.{programHeader, sectionHeader, d-tag, d-val, PT-DYNAMIC, SHT-DYNAMIC, DT-NULL, DT-SYMTAB, DT-REL, DT-RELSZ, DT-RELENT}
+use Rattle.elf_parser.specs.Types.{programHeader, sectionHeader, d-tag, d-val, PT-DYNAMIC, SHT-DYNAMIC, DT-NULL, DT-SYMTAB, DT-RELA, DT-RELASZ, DT-RELAENT, DT-REL, DT-RELSZ, DT-RELENT}
 use Rattle.elf_parser.specs.ProgramHeaders.{headerForVaddr}
 use Rattle.elf_parser.specs.Records.{sliced, symbolTableIn, no-entries, no-slice, InFile, slice-in-file, symbol-table-in-file}
 
@@ -116,23 +116,23 @@ sectionWithAddr s t vaddr = firstWith s 64 16 true vaddr (t .shnum) (t .shoff)
 abbrev pub relocationOffset : List ℕ → Tables → ℕ → Mapped
 relocationOffset s t vaddr = orSection (headerForVaddr s vaddr (t .phnum) (t .phoff)) (sectionOffset s (sectionWithAddr s t vaddr))
 
-unfoldable pub relocationsAt : ℕ → ℕ → ℕ → Sliced
-relocationsAt len offset size =
+unfoldable pub relocationsAt : ℕ → ℕ → ℕ → ℕ → Sliced
+relocationsAt len offset size width =
     NoSlice OutOfBounds if pastWord (offset + size) else
-    orInvalid (sliced len offset size 16)
+    orInvalid (sliced len offset size width)
 
-unfoldable pub relocationsBy : List ℕ → Mapped → ℕ → Sliced
-relocationsBy s (Maps offset) size = relocationsAt (length s) offset size
-relocationsBy s Unmapped size = NoSlice InvalidDynamicSectionTable
-relocationsBy s (NoMap r) size = NoSlice r
+unfoldable pub relocationsBy : List ℕ → Mapped → ℕ → ℕ → Sliced
+relocationsBy s (Maps offset) size width = relocationsAt (length s) offset size width
+relocationsBy s Unmapped size width = NoSlice InvalidDynamicSectionTable
+relocationsBy s (NoMap r) size width = NoSlice r
 
--- DT_REL, DT_RELSZ, DT_RELENT
-unfoldable pub relocationsOf : List ℕ → Tables → ℕ → ℕ → ℕ → Sliced
-relocationsOf s t vaddr size entry-size =
+-- a table of relocations, `width` bytes each, by the values of its three tags: address, size and size of an entry
+unfoldable pub relocationsOf : List ℕ → Tables → ℕ → ℕ → ℕ → ℕ → Sliced
+relocationsOf s t width vaddr size entry-size =
     Slice no-entries if eqb vaddr 0 else
-    NoSlice InvalidDynamicSectionTable if not (eqb entry-size 16) else
+    NoSlice InvalidDynamicSectionTable if not (eqb entry-size width) else
     NoSlice InvalidDynamicSectionTable if eqb size 0 else
-    relocationsBy s (relocationOffset s t vaddr) size
+    relocationsBy s (relocationOffset s t vaddr) size width
 
 unfoldable pub symbolsBy : List ℕ → Found → Sliced
 symbolsBy s (At at) = symbolTableIn (length s) (sectionHeader s at)
@@ -144,17 +144,19 @@ symbolsOf s t vaddr =
     Slice no-entries if eqb vaddr 0 else
     symbolsBy s (sectionWithAddr s t vaddr)
 
--- relocations, then symbols
-unfoldable pub linking : Sliced → Sliced → Linking
-linking (NoSlice r) other = Refused r
-linking (Slice e) (NoSlice r) = Refused r
-linking (Slice e) (Slice x) = Links (record { relocations = e; symbols = x })
-
-abbrev pub dynamicBy : List ℕ → Tables → ℕ → ℕ → ℕ → ℕ → Linking
-dynamicBy s t rel relsz relent symtab = linking (relocationsOf s t rel relsz relent) (symbolsOf s t symtab)
+-- relocations, those that bring an addend, then symbols
+unfoldable pub linking : Sliced → Sliced → Sliced → Linking
+linking (NoSlice r) b c = Refused r
+linking (Slice e) (NoSlice r) c = Refused r
+linking (Slice e) (Slice a) (NoSlice r) = Refused r
+linking (Slice e) (Slice a) (Slice x) = Links (record { relocations = e; relas = a; symbols = x })
 
 abbrev pub linkedBy : List ℕ → Tables → List ℕ → Linking
-linkedBy s t values = dynamicBy s t (getD values DT-REL 0) (getD values DT-RELSZ 0) (getD values DT-RELENT 0) (getD values DT-SYMTAB 0)
+linkedBy s t values =
+    linking
+    (relocationsOf s t 16 (getD values DT-REL 0) (getD values DT-RELSZ 0) (getD values DT-RELENT 0))
+    (relocationsOf s t 24 (getD values DT-RELA 0) (getD values DT-RELASZ 0) (getD values DT-RELAENT 0))
+    (symbolsOf s t (getD values DT-SYMTAB 0))
 
 unfoldable pub dynamicIn : List ℕ → Tables → Sliced → Linking
 dynamicIn s t (NoSlice r) = Refused r
@@ -246,18 +248,18 @@ module _ (s : List ℕ) where
   pub table-in-file : (t : Tables) → InFile (length s) 16 (dynamicTable s t)
   table-in-file t = or-else-in-file _ _ _ _ (segment-in-file _) (section-in-file _)
 
-  relocations-by-in-file : (m : Mapped) (size : ℕ) → InFile (length s) 16 (relocationsBy s m size)
+  relocations-by-in-file : (m : Mapped) (size width : ℕ) → InFile (length s) width (relocationsBy s m size width)
   unfolding relocationsBy relocationsAt
-  relocations-by-in-file (Maps offset) size = row-in-file _ _ _ _ _ (refused-in-file _ _ _) (or-invalid-in-file _ _ _ (slice-in-file _ _ _ _))
-  relocations-by-in-file Unmapped size = refused-in-file _ _ _
-  relocations-by-in-file (NoMap r) size = refused-in-file _ _ _
+  relocations-by-in-file (Maps offset) size width = row-in-file _ _ _ _ _ (refused-in-file _ _ _) (or-invalid-in-file _ _ _ (slice-in-file _ _ _ _))
+  relocations-by-in-file Unmapped size width = refused-in-file _ _ _
+  relocations-by-in-file (NoMap r) size width = refused-in-file _ _ _
 
-  relocations-in-file : (t : Tables) (vaddr size entry-size : ℕ) → InFile (length s) 16 (relocationsOf s t vaddr size entry-size)
+  relocations-in-file : (t : Tables) (width vaddr size entry-size : ℕ) → InFile (length s) width (relocationsOf s t width vaddr size entry-size)
   unfolding relocationsOf
-  relocations-in-file t vaddr size entry-size =
+  relocations-in-file t width vaddr size entry-size =
       row-in-file _ _ _ _ _ (none-in-file _ _)
       (row-in-file _ _ _ _ _ (refused-in-file _ _ _)
-      (row-in-file _ _ _ _ _ (refused-in-file _ _ _) (relocations-by-in-file _ _)))
+      (row-in-file _ _ _ _ _ (refused-in-file _ _ _) (relocations-by-in-file _ _ _)))
 
   symbols-by-in-file : (f : Found) → InFile (length s) 24 (symbolsBy s f)
   unfolding symbolsBy
@@ -271,15 +273,17 @@ module _ (s : List ℕ) where
 -- what the dynamic table leads to lies in the file
 pub record LinkedInside (len : ℕ) (d : Linked) : Type 0 where
   pub relocations : d .relocations .offset + 16 * d .relocations .count ≤ len
+  pub relas : d .relas .offset + 24 * d .relas .count ≤ len
   pub symbols : d .symbols .offset + 24 * d .symbols .count ≤ len
 
-linking-inside : (len : ℕ) (a b : Sliced) (d : Linked) → InFile len 16 a → InFile len 24 b → linking a b ≡ Links d → LinkedInside len d
+linking-inside : (len : ℕ) (a b c : Sliced) (d : Linked) → InFile len 16 a → InFile len 24 b → InFile len 24 c → linking a b c ≡ Links d → LinkedInside len d
 unfolding linking
-linking-inside len (NoSlice r) b d h k e = let z : _≡_ {A = ℕ} 0 1 = cc in absurd (omega arith)
-linking-inside len (Slice x) (NoSlice r) d h k e = let z : _≡_ {A = ℕ} 0 1 = cc in absurd (omega arith)
-linking-inside len (Slice x) (Slice y) d h k e =
-    let p : record { relocations = x; symbols = y } ≡ d = cc in
-    rw (← p) (record { relocations = h x refl; symbols = k y refl })
+linking-inside len (NoSlice r) b c d h k l e = let z : _≡_ {A = ℕ} 0 1 = cc in absurd (omega arith)
+linking-inside len (Slice x) (NoSlice r) c d h k l e = let z : _≡_ {A = ℕ} 0 1 = cc in absurd (omega arith)
+linking-inside len (Slice x) (Slice y) (NoSlice r) d h k l e = let z : _≡_ {A = ℕ} 0 1 = cc in absurd (omega arith)
+linking-inside len (Slice x) (Slice y) (Slice w) d h k l e =
+    let p : record { relocations = x; relas = y; symbols = w } ≡ d = cc in
+    rw (← p) (record { relocations = h x refl; relas = k y refl; symbols = l w refl })
 
 pub linked-inside : (s : List ℕ) (t : Tables) (d : Linked) → dynamicOf s t ≡ Links d → LinkedInside (length s) d
 unfolding dynamicIn
@@ -287,4 +291,4 @@ linked-inside s t d = by (dynamicTable s t)
   where
     by : (a : Sliced) → dynamicIn s t a ≡ Links d → LinkedInside (length s) d
     by (NoSlice r) e = let z : _≡_ {A = ℕ} 0 1 = cc in absurd (omega arith)
-    by (Slice x) e = linking-inside _ _ _ _ (relocations-in-file _ _ _ _ _) (symbols-in-file _ _ _) e
+    by (Slice x) e = linking-inside _ _ _ _ _ (relocations-in-file _ _ _ _ _ _) (relocations-in-file _ _ _ _ _ _) (symbols-in-file _ _ _) e

@@ -1,26 +1,34 @@
 -- Examples on names, tables and sections beside the scope's marked ones, which stand in one table (`worked` in the loader's specs): each holds by computation.
-use Prim.Native.Nat.{ℕ}
+use Prim.Native.Nat.{ℕ, _+_, _-_, _^_}
+use mathlib.Core.Bool.{Bool, true, false}
 use mathlib.Core.List.{List, [], _∷_, _++_}
 use mathlib.Core.Path.{_≡_, refl}
-use lib.ListN.{replicate}
+use lib.ListN.{replicate, set}
 use Rattle.ebpf.specs.Choice.{_if_else_}
-use Rattle.ebpf.specs.LittleEndian.{le}
-use Rattle.elf_parser.specs.declared.error.ElfParserError.the-variants.{InvalidFileHeader, StringTooLong, OutOfBounds, Overlap, SectionNotInOrder, NoSectionNameStringTable, InvalidAlignment, InvalidSize, NoSuchIndex, NotASection}
+use Rattle.ebpf.specs.LittleEndian.{le, bytesOf}
+use Rattle.elf_parser.specs.declared.error.ElfParserError.the-variants.{InvalidFileHeader, StringTooLong, OutOfBounds, Overlap, SectionNotInOrder, NoSectionNameStringTable, InvalidDynamicSectionTable, InvalidAlignment, InvalidSize, NoSuchIndex, NotASection}
 use Rattle.elf_parser.specs.declared.error.Check.the-variants.{Pass, Refused}
 use Rattle.elf_parser.specs.declared.types.Elf64Ehdr.{Elf64Ehdr}
 use Rattle.elf_parser.specs.declared.types.Elf64Shdr.{Elf64Shdr}
 use Rattle.elf_parser.specs.declared.parts.Place.the-variants.{At as Stands, Refused as NoPlace}
 use Rattle.elf_parser.specs.declared.layout.Layout.{Layout}
 use Rattle.elf_parser.specs.declared.layout.Parsed.the-variants.{Refused as NoFile}
-use Rattle.elf_parser.specs.declared.records.Sliced.the-variants.{Refused as NoSlice}
+use Rattle.elf_parser.specs.declared.records.Entries.{Entries}
+use Rattle.elf_parser.specs.declared.records.Sliced.{Sliced}
+use Rattle.elf_parser.specs.declared.records.Sliced.the-variants.{At as Slice, Refused as NoSlice}
+use Rattle.elf_parser.specs.declared.records.Rela.the-variants.{Relocation as WithAddend, Refused as NoRela}
+use Rattle.elf_parser.specs.declared.dynamic.Linking.{Linking}
+use Rattle.elf_parser.specs.declared.dynamic.Linking.the-variants.{Found as Links, Refused as NoLinks}
 use Rattle.elf_parser.specs.declared.section_headers.Ranges.{Ranges}
 use Rattle.elf_parser.specs.FileHeader.{headerCheck, headerRight, headerFixed, tablesCheck}
 use Rattle.elf_parser.specs.SectionHeaders.{sectionCheck}
 use Rattle.elf_parser.specs.Strings.{stringIn, stringCheck, gives, terminated, beforeZero}
-use Rattle.elf_parser.specs.Records.{sliced, no-entries, entryAt, fileRange, fileRangeOf, contentsPlace, sectionPlaceOf}
+use Rattle.elf_parser.specs.Records.{sliced, no-entries, symbolTableIn, relaOf, entryAt, fileRange, fileRangeOf, contentsPlace, sectionPlaceOf}
 use Rattle.elf_parser.specs.Parts.{bytesAt, partOf}
-use Rattle.elf_parser.specs.Types.{sectionHeader}
-use Rattle.elf_parser.specs.Dynamic.{withTag, valuesFrom, dynamicValues}
+use Rattle.elf_parser.specs.Types.{programHeader, sectionHeader, rela}
+use Rattle.elf_parser.specs.Loops.{over, _into_}
+use Rattle.elf_parser.specs.ProgramHeaders.{containsStep}
+use Rattle.elf_parser.specs.Dynamic.{withTag, valuesFrom, dynamicValues, firstWith, sectionOffset, orSection, relocationsAt, relocationsBy, relocationsOf, symbolsBy, symbolsOf, linking, linkedBy}
 use Rattle.elf_parser.specs.Parse.{namedLayout, parsed, fileCheck}
 use Rattle.elf_parser.specs.Errors.{_then_}
 
@@ -125,6 +133,7 @@ three-layout = record {
   strtab = 0;
   dynstr = 0;
   «dynamic_relocations» = no-entries;
+  «dynamic_relas» = no-entries;
   «dynamic_symbols» = no-entries;
 }
 
@@ -142,3 +151,85 @@ blank-part = refl
 blank-range : fileRangeOf three-headers three-layout 0 ≡ Stands 4 10
 unfolding three-headers three-layout fileRange entryAt sectionHeader le _if_else_
 blank-range = refl
+
+-- ---- the relocations that bring an addend: two of them at 64, where a section header with the address 0x1000 stands at 0, and a program header behind them whose
+-- end passes 64 bits
+
+abbrev two-relas : ℕ → List ℕ
+two-relas offset =
+    (replicate 4 0 ++ bytesOf 4 11 ++ replicate 8 0 ++ bytesOf 8 0x1000 ++ bytesOf 8 offset ++ bytesOf 8 48 ++ replicate 24 0)
+    ++ (bytesOf 8 8 ++ bytesOf 8 10 ++ bytesOf 8 (2 ^ 64 - 1))
+    ++ (bytesOf 8 16 ++ bytesOf 8 1 ++ bytesOf 8 7)
+    ++ (replicate 16 0 ++ bytesOf 8 (2 ^ 64 - 1) ++ replicate 16 0 ++ bytesOf 8 1 ++ replicate 8 0)
+
+-- by the address, the size and the size of an entry, the section's contents at `offset`, with `n` program headers
+abbrev relas-by : ℕ → ℕ → ℕ → ℕ → ℕ → Sliced
+relas-by offset n vaddr size entry-size = relocationsOf (two-relas offset) (record { phoff = 112; phnum = n; shoff = 0; shnum = 1 }) 24 vaddr size entry-size
+
+-- the address 0 is none, whatever the others are; an entry size other than 24, in 64 bits, a size of 0, an address nowhere, a size that is no multiple of 24, a
+-- place outside the file, and one that is no multiple of 8 are 10; an end past 64 bits, of the table or of a program header on the way, is 5
+relas-located :
+    relas-by 64 0 0 1 1
+    ∷ relas-by 64 0 0x1000 48 24
+    ∷ relas-by 64 0 0x1000 48 16
+    ∷ relas-by 64 0 0x1000 48 (24 + 2 ^ 32)
+    ∷ relas-by 64 0 0x1000 0 24
+    ∷ relas-by 64 0 0x2000 48 24
+    ∷ relas-by 64 0 0x1000 40 24
+    ∷ relas-by 64 0 0x1000 120 24
+    ∷ relas-by 68 0 0x1000 48 24
+    ∷ relas-by 64 0 0x1000 (2 ^ 64 - 64) 24
+    ∷ relas-by 64 1 0x1000 48 24
+    ∷ []
+    ≡ Slice no-entries
+    ∷ Slice (record { offset = 64; count = 2 })
+    ∷ NoSlice InvalidDynamicSectionTable
+    ∷ NoSlice InvalidDynamicSectionTable
+    ∷ NoSlice InvalidDynamicSectionTable
+    ∷ NoSlice InvalidDynamicSectionTable
+    ∷ NoSlice InvalidDynamicSectionTable
+    ∷ NoSlice InvalidDynamicSectionTable
+    ∷ NoSlice InvalidDynamicSectionTable
+    ∷ NoSlice OutOfBounds
+    ∷ NoSlice OutOfBounds
+    ∷ []
+unfolding relocationsOf relocationsBy relocationsAt sectionOffset orSection firstWith over _into_ containsStep sliced programHeader sectionHeader le bytesOf _if_else_
+relas-located = refl
+
+-- by the address, size and entry size of tag 17, then of tag 7, and the address of tag 6
+abbrev links-by : ℕ → ℕ → ℕ → ℕ → ℕ → ℕ → ℕ → Linking
+links-by rel relsz relent rela relasz relaent symtab =
+    linkedBy (two-relas 64) (record { phoff = 0; phnum = 0; shoff = 0; shnum = 1 })
+    (set (set (set (set (set (set (set (replicate 35 0) 17 rel) 18 relsz) 19 relent) 7 rela) 8 relasz) 9 relaent) 6 symtab)
+
+-- the older table is refused before the newer one, and that before the symbols; all three may be one place
+relas-between :
+    links-by 0x1000 (2 ^ 64 - 64) 16 0x2000 48 24 0
+    ∷ links-by 0x2000 48 16 0x1000 (2 ^ 64 - 64) 24 0
+    ∷ links-by 0x1000 48 16 0x1000 (2 ^ 64 - 64) 24 0x2000
+    ∷ links-by 0 0 0 0x1000 48 24 0x2000
+    ∷ links-by 0x1000 48 16 0x1000 48 24 0x1000
+    ∷ []
+    ≡ NoLinks OutOfBounds
+    ∷ NoLinks InvalidDynamicSectionTable
+    ∷ NoLinks OutOfBounds
+    ∷ NoLinks InvalidDynamicSectionTable
+    ∷ Links (record { relocations = record { offset = 64; count = 3 }; relas = record { offset = 64; count = 2 }; symbols = record { offset = 64; count = 2 } })
+    ∷ []
+unfolding linking relocationsOf relocationsBy relocationsAt symbolsOf symbolsBy symbolTableIn sectionOffset orSection firstWith over _into_ sliced sectionHeader le bytesOf _if_else_
+relas-between = refl
+
+-- one by its number: -1 is 2^64 - 1; past the table it is 45, past the file's end 5
+rela-by-number :
+    relaOf (two-relas 64) (record { offset = 64; count = 2 }) 0
+    ∷ relaOf (two-relas 64) (record { offset = 64; count = 2 }) 1
+    ∷ relaOf (two-relas 64) (record { offset = 64; count = 2 }) 2
+    ∷ relaOf (two-relas 64) (record { offset = 152; count = 2 }) 0
+    ∷ []
+    ≡ WithAddend (record { «r_offset» = 8; «r_info» = 10; «r_addend» = 2 ^ 64 - 1 })
+    ∷ WithAddend (record { «r_offset» = 16; «r_info» = 1; «r_addend» = 7 })
+    ∷ NoRela NoSuchIndex
+    ∷ NoRela OutOfBounds
+    ∷ []
+unfolding entryAt rela le bytesOf _if_else_
+rela-by-number = refl

@@ -61,6 +61,7 @@ layoutOf h names n (Links d) =
       strtab = n .strtab;
       dynstr = n .dynstr;
       «dynamic_relocations» = d .relocations;
+      «dynamic_relas» = d .relas;
       «dynamic_symbols» = d .symbols;
     })
 

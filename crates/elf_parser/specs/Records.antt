@@ -28,8 +28,10 @@ use Rattle.elf_parser.specs.declared.records.Sym.{Sym}
 use Rattle.elf_parser.specs.declared.records.Sym.the-variants.{Symbol, Refused as NoSym}
 use Rattle.elf_parser.specs.declared.records.Rel.{Rel}
 use Rattle.elf_parser.specs.declared.records.Rel.the-variants.{Relocation, Refused as NoRel}
+use Rattle.elf_parser.specs.declared.records.Rela.{Rela}
+use Rattle.elf_parser.specs.declared.records.Rela.the-variants.{Relocation as WithAddend, Refused as NoRela}
 use Rattle.elf_parser.specs.Parts.{no-place}
-use Rattle.elf_parser.specs.Types.{programHeader, sectionHeader, sym, rel, SHT-NULL, SHT-SYMTAB, SHT-DYNSYM, SHT-NOBITS}
+use Rattle.elf_parser.specs.Types.{programHeader, sectionHeader, sym, rel, rela, SHT-NULL, SHT-SYMTAB, SHT-DYNSYM, SHT-NOBITS}
 
 -- where an entry of a table starts, the entries `width` bytes each
 unfoldable pub entryAt : ℕ → Entries → ℕ → ℕ → Entry
@@ -54,6 +56,10 @@ abbrev pub relBy : List ℕ → Entry → Rel
 relBy s (At at) = Relocation (rel s at)
 relBy s (Refused r) = NoRel r
 
+abbrev pub relaBy : List ℕ → Entry → Rela
+relaBy s (At at) = WithAddend (rela s at)
+relaBy s (Refused r) = NoRela r
+
 abbrev pub phdrOf : List ℕ → Entries → ℕ → Phdr
 phdrOf s table index = phdrBy s (entryAt (length s) table 56 index)
 
@@ -66,6 +72,9 @@ symOf s table index = symBy s (entryAt (length s) table 24 index)
 abbrev pub relOf : List ℕ → Entries → ℕ → Rel
 relOf s table index = relBy s (entryAt (length s) table 16 index)
 
+abbrev pub relaOf : List ℕ → Entries → ℕ → Rela
+relaOf s table index = relaBy s (entryAt (length s) table 24 index)
+
 abbrev pub programHeaderOf : List ℕ → Layout → ℕ → Phdr
 programHeaderOf s l index = phdrOf s (l .«program_headers») index
 
@@ -77,6 +86,9 @@ dynamicSymbolOf s l index = symOf s (l .«dynamic_symbols») index
 
 abbrev pub dynamicRelocationOf : List ℕ → Layout → ℕ → Rel
 dynamicRelocationOf s l index = relOf s (l .«dynamic_relocations») index
+
+abbrev pub dynamicRelaOf : List ℕ → Layout → ℕ → Rela
+dynamicRelaOf s l index = relaOf s (l .«dynamic_relas») index
 
 -- `size` bytes from `offset` on as entries of `width` bytes
 unfoldable pub sliced : ℕ → ℕ → ℕ → ℕ → Sliced

@@ -226,8 +226,9 @@ pub record Sound (s : List ℕ) (l : Layout) : Type 0 where
       → programHeader s (l .«program_headers» .offset + 56 * i) .«p_offset»
       + programHeader s (l .«program_headers» .offset + 56 * i) .«p_filesz»
       ≤ length s
-  -- the dynamic relocations and symbols lie in the file
+  -- the dynamic relocations, of both kinds, and symbols lie in the file
   pub relocations : l .«dynamic_relocations» .offset + 16 * l .«dynamic_relocations» .count ≤ length s
+  pub relas : l .«dynamic_relas» .offset + 24 * l .«dynamic_relas» .count ≤ length s
   pub symbols : l .«dynamic_symbols» .offset + 24 * l .«dynamic_symbols» .count ≤ length s
 
 -- of the layout as the steps give it
@@ -251,6 +252,7 @@ sound-steps s l x k e = subst (Sound s) (sym whole) sound-whole
           strtab = x .found .strtab;
           dynstr = x .found .dynstr;
           «dynamic_relocations» = x .linked .relocations;
+          «dynamic_relas» = x .linked .relas;
           «dynamic_symbols» = x .linked .symbols;
         }
 
@@ -284,6 +286,7 @@ sound-steps s l x k e = subst (Sound s) (sym whole) sound-whole
           named-in = name-at;
           loads = λ i r. let v = each-went _ 56 _ _ _ _ (segments .1) i r in load-within s _ _ _ (v .turn);
           relocations = linked-in .relocations;
+          relas = linked-in .relas;
           symbols = linked-in .symbols;
           contents = λ i r. let v = each-went _ 64 _ _ _ _ (sections .1) i r in step-within s (rangesOf h) _ _ _ (v .turn);
         }

@@ -7,6 +7,7 @@ use Rattle.elf_parser.specs.declared.types.Elf64Phdr.{Elf64Phdr}
 use Rattle.elf_parser.specs.declared.types.Elf64Shdr.{Elf64Shdr}
 use Rattle.elf_parser.specs.declared.types.Elf64Sym.{Elf64Sym}
 use Rattle.elf_parser.specs.declared.types.Elf64Rel.{Elf64Rel}
+use Rattle.elf_parser.specs.declared.types.Elf64Rela.{Elf64Rela}
 
 -- Elf64_Ehdr, 64 bytes at the front of the file
 abbrev pub ei-mag : List ℕ → ℕ
@@ -109,6 +110,10 @@ sym s at = record { «st_name» = le 4 s at; «st_info» = le 1 s (at + 4); «st
 unfoldable pub rel : List ℕ → ℕ → Elf64Rel
 rel s at = record { «r_offset» = le 8 s at; «r_info» = le 8 s (at + 8) }
 
+-- Elf64_Rela, 24 bytes; the addend's bits as an unsigned number
+unfoldable pub rela : List ℕ → ℕ → Elf64Rela
+rela s at = record { «r_offset» = le 8 s at; «r_info» = le 8 s (at + 8); «r_addend» = le 8 s (at + 16) }
+
 -- Elf64_Dyn, 16 bytes
 abbrev pub d-tag : List ℕ → ℕ → ℕ
 d-tag s at = le 8 s at
@@ -146,6 +151,15 @@ DT-NULL = 0
 
 abbrev pub DT-SYMTAB : ℕ
 DT-SYMTAB = 6
+
+abbrev pub DT-RELA : ℕ
+DT-RELA = 7
+
+abbrev pub DT-RELASZ : ℕ
+DT-RELASZ = 8
+
+abbrev pub DT-RELAENT : ℕ
+DT-RELAENT = 9
 
 abbrev pub DT-REL : ℕ
 DT-REL = 17

@@ -29,6 +29,12 @@ pub const DT_NULL: u64 = 0;
 
 pub const DT_SYMTAB: usize = 6;
 
+pub const DT_RELA: usize = 7;
+
+pub const DT_RELASZ: usize = 8;
+
+pub const DT_RELAENT: usize = 9;
+
 pub const DT_REL: usize = 17;
 
 pub const DT_RELSZ: usize = 18;

@@ -1,7 +1,10 @@
-// The dynamic table: where it stands, its 35 values, and the two tables that they lead to.
+// The dynamic table: where it stands, its 35 values, and the three tables that they lead to.
 use crate::consts::DT_NULL;
 use crate::consts::DT_NUM;
 use crate::consts::DT_REL;
+use crate::consts::DT_RELA;
+use crate::consts::DT_RELAENT;
+use crate::consts::DT_RELASZ;
 use crate::consts::DT_RELENT;
 use crate::consts::DT_RELSZ;
 use crate::consts::DT_SYMTAB;
@@ -19,9 +22,9 @@ use crate::types::shdr_at;
 use ebpf::little_endian::read_u32;
 use ebpf::little_endian::read_u64;
 ghost use mathlib.Core.Path.{_≡_};
-ghost use Prim.Native.Nat.{_+_, _*_, _≤_};
+ghost use Prim.Native.Nat.{_+_, _*_, _≤_, _<_};
 ghost use lib.ListN.{length};
-ghost use Rattle.elf_parser.specs.Dynamic.{field, firstWith, Inside, fromSegment, fromSection, dynamicTable, withTag, dynamicValues, relocationOffset, relocationsAt, relocationsOf, symbolsOf, dynamicBy, dynamicOf};
+ghost use Rattle.elf_parser.specs.Dynamic.{field, firstWith, Inside, fromSegment, fromSection, dynamicTable, withTag, dynamicValues, relocationOffset, relocationsAt, relocationsOf, symbolsOf, linkedBy, dynamicOf};
 
 // Where the header tables stand: offsets and counts, as the file header has them.
 pub struct Tables {
@@ -37,9 +40,10 @@ pub enum Found {
     Nothing,
 }
 
-// What the dynamic table leads to: the relocations and the symbols.
+// What the dynamic table leads to: the relocations, those that bring an addend, and the symbols.
 pub struct Linked {
     pub relocations: Entries,
+    pub relas: Entries,
     pub symbols: Entries,
 }
 
@@ -186,23 +190,25 @@ fn relocation_offset(file: &[u8], t: Tables, vaddr: u64) -> Mapped
     }
 }
 
-// The relocations that fill `size` bytes from `offset` on.
-fn relocations_at(len: u64, offset: u64, size: u64) -> Sliced
-    ensures { λ r. ⌜ r ≡ relocationsAt len offset size ⌝ }
+// The relocations of `width` bytes each that fill `size` bytes from `offset` on.
+fn relocations_at(len: u64, offset: u64, size: u64, width: u64) -> Sliced
+    requires { ⌜ 0 < width ⌝ }
+    ensures { λ r. ⌜ r ≡ relocationsAt len offset size width ⌝ }
 {
     if 0xffff_ffff_ffff_ffff - offset < size {
         return Sliced::Refused(ElfParserError::OutOfBounds);
     }
-    match slice_from_bytes(len, offset, size, 16) {
+    match slice_from_bytes(len, offset, size, width) {
         Sliced::At(e) => Sliced::At(e),
         Sliced::Refused(_) => Sliced::Refused(ElfParserError::InvalidDynamicSectionTable),
     }
 }
 
-// The relocations by the values of DT_REL, DT_RELSZ and DT_RELENT: none where DT_REL is 0.
-fn relocations(file: &[u8], t: Tables, vaddr: u64, size: u64, entry_size: u64) -> Sliced
-    requires { ⌜ Inside (length (now file)) t ⌝ }
-    ensures { λ r. ⌜ r ≡ relocationsOf (now (file .entry)) t vaddr size «entry_size» ⌝ }
+// The relocations of one kind, `width` bytes each, by the values of its three tags: address, size and
+// size of an entry. None where the address is 0.
+fn relocations(file: &[u8], t: Tables, width: u64, vaddr: u64, size: u64, entry_size: u64) -> Sliced
+    requires { ⌜ Inside (length (now file)) t × (0 < width) ⌝ }
+    ensures { λ r. ⌜ r ≡ relocationsOf (now (file .entry)) t width vaddr size «entry_size» ⌝ }
 {
     if vaddr == 0 {
         return Sliced::At(Entries {
@@ -210,14 +216,14 @@ fn relocations(file: &[u8], t: Tables, vaddr: u64, size: u64, entry_size: u64) -
             count: 0,
         });
     }
-    if entry_size != 16 {
+    if entry_size != width {
         return Sliced::Refused(ElfParserError::InvalidDynamicSectionTable);
     }
     if size == 0 {
         return Sliced::Refused(ElfParserError::InvalidDynamicSectionTable);
     }
     match relocation_offset(file, t, vaddr) {
-        Mapped::At(offset) => relocations_at(file.len() as u64, offset, size),
+        Mapped::At(offset) => relocations_at(file.len() as u64, offset, size, width),
         Mapped::Nothing => Sliced::Refused(ElfParserError::InvalidDynamicSectionTable),
         Mapped::Refused(r) => Sliced::Refused(r),
     }
@@ -242,21 +248,42 @@ fn symbols(file: &[u8], t: Tables, vaddr: u64) -> Sliced
     }
 }
 
-// What four of the values lead to.
-fn linked_by(file: &[u8], t: Tables, rel: u64, relsz: u64, relent: u64, symtab: u64) -> Linking
+// What the values lead to: each table in turn, up to the first that is refused.
+fn linked_by(file: &[u8], t: Tables, values: &[u64; 35]) -> Linking
     requires { ⌜ Inside (length (now file)) t ⌝ }
-    ensures { λ r. ⌜ r ≡ dynamicBy (now (file .entry)) t rel relsz relent symtab ⌝ }
+    ensures { λ r. ⌜ r ≡ linkedBy (now (file .entry)) t (now (values .entry)) ⌝ }
 {
-    let found = relocations(file, t, rel, relsz, relent);
+    let found = relocations(
+        file,
+        t,
+        16,
+        values[DT_REL],
+        values[DT_RELSZ],
+        values[DT_RELENT],
+    );
     match found {
         Sliced::Refused(r) => Linking::Refused(r),
-        Sliced::At(e) => match symbols(file, t, symtab) {
-            Sliced::Refused(r) => Linking::Refused(r),
-            Sliced::At(s) => Linking::Found(Linked {
-                relocations: e,
-                symbols: s,
-            }),
-        },
+        Sliced::At(e) => {
+            let found = relocations(
+                file,
+                t,
+                24,
+                values[DT_RELA],
+                values[DT_RELASZ],
+                values[DT_RELAENT],
+            );
+            match found {
+                Sliced::Refused(r) => Linking::Refused(r),
+                Sliced::At(a) => match symbols(file, t, values[DT_SYMTAB]) {
+                    Sliced::Refused(r) => Linking::Refused(r),
+                    Sliced::At(s) => Linking::Found(Linked {
+                        relocations: e,
+                        relas: a,
+                        symbols: s,
+                    }),
+                },
+            }
+        }
     }
 }
 
@@ -270,14 +297,7 @@ pub(crate) fn parse_dynamic(file: &[u8], t: Tables) -> Linking
             let from = e.offset as usize;
             let count = e.count;
             let values = dynamic_values(file, from, count);
-            linked_by(
-                file,
-                t,
-                values[DT_REL],
-                values[DT_RELSZ],
-                values[DT_RELENT],
-                values[DT_SYMTAB],
-            )
+            linked_by(file, t, &values)
         }
     }
 }

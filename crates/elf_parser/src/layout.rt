@@ -33,6 +33,7 @@ pub struct Layout {
     pub strtab: u64,
     pub dynstr: u64,
     pub dynamic_relocations: Entries,
+    pub dynamic_relas: Entries,
     pub dynamic_symbols: Entries,
 }
 
@@ -87,6 +88,7 @@ fn linked_layout(file: &[u8], h: Elf64Ehdr, names: u64, n: Named) -> Parsed
         Linking::Refused(r) => Parsed::Refused(r),
         Linking::Found(d) => {
             let relocations = d.relocations;
+            let relas = d.relas;
             let symbols = d.symbols;
             let program_headers = Entries {
                 offset: h.e_phoff,
@@ -104,6 +106,7 @@ fn linked_layout(file: &[u8], h: Elf64Ehdr, names: u64, n: Named) -> Parsed
                 strtab: n.strtab as u64,
                 dynstr: n.dynstr as u64,
                 dynamic_relocations: relocations,
+                dynamic_relas: relas,
                 dynamic_symbols: symbols,
             })
         }

@@ -11,15 +11,17 @@ use crate::parts::part_of;
 use crate::parts::past;
 use crate::types::Elf64Phdr;
 use crate::types::Elf64Rel;
+use crate::types::Elf64Rela;
 use crate::types::Elf64Shdr;
 use crate::types::Elf64Sym;
 use crate::types::phdr_at;
 use crate::types::rel_at;
+use crate::types::rela_at;
 use crate::types::shdr_at;
 use crate::types::sym_at;
 ghost use mathlib.Core.Path.{_≡_};
 ghost use Prim.Native.Nat.{_+_, _≤_, _<_};
-ghost use Rattle.elf_parser.specs.Records.{entryAt, phdrOf, shdrOf, symOf, relOf, programHeaderOf, sectionHeaderOf, dynamicSymbolOf, dynamicRelocationOf, sliced, symbolTableIn, symbolTableOf, fileRange, fileRangeOf, contentsPlace, sectionPlaceOf};
+ghost use Rattle.elf_parser.specs.Records.{entryAt, phdrOf, shdrOf, symOf, relOf, relaOf, programHeaderOf, sectionHeaderOf, dynamicSymbolOf, dynamicRelocationOf, dynamicRelaOf, sliced, symbolTableIn, symbolTableOf, fileRange, fileRangeOf, contentsPlace, sectionPlaceOf};
 ghost use Rattle.elf_parser.specs.Parts.{partOf};
 
 // Entries of one kind that stand one after another in the file.
@@ -50,6 +52,11 @@ pub enum Sym {
 
 pub enum Rel {
     Relocation(Elf64Rel),
+    Refused(ElfParserError),
+}
+
+pub enum Rela {
+    Relocation(Elf64Rela),
     Refused(ElfParserError),
 }
 
@@ -101,6 +108,15 @@ fn rel_in(file: &[u8], table: Entries, index: u32) -> Rel
     }
 }
 
+fn rela_in(file: &[u8], table: Entries, index: u32) -> Rela
+    ensures { λ r. ⌜ r ≡ relaOf (now (file .entry)) table index ⌝ }
+{
+    match entry_at(file.len() as u64, table, 24, index) {
+        Entry::At(at) => Rela::Relocation(rela_at(file, at)),
+        Entry::Refused(r) => Rela::Refused(r),
+    }
+}
+
 // The symbol number `index` of a symbol table.
 pub fn symbol(file: &[u8], table: Entries, index: u32) -> Sym
     ensures { λ r. ⌜ r ≡ symOf (now (file .entry)) table index ⌝ }
@@ -137,6 +153,14 @@ pub fn dynamic_relocation(file: &[u8], layout: Layout, index: u32) -> Rel
 {
     let table = layout.dynamic_relocations;
     rel_in(file, table, index)
+}
+
+// A relocation of the kind that brings an addend.
+pub fn dynamic_rela(file: &[u8], layout: Layout, index: u32) -> Rela
+    ensures { λ r. ⌜ r ≡ dynamicRelaOf (now (file .entry)) layout index ⌝ }
+{
+    let table = layout.dynamic_relas;
+    rela_in(file, table, index)
 }
 
 // Entries of `width` bytes that fill `size` bytes from `offset` on.

@@ -6,7 +6,7 @@ use ebpf::little_endian::read_u64;
 ghost use mathlib.Core.Path.{_≡_};
 ghost use Prim.Native.Nat.{_+_, _≤_};
 ghost use lib.ListN.{length};
-ghost use Rattle.elf_parser.specs.Types.{fileHeader, programHeader, sectionHeader, sym, rel};
+ghost use Rattle.elf_parser.specs.Types.{fileHeader, programHeader, sectionHeader, sym, rel, rela};
 
 pub struct Elf64Ehdr {
     pub ei_osabi: u8,
@@ -49,6 +49,13 @@ pub struct Elf64Rel {
     pub r_info: u64,
 }
 
+// The addend is signed: its bits as an unsigned number, negative from 2^63 on.
+pub struct Elf64Rela {
+    pub r_offset: u64,
+    pub r_info: u64,
+    pub r_addend: u64,
+}
+
 // The file header, zeros where the file is shorter.
 pub fn file_header(file: &[u8]) -> Elf64Ehdr
     ensures { λ r. ⌜ r ≡ fileHeader (now (file .entry)) ⌝ }
@@ -67,7 +74,7 @@ pub fn file_header(file: &[u8]) -> Elf64Ehdr
     }
 }
 
-// The next four read in the part of the file that is the record: its length is known, so that no field
+// The next five read in the part of the file that is the record: its length is known, so that no field
 // asks whether the file ends in it.
 pub(crate) fn phdr_at(file: &[u8], at: usize) -> Elf64Phdr
     requires { ⌜ at + 56 ≤ length (now file) ⌝ }
@@ -122,5 +129,18 @@ pub(crate) fn rel_at(file: &[u8], at: usize) -> Elf64Rel
     Elf64Rel {
         r_offset: read_u64(part, 0),
         r_info: read_u64(part, 8),
+    }
+}
+
+pub(crate) fn rela_at(file: &[u8], at: usize) -> Elf64Rela
+    requires { ⌜ at + 24 ≤ length (now file) ⌝ }
+    ensures { λ r. ⌜ r ≡ rela (now (file .entry)) at ⌝ }
+{
+    let end = at + 24;
+    let part = &file[at..end];
+    Elf64Rela {
+        r_offset: read_u64(part, 0),
+        r_info: read_u64(part, 8),
+        r_addend: read_u64(part, 16),
     }
 }

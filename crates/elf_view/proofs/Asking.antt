@@ -28,6 +28,8 @@ use denote.Builtin.{u8, u32}
 use denote.Ref.{now}
 use denote.Signature.{Slot, plain, shrSliceOf, namedLft}
 use denote.Slice.{sliceVal, ShrSlice, shr-slice-lawful}
+use denote.Enum.Enum.{Few, layout}
+use denote.Enum.Declared.{Declared as Enum, shape, row}
 use denote.Enum.Laws as EL
 use denote.Steps.{owned, peeks, heard, nothing}
 use denote.Struct.Declared.{Declared}
@@ -47,8 +49,6 @@ use Rattle.elf_parser.specs.declared.layout.Layout.{Layout}
 use Rattle.elf_parser.specs.declared.parts.Place.{Place}
 use Rattle.elf_parser.proofs.layout.Layout as P
 use Rattle.elf_parser.proofs.layout.Layout.Laws as P′
-use Rattle.elf_parser.proofs.parts.Place as S
-use Rattle.elf_parser.proofs.parts.Place.Laws as S′
 use Rattle.elf_view.specs.declared.Elf64.{Elf64}
 use Rattle.elf_view.proofs.Held.{View, bytes}
 use Rattle.elf_view.proofs.Elf64 as T
@@ -185,8 +185,8 @@ module _ (R : Slot 1) where
         asks-meets 𝓣 known = walk-meets 𝓤 H A ended stayed W (goes-none 𝓤 H A W 1 View yes (λ κs x f. refl), (goes-none 𝓤 H A W 1 (λ κs. u32) yes (λ κs x f. refl), tt)) (clauses 𝓤 E) (WpFn 𝓤 H (𝓣 .C) (𝓣 .Λ) (asks τ k)) (WpFn-mono 𝓤 H (W .laws) 𝓣 (asks τ k))
             (walks (𝓣 .C) (𝓣 .Λ) (fmOf 𝓤 H (W .laws) 𝓣) known)
 
--- ---- by the routines: f is the function, k and g its callee's name and routine, and `found` says where things stand in a file
-module _ (found : List ℕ → Layout → ℕ → Place) {M : Type 1} (𝓤 : URA M) (H : Heap 𝓤) (𝓜 : Model 𝓤 H) (𝓖 : GhostRules 𝓤 H) (𝓡 : Running 𝓤 H 𝓜) (γ : Env) (f k : Name) (g : Routine) (calls : γ k ≡ g) where
+-- ---- by the routines: f is the function, k and g its callee's name and routine
+module _ {M : Type 1} (𝓤 : URA M) (H : Heap 𝓤) (𝓜 : Model 𝓤 H) (𝓖 : GhostRules 𝓤 H) (𝓡 : Running 𝓤 H 𝓜) (γ : Env) (f k : Name) (g : Routine) (calls : γ k ≡ g) where
   module _ (R : Slot 1) (Says : Said R) (τ : Ty) where
     -- a function of that MIR ensures what follows from what its callee says
     abbrev Asks : Type 2
@@ -198,10 +198,12 @@ module _ (found : List ℕ → Layout → ℕ → Place) {M : Type 1} (𝓤 : UR
         entered 𝓤 H (tripleOf 𝓤 H (𝓖 .A) (ended R .signature) (closing 𝓤 H (𝓖 .A) (ended R) (clauses R 𝓤 E))) (tables 𝓤 H 𝓜 𝓡 γ .C) (tables 𝓤 H 𝓜 𝓡 γ .Λ) f (asks τ k) closed
         (asks-meets R Says 𝓤 H (𝓖 .A) E follows (givenOf 𝓤 H 𝓜 𝓖) τ typed k (tablesOf 𝓤 H 𝓜 (tables 𝓤 H 𝓜 𝓡 γ)) (cited 𝓤 H (Callee R Says 𝓤 H (𝓖 .A)) 𝓜 𝓡 γ k g calls known))
 
-  -- the place is answered
-  pub asks-place : Asks (plain (λ κs. S.the-row)) (λ κs s l i r. r ≡ found s l i) S′.mir
-  asks-place = met (plain (λ κs. S.the-row)) (λ κs s l i r. r ≡ found s l i) S′.mir (λ κs r u is. EL.lawful S.the-type S′.the-laws 𝓤 H (𝓖 .A) (givenOf 𝓤 H 𝓜 𝓖) tt .typed r _ is .0)
+  -- a value of an enum is answered: a place, or an entry of a table
+  module _ (D : Enum) (L : EL.Laws D) (few : Few (shape D)) (found : List ℕ → Layout → ℕ → D .D) where
+    pub asks-enum : Asks (plain (λ κs. row D)) (λ κs s l i r. r ≡ found s l i) (layout (shape D))
+    asks-enum = met (plain (λ κs. row D)) (λ κs s l i r. r ≡ found s l i) (layout (shape D)) (λ κs r u is. EL.lawful D L 𝓤 H (𝓖 .A) (givenOf 𝓤 H 𝓜 𝓖) few .typed r _ is .0)
 
-  -- the part of the file there is returned
-  pub asks-part : Asks (shrSliceOf (0 ∷ []) tt (plain (λ κs. u8))) (λ κs s l i r. now r ≡ partOf s (found s l i)) (bytes (named 0))
-  asks-part = met (shrSliceOf (0 ∷ []) tt (plain (λ κs. u8))) (λ κs s l i r. now r ≡ partOf s (found s l i)) (bytes (named 0)) (λ κs r u is. shr-slice-lawful 𝓤 H (𝓖 .A) (givenOf 𝓤 H 𝓜 𝓖) (named 0) (κs .0) u8 .typed r _ is .0)
+  -- the part of the file at a place is returned
+  module _ (found : List ℕ → Layout → ℕ → Place) where
+    pub asks-part : Asks (shrSliceOf (0 ∷ []) tt (plain (λ κs. u8))) (λ κs s l i r. now r ≡ partOf s (found s l i)) (bytes (named 0))
+    asks-part = met (shrSliceOf (0 ∷ []) tt (plain (λ κs. u8))) (λ κs s l i r. now r ≡ partOf s (found s l i)) (bytes (named 0)) (λ κs r u is. shr-slice-lawful 𝓤 H (𝓖 .A) (givenOf 𝓤 H 𝓜 𝓖) (named 0) (κs .0) u8 .typed r _ is .0)

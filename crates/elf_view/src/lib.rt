@@ -3,6 +3,10 @@
 // layout, also in a view that no parse made. Whoever has the file and the layout asks there.
 use elf_parser::Layout;
 use elf_parser::Place;
+use elf_parser::Rel;
+use elf_parser::Rela;
+use elf_parser::dynamic_rela;
+use elf_parser::dynamic_relocation;
 use elf_parser::dynamic_symbol_name;
 use elf_parser::dynamic_symbol_name_part;
 use elf_parser::section_contents;
@@ -14,7 +18,7 @@ use elf_parser::symbol_name_part;
 ghost use mathlib.Core.Path.{_≡_};
 ghost use Rattle.elf_parser.specs.Names.{sectionName, symbolName, dynamicSymbolName};
 ghost use Rattle.elf_parser.specs.Parts.{partOf};
-ghost use Rattle.elf_parser.specs.Records.{sectionPlaceOf};
+ghost use Rattle.elf_parser.specs.Records.{sectionPlaceOf, dynamicRelocationOf, dynamicRelaOf};
 
 pub struct Elf64<'a> {
     pub file: &'a [u8],
@@ -51,6 +55,19 @@ impl<'a> Elf64<'a> {
         ensures { λ r. ⌜ r ≡ self .entry .layout .«section_headers» .count ⌝ }
     {
         self.layout.section_headers.count
+    }
+
+    // The dynamic relocation number `index`, without an addend and with one.
+    pub fn dynamic_relocation(self, index: u32) -> Rel
+        ensures { λ r. ⌜ r ≡ dynamicRelocationOf (now (self .entry .file)) (self .entry .layout) index ⌝ }
+    {
+        dynamic_relocation(self.file, self.layout, index)
+    }
+
+    pub fn dynamic_rela(self, index: u32) -> Rela
+        ensures { λ r. ⌜ r ≡ dynamicRelaOf (now (self .entry .file)) (self .entry .layout) index ⌝ }
+    {
+        dynamic_rela(self.file, self.layout, index)
     }
 
     // Where the contents of section `index` stand.

@@ -15,7 +15,7 @@ use Rattle.elf_parser.specs.declared.error.ElfParserError.the-variants.{Invalid
 use Rattle.elf_parser.specs.SectionNames.{sameBytes}
 use Rattle.elf_parser.specs.Errors as parser
 use Rattle.loader.specs.declared.error.ElfError.{ElfError}
-use Rattle.loader.specs.declared.error.ElfError.the-variants.{FailedToParse, EntrypointOutOfBounds, InvalidEntrypoint, UnresolvedSymbol, RelativeJumpOutOfBounds, SymbolHashCollision, WrongAbi, WrongMachine, NotOneTextSection, WritableSectionNotSupported, InvalidVirtualAddress, UnknownRelocation, WrongType, UnknownSymbol, ValueOutOfBounds, UnsupportedSBPFVersion, FileTooLong, BufferShort, BuiltinsNotAscending, TableFull, TextOutsideReadOnly}
+use Rattle.loader.specs.declared.error.ElfError.the-variants.{FailedToParse, EntrypointOutOfBounds, InvalidEntrypoint, UnresolvedSymbol, RelativeJumpOutOfBounds, SymbolHashCollision, WrongAbi, WrongMachine, NotOneTextSection, WritableSectionNotSupported, InvalidVirtualAddress, UnknownRelocation, WrongType, UnknownSymbol, ValueOutOfBounds, UnsupportedSBPFVersion, FileTooLong, BufferShort, BuiltinsNotAscending, TableFull, TextOutsideReadOnly, AddendNegative}
 use Rattle.loader.specs.Errors as load
 use Rattle.exports.specs.Names.{names, bytes, nameIn, refusalName, pieceOf}
 use Rattle.exports.proofs.Naming.{laid, whole, laid-has}
@@ -111,6 +111,7 @@ load-named BufferShort = named 41 refl
 load-named BuiltinsNotAscending = named 42 refl
 load-named (TableFull rows) = named 43 refl
 load-named TextOutsideReadOnly = named 44 refl
+load-named AddendNegative = named 47 refl
 
 -- ---- no two refusals share a name
 

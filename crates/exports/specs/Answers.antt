@@ -68,7 +68,7 @@ refused e = reported (reportOf e)
 abbrev pub accepted : List ℕ → Answer
 accepted ws = answerWith 0 (0 ∷ 0 ∷ 0 ∷ ws)
 
--- a layout: its numbers, in the order of `Layout`
+-- a layout: its numbers, in the order of `Layout`, but for the relocations that bring an addend, which come last
 abbrev pub laidOut : Layout → Answer
 laidOut l =
     accepted
@@ -84,6 +84,8 @@ laidOut l =
     ∷ l .«dynamic_relocations» .count
     ∷ l .«dynamic_symbols» .offset
     ∷ l .«dynamic_symbols» .count
+    ∷ l .«dynamic_relas» .offset
+    ∷ l .«dynamic_relas» .count
     ∷ [])
 
 abbrev pub parseAnswer : Parsed → Answer

@@ -49,6 +49,7 @@ names =
     ∷ (44, "TextOutsideReadOnly")
     ∷ (45, "NoSuchIndex")
     ∷ (46, "NotASection")
+    ∷ (47, "AddendNegative")
     ∷ []
 
 -- the bytes of a text whose characters are one byte long

@@ -69,6 +69,7 @@ fn laid_out(l: Layout) -> Answer
     let program_headers = l.program_headers;
     let section_headers = l.section_headers;
     let relocations = l.dynamic_relocations;
+    let relas = l.dynamic_relas;
     let symbols = l.dynamic_symbols;
     let words = [
         0,
@@ -86,6 +87,8 @@ fn laid_out(l: Layout) -> Answer
         relocations.count,
         symbols.offset,
         symbols.count,
+        relas.offset,
+        relas.count,
     ];
     answer_with(0, &words)
 }

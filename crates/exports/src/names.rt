@@ -121,6 +121,7 @@ pub(crate) fn refusal_name(name: &mut [u8], number: u32) -> u32
         TextOutsideReadOnly\0\
         NoSuchIndex\0\
         NotASection\0\
+        AddendNegative\0\
         ";
     give_name(name, name_part(names, number))
 }

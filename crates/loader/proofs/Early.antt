@@ -35,6 +35,8 @@ use Rattle.loader.specs.declared.calls.Call.{Call}
 use Rattle.loader.specs.declared.calls.Call.the-variants.{None, To, Outside}
 use Rattle.loader.specs.declared.deeds.Deed.{Deed}
 use Rattle.loader.specs.declared.deeds.Deed.the-variants.{Skip, Refuse, Halves, Word, Key, Register, RegisterOnly, RegisterOutside}
+use Rattle.loader.specs.declared.relocations.Relocation.{Relocation}
+use Rattle.loader.specs.declared.relocations.Addend.{Addend}
 use Rattle.loader.specs.declared.relocations.Mapped.{Mapped}
 use Rattle.loader.specs.declared.relocations.Mapped.the-variants.{At as Placed, Refused as Unmapped}
 use Rattle.loader.specs.declared.validate.Job.{Job}
@@ -42,7 +44,7 @@ use Rattle.loader.specs.Addresses.{sumUpTo}
 use Rattle.loader.specs.Functions.{rowFor, symbolFunction, inText, indexOf}
 use Rattle.loader.specs.Deeds.{deedTrace}
 use Rattle.loader.specs.Calls.{callAt, textOf, slotCount, immediate, callRow, callBy, callDeed, slotTrace, callsTrace}
-use Rattle.loader.specs.Relocations.{relocationAt, halvesDeed, wordDeed, addressDeed, symbolDeed, plan6464, relativeText, planRelative, registerDeed, functionCall, builtinCall, callByName, namedCall, symbolCall, plan6432, planAt, planOf, placeAt, relocationTrace, relocationsTrace}
+use Rattle.loader.specs.Relocations.{relocationAt, relocationCount, halvesDeed, wordDeed, addressDeed, symbolDeed, plan6464, relativeText, planRelative, registerDeed, functionCall, builtinCall, callByName, namedCall, symbolCall, plan6432, planAt, planOf, placeAt, relocationTrace, relocationsTrace}
 use Rattle.loader.specs.Labels.{labelRow, namedLabel, labelOf, labelBy, labelDeed, labelSymbols, labelTrace, labelsTrace}
 use Rattle.loader.specs.Parts.{writingTrace}
 use Rattle.loader.specs.Contracts.{InFile}
@@ -176,17 +178,17 @@ module _ (file builtins : List ℕ) (j : Job) (off : j .«check_collision» ≡ 
   symbol-steady len split at addend number (Symbol y) = address-steady len split at _
   symbol-steady len split at addend number (NoSym e) = refl
 
-  steady6464 : (im : List ℕ) (l : Layout) (split : Bool) (r number : ℕ) → SteadyDeed G (plan6464 file im l split r number)
+  steady6464 : (im : List ℕ) (l : Layout) (split : Bool) (r number : ℕ) (addend : Addend) → SteadyDeed G (plan6464 file im l split r number addend)
   unfolding plan6464
-  steady6464 im l split r number = refuse-or G _ _ _ refl (symbol-steady (length im) split _ _ number (dynamicSymbolOf file l number))
+  steady6464 im l split r number addend = refuse-or G _ _ _ refl (symbol-steady (length im) split _ _ number (dynamicSymbolOf file l number))
 
   text-steady : (len low high address : ℕ) → SteadyDeed G (relativeText len low high address)
   unfolding relativeText
   text-steady len low high address = refuse-or G _ _ _ refl (refuse-or G _ _ _ refl (refuse-or G _ _ _ refl tt))
 
-  relative-steady : (im : List ℕ) (version2 in-text : Bool) (r : ℕ) → SteadyDeed G (planRelative im version2 in-text r)
+  relative-steady : (im : List ℕ) (version2 in-text : Bool) (r : ℕ) (addend : Addend) → SteadyDeed G (planRelative im version2 in-text r addend)
   unfolding planRelative
-  relative-steady im version2 in-text r = refuse-or G _ _ _ (text-steady (length im) _ _ _) (word-steady (length im) r _)
+  relative-steady im version2 in-text r addend = refuse-or G _ _ _ (text-steady (length im) _ _ _) (word-steady (length im) r _)
 
   function-steady : (len at : ℕ) (name : FunctionName) (value : ℕ) → SteadyDeed G (functionCall builtins j len at name value)
   unfolding functionCall
@@ -214,22 +216,23 @@ module _ (file builtins : List ℕ) (j : Job) (off : j .«check_collision» ≡ 
   unfolding plan6432
   steady6432 len r number = called-steady len r number (dynamicSymbolOf file (j .layout) number)
 
-  plan-steady : (im : List ℕ) (p : Mapped) (info : ℕ) → SteadyDeed G (planOf file im builtins j p info)
+  plan-steady : (im : List ℕ) (p : Mapped) (info : ℕ) (addend : Addend) → SteadyDeed G (planOf file im builtins j p info addend)
   unfolding planAt
-  plan-steady im (Placed r) info =
-      refuse-or G _ _ _ (steady6464 im (j .layout) _ r _)
-      (refuse-or G _ _ _ (relative-steady im (j .version2) _ r)
-      (refuse-or G _ _ _ (steady6432 (length im) r _) refl))
-  plan-steady im Unmapped info = refl
+  plan-steady im (Placed r) info addend =
+      refuse-or G _ _ _ refl
+      (refuse-or G _ _ _ (steady6464 im (j .layout) _ r _ addend)
+      (refuse-or G _ _ _ (relative-steady im (j .version2) _ r addend)
+      (refuse-or G _ _ _ (steady6432 (length im) r _) refl)))
+  plan-steady im Unmapped info addend = refl
 
   relocation-steady : (i : ℕ) (im : List ℕ) → Steady G (relocationTrace file builtins j i im)
   unfolding relocationTrace
   relocation-steady i im =
-      let info : ℕ = relocationAt file (j .layout) i .«r_info» in
-      deed-steady G (planOf file im builtins j (placeAt file j i) info) im (plan-steady im (placeAt file j i) info)
+      let r : Relocation = relocationAt file (j .layout) i in
+      deed-steady G (planOf file im builtins j (placeAt file j i) (r .«r_info») (r .addend)) im (plan-steady im (placeAt file j i) (r .«r_info») (r .addend))
 
   relocations-steady : (im : List ℕ) → Steady G (relocationsTrace file builtins j im)
-  relocations-steady im = steady-each G (relocationTrace file builtins j) relocation-steady (j .layout .«dynamic_relocations» .count) 0 im
+  relocations-steady im = steady-each G (relocationTrace file builtins j) relocation-steady (relocationCount j) 0 im
 
   -- labels
   named-label : (index st-name : ℕ) → index < 2 ^ 32 → (p : Place) → SteadyDeed G (namedLabel file builtins j index st-name p)

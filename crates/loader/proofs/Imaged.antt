@@ -34,7 +34,7 @@ use Rattle.loader.specs.Labels.{labelRow, namedLabel, labelOf, labelBy, 
 use Rattle.loader.specs.Entry.{entryDeed, forgetTrace, entryTrace}
 use Rattle.loader.specs.Parts.{writingTrace, namingTrace, placedTrace, jobTrace}
 use Rattle.loader.specs.Contracts.{InFile}
-use Rattle.loader.specs.Demand.{CallsTo, isIn, infoOf, Unnamed, keyOf, Bytes}
+use Rattle.loader.specs.Demand.{CallsTo, isIn, infoOf, addendOf, Unnamed, keyOf, Bytes}
 use Rattle.loader.proofs.Ends.{Ends, ends-then, ends-each}
 use Rattle.loader.proofs.Kept.{not-in, in-places, le-put, le-same, writes, written-other, deed-ends, step-ends, step-length, deeds-length, deeds-other, deeds-nothing}
 use Rattle.loader.proofs.Named.{unnamed-clear}
@@ -155,7 +155,7 @@ module _ (file builtins : List ℕ) (j : Job) where
   relocations-other : (im l : List ℕ) (b : ℕ) → length im ≤ 2 ^ 24 → Unnamed file j b → Ends (relocationsTrace file builtins j im) l → getD l b 0 ≡ getD im b 0
   relocations-other im l b short h e =
       deeds-other (relocationTrace file builtins j) relocation (relocationCount j) relocation-is im l b
-      (λ i k m n. unnamed-clear b file k builtins j (placeAt file j i) (infoOf file j i) (rw n short) (h i m)) e
+      (λ i k m n. unnamed-clear b file k builtins j (placeAt file j i) (infoOf file j i) (addendOf file j i) (rw n short) (h i m)) e
 
   -- ---- the key of a call
 

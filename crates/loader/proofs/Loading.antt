@@ -82,7 +82,7 @@ module _ (file builtins : List ℕ) (j : Job) (im im₁ : List ℕ) (t u : Slice
 all-few : (file : List ℕ) (j : Job) → InFile file j → allCount file j ≤ 2 ^ 24
 all-few file j f =
     let k = few-symbols file j in
-    omega (arith, k, f .text, f .short, f .relocations)
+    omega (arith, k, f .text, f .short, f .relocations, f .relas)
 
 pub begins-all : (file : List ℕ) (j : Job) (t : Slices) (rows : ℕ) → InFile file j → rows ≡ capacity t → t ≡ lay t [] → Begins (allCount file j) t rows 0 0
 begins-all file j t rows f r z =

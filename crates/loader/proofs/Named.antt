@@ -24,6 +24,7 @@ use Rattle.program.specs.declared.Legacy.the-variants.{Free, Taken}
 use Rattle.program.proofs.Cases.{zero-one}
 use Rattle.loader.specs.declared.deeds.Deed.{Deed}
 use Rattle.loader.specs.declared.deeds.Deed.the-variants.{Skip, Refuse, Halves, Word, Key, Register, RegisterOnly, RegisterOutside}
+use Rattle.loader.specs.declared.relocations.Addend.{Addend}
 use Rattle.loader.specs.declared.relocations.Mapped.{Mapped}
 use Rattle.loader.specs.declared.relocations.Mapped.the-variants.{At, Refused as Unmapped}
 use Rattle.loader.specs.declared.validate.Job.{Job}
@@ -144,27 +145,28 @@ module _ (b : ℕ) where
     symbol-clear split addend number (NoSym e) = never
 
   module _ (s im : List ℕ) (short : length im ≤ 2 ^ 24) (r : ℕ) where
-    clear6464 : (l : Layout) (split : Bool) (number : ℕ) → Clear (inHalves r b if split else isIn r 8 b) (plan6464 s im l split r number)
+    clear6464 : (l : Layout) (split : Bool) (number : ℕ) (addend : Addend) → Clear (inHalves r b if split else isIn r 8 b) (plan6464 s im l split r number addend)
     unfolding plan6464
-    clear6464 l split number = one _ _ _ _ never (λ e. symbol-clear (length im) short r split _ number (dynamicSymbolOf s l number))
+    clear6464 l split number addend = one _ _ _ _ never (λ e. symbol-clear (length im) short r split _ number (dynamicSymbolOf s l number))
 
-    relative-clear : (version2 in-text : Bool) → Clear (inHalves r b if in-text else isIn r 8 b) (planRelative im version2 in-text r)
+    relative-clear : (version2 in-text : Bool) (addend : Addend) → Clear (inHalves r b if in-text else isIn r 8 b) (planRelative im version2 in-text r addend)
     unfolding planRelative
-    relative-clear version2 in-text = both _ _ in-text _ _ (text-clear (length im) short r _) (word-clear (length im) short r _)
+    relative-clear version2 in-text addend = both _ _ in-text _ _ (text-clear (length im) short r _) (word-clear (length im) short r _)
 
-    at-clear : (builtins : List ℕ) (j : Job) (info : ℕ) → Clear (namedBy (j .version2) (textHolds j r) (info % 2 ^ 32) r b) (planAt s im builtins j r info)
+    at-clear : (builtins : List ℕ) (j : Job) (info : ℕ) (addend : Addend) → Clear (namedBy (j .version2) (textHolds j r) (info % 2 ^ 32) r b) (planAt s im builtins j r info addend)
     unfolding planAt namedBy
-    at-clear builtins j info =
-        both _ _ (eqb (info % 2 ^ 32) 1) _ _ (clear6464 (j .layout) (textHolds j r || not (j .version2)) (info / 2 ^ 32))
-        (both _ _ (eqb (info % 2 ^ 32) 8) _ _ (relative-clear (j .version2) (textHolds j r))
-        (both _ _ (eqb (info % 2 ^ 32) 10) _ _ (clear6432 (length im) short r s builtins j (info / 2 ^ 32)) never))
+    at-clear builtins j info addend =
+        one _ _ _ _ never
+        (λ e. both _ _ (eqb (info % 2 ^ 32) 1) _ _ (clear6464 (j .layout) (textHolds j r || not (j .version2)) (info / 2 ^ 32) addend)
+        (both _ _ (eqb (info % 2 ^ 32) 8) _ _ (relative-clear (j .version2) (textHolds j r) addend)
+        (both _ _ (eqb (info % 2 ^ 32) 10) _ _ (clear6432 (length im) short r s builtins j (info / 2 ^ 32)) never)))
 
 -- THE NAMED BYTES are those that a relocation writes, where it does not stop the load
-pub named-exactly : (b : ℕ) (s im builtins : List ℕ) (j : Job) (p : Mapped) (info : ℕ) → length im ≤ 2 ^ 24
-    → stops (planOf s im builtins j p info) ≡ false
-    → namedAt j p (info % 2 ^ 32) b ≡ writes (planOf s im builtins j p info) b
-named-exactly b s im builtins j (At r) info short h = at-clear b s im short r builtins j info h
-named-exactly b s im builtins j Unmapped info short h = never b h
+pub named-exactly : (b : ℕ) (s im builtins : List ℕ) (j : Job) (p : Mapped) (info : ℕ) (addend : Addend) → length im ≤ 2 ^ 24
+    → stops (planOf s im builtins j p info addend) ≡ false
+    → namedAt j p (info % 2 ^ 32) b ≡ writes (planOf s im builtins j p info addend) b
+named-exactly b s im builtins j (At r) info addend short h = at-clear b s im short r builtins j info addend h
+named-exactly b s im builtins j Unmapped info addend short h = never b h
 
 stopped : (b : ℕ) (d : Deed) → stops d ≡ true → writes d b ≡ false
 stopped b (Refuse r) e = refl
@@ -177,11 +179,11 @@ stopped b (Key at k) e = never b (sym e)
 stopped b (Register row at) e = never b (sym e)
 
 -- so a byte that a relocation does not name is not written by it
-pub unnamed-clear : (b : ℕ) (s im builtins : List ℕ) (j : Job) (p : Mapped) (info : ℕ) → length im ≤ 2 ^ 24
+pub unnamed-clear : (b : ℕ) (s im builtins : List ℕ) (j : Job) (p : Mapped) (info : ℕ) (addend : Addend) → length im ≤ 2 ^ 24
     → namedAt j p (info % 2 ^ 32) b ≡ false
-    → writes (planOf s im builtins j p info) b ≡ false
-unnamed-clear b s im builtins j p info short h = go (stops (planOf s im builtins j p info)) refl
+    → writes (planOf s im builtins j p info addend) b ≡ false
+unnamed-clear b s im builtins j p info addend short h = go (stops (planOf s im builtins j p info addend)) refl
   where
-    go : (t : Bool) → stops (planOf s im builtins j p info) ≡ t → writes (planOf s im builtins j p info) b ≡ false
-    go true e = stopped b (planOf s im builtins j p info) e
-    go false e = sym (named-exactly b s im builtins j p info short e) ∙ h
+    go : (t : Bool) → stops (planOf s im builtins j p info addend) ≡ t → writes (planOf s im builtins j p info addend) b ≡ false
+    go true e = stopped b (planOf s im builtins j p info addend) e
+    go false e = sym (named-exactly b s im builtins j p info addend short e) ∙ h

@@ -77,6 +77,7 @@ layoutOf shoff shnum shstrtab symtab strtab =
       strtab = strtab;
       dynstr = 0;
       «dynamic_relocations» = record { offset = 0; count = 0 };
+      «dynamic_relas» = record { offset = 0; count = 0 };
       «dynamic_symbols» = record { offset = 0; count = 0 };
     }
 

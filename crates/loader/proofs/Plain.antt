@@ -21,7 +21,7 @@ use Rattle.elf_parser.specs.Parse.{parsed}
 use Rattle.elf_parser.specs.Records.{fileRangeOf}
 use Rattle.elf_parser.specs.Types.{fileHeader}
 use Rattle.loader.specs.declared.error.ElfError.{ElfError}
-use Rattle.loader.specs.declared.error.ElfError.the-variants.{FailedToParse, EntrypointOutOfBounds, InvalidEntrypoint, UnresolvedSymbol, RelativeJumpOutOfBounds, SymbolHashCollision, WrongAbi, WrongMachine, NotOneTextSection, WritableSectionNotSupported, InvalidVirtualAddress, UnknownRelocation, WrongType, UnknownSymbol, ValueOutOfBounds, UnsupportedSBPFVersion, FileTooLong, BufferShort, BuiltinsNotAscending, TableFull, TextOutsideReadOnly}
+use Rattle.loader.specs.declared.error.ElfError.the-variants.{FailedToParse, EntrypointOutOfBounds, InvalidEntrypoint, UnresolvedSymbol, RelativeJumpOutOfBounds, SymbolHashCollision, WrongAbi, WrongMachine, NotOneTextSection, WritableSectionNotSupported, InvalidVirtualAddress, UnknownRelocation, WrongType, UnknownSymbol, ValueOutOfBounds, UnsupportedSBPFVersion, FileTooLong, BufferShort, BuiltinsNotAscending, TableFull, TextOutsideReadOnly, AddendNegative}
 use Rattle.loader.specs.declared.sections.Survey.{Survey}
 use Rattle.loader.specs.declared.read_only.Extent.{Extent}
 use Rattle.loader.specs.declared.read_only.Gathering.{Gathering}
@@ -62,6 +62,7 @@ ofTable BufferShort = false
 ofTable BuiltinsNotAscending = false
 ofTable (TableFull rows) = true
 ofTable TextOutsideReadOnly = false
+ofTable AddendNegative = false
 
 abbrev pub Plain : ElfError → Type 0
 Plain r = ofTable r ≡ false

@@ -144,7 +144,8 @@ job-in s c version2 l e-entry h p q short lies below =
       size = omega (arith, lies, short);
       short = short;
       headers = omega (arith, ph, short);
-      relocations = few-relocations s l q;
+      relocations = few-relocations s l q .0;
+      relas = few-relocations s l q .1;
       entry = omega (arith, lies, short, below);
     }
 

@@ -30,6 +30,7 @@ use Rattle.loader.specs.declared.deeds.Deed.{Deed}
 use Rattle.loader.specs.declared.deeds.Deed.the-variants.{Refuse}
 use Rattle.loader.specs.declared.deeds.Entry.{Entry}
 use Rattle.loader.specs.declared.deeds.Entry.the-variants.{Nothing, Refuse as NoEntry, Register as Enter}
+use Rattle.loader.specs.declared.relocations.Addend.{Addend}
 use Rattle.loader.specs.declared.relocations.Mapped.{Mapped}
 use Rattle.loader.specs.declared.relocations.Mapped.the-variants.{At as Placed, Refused as Unmapped}
 use Rattle.loader.specs.declared.validate.Job.{Job}
@@ -44,7 +45,7 @@ use Rattle.loader.specs.Parts.{writingTrace}
 use Rattle.loader.proofs.Ends.{Ends, ends-then}
 use Rattle.loader.proofs.Asked.{Asks, Keeps, AsksFor}
 use Rattle.loader.proofs.Targets.{local-calls}
-use Rattle.loader.specs.Demand.{LocalCall, CallsTo, OfCall, OfRelocation, OfLabel, OfEntry, infoOf, entryIndex, earlyTrace}
+use Rattle.loader.specs.Demand.{LocalCall, CallsTo, OfCall, OfRelocation, OfLabel, OfEntry, infoOf, addendOf, entryIndex, earlyTrace}
 use Rattle.loader.proofs.Traces.{asks-then, keeps-then, keeps-each, ends-turn, asks-each}
 
 -- ---- a deed
@@ -137,17 +138,17 @@ module _ (P : Row → Type 0) (none : (row : Row) → P row → ⊥) where
   symbol-none len split at addend number (Symbol y) = either split _ _ P (λ e. halves-none len at (sumUpTo at 8) _) (λ e. word-none len at _)
   symbol-none len split at addend number (NoSym r) = tt
 
-  none6464 : (s im : List ℕ) (j : Job) (split : Bool) (r number : ℕ) → AsksFor (entryOf (plan6464 s im (j .layout) split r number)) P
+  none6464 : (s im : List ℕ) (j : Job) (split : Bool) (r number : ℕ) (addend : Addend) → AsksFor (entryOf (plan6464 s im (j .layout) split r number addend)) P
   unfolding plan6464
-  none6464 s im j split r number = either _ _ _ P (λ e. tt) (λ e. symbol-none (length im) split _ _ number (dynamicSymbolOf s (j .layout) number))
+  none6464 s im j split r number addend = either _ _ _ P (λ e. tt) (λ e. symbol-none (length im) split _ _ number (dynamicSymbolOf s (j .layout) number))
 
   text-none : (len low high address : ℕ) → AsksFor (entryOf (relativeText len low high address)) P
   unfolding relativeText
   text-none len low high address = either _ _ _ P (λ e. tt) (λ e. either _ _ _ P (λ f. tt) (λ f. either _ _ _ P (λ g. tt) (λ g. none)))
 
-  relative-none : (im : List ℕ) (version2 in-text : Bool) (r : ℕ) → AsksFor (entryOf (planRelative im version2 in-text r)) P
+  relative-none : (im : List ℕ) (version2 in-text : Bool) (r : ℕ) (addend : Addend) → AsksFor (entryOf (planRelative im version2 in-text r addend)) P
   unfolding planRelative
-  relative-none im version2 in-text r = either in-text _ _ P (λ e. text-none (length im) _ _ _) (λ e. word-none (length im) r _)
+  relative-none im version2 in-text r addend = either in-text _ _ P (λ e. text-none (length im) _ _ _) (λ e. word-none (length im) r _)
 
   builtin-none : (builtins : List ℕ) (reject-broken : Bool) (len at r start n hash : ℕ) → AsksFor (entryOf (builtinCall builtins reject-broken len at r start n hash)) P
   unfolding builtinCall
@@ -201,12 +202,13 @@ module _ (file builtins : List ℕ) (j : Job) (i : ℕ) (l : i < relocationCount
   other-none : (k : ℕ) → (k ≡ 10 → ⊥) → info % 2 ^ 32 ≡ k → (row : Row) → OfThis row → ⊥
   other-none k ne e row h = ne (sym e ∙ h .1)
 
-  place-asks : (im : List ℕ) (p : Mapped) → AsksFor (entryOf (planOf file im builtins j p info)) OfThis
+  place-asks : (im : List ℕ) (p : Mapped) → AsksFor (entryOf (planOf file im builtins j p info (addendOf file j i))) OfThis
   unfolding planAt plan6432
   place-asks im (Placed r) =
-      either _ _ _ OfThis (λ e. none6464 OfThis (other-none 1 (λ z. absurd (omega arith)) (eqb-true (info % 2 ^ 32) 1 e)) file im j _ r _)
-      (λ e. either _ _ _ OfThis (λ f. relative-none OfThis (other-none 8 (λ z. absurd (omega arith)) (eqb-true (info % 2 ^ 32) 8 f)) im (j .version2) _ r)
-      (λ f. either _ _ _ OfThis (λ g. symbol-asks (eqb-true (info % 2 ^ 32) 10 g) (length im) r (dynamicSymbolOf file (j .layout) (info / 2 ^ 32)) refl) (λ g. tt)))
+      either _ _ _ OfThis (λ d. tt)
+      (λ d. either _ _ _ OfThis (λ e. none6464 OfThis (other-none 1 (λ z. absurd (omega arith)) (eqb-true (info % 2 ^ 32) 1 e)) file im j _ r _ _)
+      (λ e. either _ _ _ OfThis (λ f. relative-none OfThis (other-none 8 (λ z. absurd (omega arith)) (eqb-true (info % 2 ^ 32) 8 f)) im (j .version2) _ r _)
+      (λ f. either _ _ _ OfThis (λ g. symbol-asks (eqb-true (info % 2 ^ 32) 10 g) (length im) r (dynamicSymbolOf file (j .layout) (info / 2 ^ 32)) refl) (λ g. tt))))
   place-asks im Unmapped = tt
 
   relocation-asks : (im : List ℕ) → AsksFor (entryOf (relocationDeed file builtins j i im)) OfThis

@@ -4,21 +4,21 @@ use mathlib.Core.Path.{_≡_, refl, sym, ap, subst, _∙_}
 use mathlib.Core.Bool.{Bool}
 use mathlib.Core.List.{List}
 use Prim.Native.Nat.{ℕ, _+_, _≤_, _<_, _^_}
-use mir.Syntax.{w32}
+use mir.Syntax.{w32, w64}
 use mir.Val.{Fits}
 use native.Mathlib.Omega.{arith}
 use lib.ListN.{length}
-use Rattle.elf_parser.specs.declared.types.Elf64Rel.{Elf64Rel}
 use Rattle.elf_parser.specs.declared.records.Entries.{Entries}
 use Rattle.elf_parser.specs.declared.layout.Layout.{Layout}
 use Rattle.program.specs.Table.{Slices}
 use Rattle.loader.specs.declared.deeds.Outcome.{Outcome}
 use Rattle.loader.specs.declared.deeds.Deed.{Deed}
+use Rattle.loader.specs.declared.relocations.Relocation.{Relocation}
 use Rattle.loader.specs.declared.relocations.Used.{Used}
 use Rattle.loader.specs.declared.relocations.Used.the-variants.{None}
 use Rattle.loader.specs.declared.validate.Job.{Job}
 use Rattle.loader.specs.Deeds.{DeedFits, deedTrace}
-use Rattle.loader.specs.Relocations.{relocationAt, usedHeader, usedBefore, placeOf, planOf, relocationDeed, relocationTrace, used-next, plan-fits}
+use Rattle.loader.specs.Relocations.{relocationAt, relocationCount, usedHeader, usedBefore, placeOf, planOf, relocationDeed, relocationTrace, used-next, plan-fits}
 use Rattle.loader.specs.Labels.{labelSymbols, labelDeed, labelTrace, label-fits, few-symbols}
 use Rattle.loader.specs.Contracts.{InFile, Settles}
 
@@ -29,8 +29,11 @@ few-fit n len h l = record { fits = omega arith }
 pub turn-fits : (i count held : ℕ) → i < count → held + count ≤ 2 ^ 26 → Fits w32 (i + 1)
 turn-fits i count held l h = record { fits = omega arith }
 
-pub relocations-fit : (file : List ℕ) (j : Job) → InFile file j → Fits w32 (j .layout .«dynamic_relocations» .count)
-relocations-fit file j inside = few-fit (j .layout .«dynamic_relocations» .count) (length file) (omega (arith, inside .relocations)) (inside .short)
+pub relocations-fit : (file : List ℕ) (j : Job) → InFile file j → Fits w32 (relocationCount j)
+relocations-fit file j inside = few-fit (relocationCount j) (length file) (omega (arith, inside .relocations, inside .relas)) (inside .short)
+
+pub counts-fit : (file : List ℕ) (j : Job) → InFile file j → Fits w64 (relocationCount j)
+counts-fit file j inside = record { fits = omega (arith, inside .relocations, inside .relas, inside .short) }
 
 pub symbols-fit : (file : List ℕ) (j : Job) (symbols : Entries) → InFile file j → symbols ≡ labelSymbols file j → Fits w32 (symbols .count)
 symbols-fit file j symbols inside e = rw e (few-fit (labelSymbols file j .count) (length file) (omega (arith, few-symbols file j)) (inside .short))
@@ -42,25 +45,25 @@ pub none-before : (file : List ℕ) (l : Layout) (version2 : Bool) → None ≡ 
 unfolding usedBefore
 none-before file l version2 = refl
 
-module _ (file builtins : List ℕ) (j : Job) (i : ℕ) (header next : Used) (r : Elf64Rel) (before : header ≡ usedBefore file (j .layout) (j .version2) i) (is : r ≡ relocationAt file (j .layout) i) (goes : next ≡ usedHeader file (j .layout) (j .version2) header (r .«r_offset»)) where
+module _ (file builtins : List ℕ) (j : Job) (i : ℕ) (header next : Used) (r : Relocation) (before : header ≡ usedBefore file (j .layout) (j .version2) i) (is : r ≡ relocationAt file (j .layout) i) (goes : next ≡ usedHeader file (j .layout) (j .version2) header (r .«r_offset»)) where
   -- the header used last, after this one
   pub header-next : next ≡ usedBefore file (j .layout) (j .version2) (i + 1)
   header-next = rw (goes, before, is) (sym (used-next file (j .layout) (j .version2) i))
 
-  turn-deed : (im : List ℕ) (d : Deed) → d ≡ planOf file im builtins j (placeOf (j .version2) next (r .«r_offset»)) (r .«r_info») → d ≡ relocationDeed file builtins j i im
+  turn-deed : (im : List ℕ) (d : Deed) → d ≡ planOf file im builtins j (placeOf (j .version2) next (r .«r_offset»)) (r .«r_info») (r .addend) → d ≡ relocationDeed file builtins j i im
   turn-deed im d e = e ∙ rw (header-next, is) refl
 
   pub relocation-settles : (im im′ : List ℕ) (t u : Slices) (used moves : ℕ) (a : Outcome) {d : Deed}
-      → d ≡ planOf file im builtins j (placeOf (j .version2) next (r .«r_offset»)) (r .«r_info»)
+      → d ≡ planOf file im builtins j (placeOf (j .version2) next (r .«r_offset»)) (r .«r_info») (r .addend)
       → Settles (deedTrace d im) im′ t u 1 used moves a
       → Settles (relocationTrace file builtins j i im) im′ t u 1 used moves a
   unfolding relocationTrace
   relocation-settles im im′ t u used moves a {d} e did = subst (λ (d : Deed). Settles (deedTrace d im) im′ t u 1 used moves a) (turn-deed im d e) did
 
-pub relocation-fits : (file im builtins : List ℕ) (j : Job) (next : Used) (r : Elf64Rel) {d : Deed}
-    → d ≡ planOf file im builtins j (placeOf (j .version2) next (r .«r_offset»)) (r .«r_info»)
+pub relocation-fits : (file im builtins : List ℕ) (j : Job) (next : Used) (r : Relocation) {d : Deed}
+    → d ≡ planOf file im builtins j (placeOf (j .version2) next (r .«r_offset»)) (r .«r_info») (r .addend)
     → DeedFits (length im) d
-relocation-fits file im builtins j next r e = subst (DeedFits (length im)) (sym e) (plan-fits file im builtins j (placeOf (j .version2) next (r .«r_offset»)) (r .«r_info»))
+relocation-fits file im builtins j next r e = subst (DeedFits (length im)) (sym e) (plan-fits file im builtins j (placeOf (j .version2) next (r .«r_offset»)) (r .«r_info») (r .addend))
 
 -- ---- labels
 

@@ -58,6 +58,7 @@ pub record InFile (file : List ℕ) (j : Job) : Type 0 where
   pub short : length file ≤ 2 ^ 24
   pub headers : j .layout .«program_headers» .count < 2 ^ 32
   pub relocations : 16 * j .layout .«dynamic_relocations» .count ≤ length file
+  pub relas : 24 * j .layout .«dynamic_relas» .count ≤ length file
   pub entry : j .«e_entry» - j .«sh_addr» ≤ 2 ^ 24
 
 -- what a part of a load is handed: the five slices are a table, and there is room for n registrations more

@@ -32,6 +32,7 @@ use Rattle.loader.specs.declared.answer.Load.{Load}
 use Rattle.loader.specs.declared.answer.Load.the-variants.{Accepted as Accepts, Refused as Refuses}
 use Rattle.loader.specs.declared.calls.Call.the-variants.{To}
 use Rattle.loader.specs.declared.error.ElfError.the-variants.{SymbolHashCollision, TableFull}
+use Rattle.loader.specs.declared.relocations.Addend.{Addend}
 use Rattle.loader.specs.declared.relocations.Mapped.{Mapped}
 use Rattle.loader.specs.declared.relocations.Mapped.the-variants.{At as Placed, Refused as Unmapped}
 use Rattle.loader.specs.declared.validate.Config.{Config}
@@ -80,6 +81,9 @@ namedAt j Unmapped type b = false
 
 abbrev pub infoOf : List ℕ → Job → ℕ → ℕ
 infoOf file j i = relocationAt file (j .layout) i .«r_info»
+
+abbrev pub addendOf : List ℕ → Job → ℕ → Addend
+addendOf file j i = relocationAt file (j .layout) i .addend
 
 -- the relocation number i names the byte b
 abbrev pub names : List ℕ → Job → ℕ → ℕ → Bool

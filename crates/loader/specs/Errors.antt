@@ -5,7 +5,7 @@ use Rattle.elf_parser.specs.declared.error.ElfParserError.the-variants.{Invalid
 use Rattle.elf_parser.specs.declared.error.Report.{Report}
 use Rattle.elf_parser.specs.Errors as parser
 use Rattle.loader.specs.declared.error.ElfError.{ElfError}
-use Rattle.loader.specs.declared.error.ElfError.the-variants.{FailedToParse, EntrypointOutOfBounds, InvalidEntrypoint, UnresolvedSymbol, RelativeJumpOutOfBounds, SymbolHashCollision, WrongAbi, WrongMachine, NotOneTextSection, WritableSectionNotSupported, InvalidVirtualAddress, UnknownRelocation, WrongType, UnknownSymbol, ValueOutOfBounds, UnsupportedSBPFVersion, FileTooLong, BufferShort, BuiltinsNotAscending, TableFull, TextOutsideReadOnly}
+use Rattle.loader.specs.declared.error.ElfError.the-variants.{FailedToParse, EntrypointOutOfBounds, InvalidEntrypoint, UnresolvedSymbol, RelativeJumpOutOfBounds, SymbolHashCollision, WrongAbi, WrongMachine, NotOneTextSection, WritableSectionNotSupported, InvalidVirtualAddress, UnknownRelocation, WrongType, UnknownSymbol, ValueOutOfBounds, UnsupportedSBPFVersion, FileTooLong, BufferShort, BuiltinsNotAscending, TableFull, TextOutsideReadOnly, AddendNegative}
 
 -- a parse's refusal in a load: its number, but 5 becomes 33
 abbrev pub fromParser : ElfParserError → ElfError
@@ -51,3 +51,4 @@ reportOf BufferShort = valued 41 0
 reportOf BuiltinsNotAscending = valued 42 0
 reportOf (TableFull rows) = valued 43 rows
 reportOf TextOutsideReadOnly = valued 44 0
+reportOf AddendNegative = valued 47 0

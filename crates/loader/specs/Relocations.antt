@@ -7,11 +7,10 @@ use mathlib.Core.Bool.{Bool, true, false, _&&_, _||_, not}
 use mathlib.Core.List.{List}
 use lib.ListN.{length, take, drop}
 use lib.Dec.{ltb, leb, eqb}
-use borrow.Author.Tests.{ltb-false}
+use borrow.Author.Tests.{ltb-false, leb-false}
 use Rattle.ebpf.specs.Choice.{_if_else_}
 use Rattle.ebpf.specs.LittleEndian.{le, join}
 use Rattle.ebpf.specs.Murmur3.{murmur3}
-use Rattle.elf_parser.specs.declared.types.Elf64Rel.{Elf64Rel}
 use Rattle.elf_parser.specs.declared.types.Elf64Sym.{Elf64Sym}
 use Rattle.elf_parser.specs.declared.layout.Layout.{Layout}
 use Rattle.elf_parser.specs.declared.layout.Parsed.the-variants.{File}
@@ -21,10 +20,12 @@ use Rattle.elf_parser.specs.declared.parts.Place.the-variants.{At as Stands, Re
 use Rattle.elf_parser.specs.declared.records.Phdr.{Phdr}
 use Rattle.elf_parser.specs.declared.records.Phdr.the-variants.{Header as PHeader, Refused as NoPhdr}
 use Rattle.elf_parser.specs.declared.records.Rel.{Rel}
-use Rattle.elf_parser.specs.declared.records.Rel.the-variants.{Relocation, Refused as NoRel}
+use Rattle.elf_parser.specs.declared.records.Rel.the-variants.{Relocation as Plain, Refused as NoRel}
+use Rattle.elf_parser.specs.declared.records.Rela.{Rela}
+use Rattle.elf_parser.specs.declared.records.Rela.the-variants.{Relocation as WithAddend, Refused as NoRela}
 use Rattle.elf_parser.specs.declared.records.Sym.{Sym}
 use Rattle.elf_parser.specs.declared.records.Sym.the-variants.{Symbol, Refused as NoSym}
-use Rattle.elf_parser.specs.Records.{programHeaderOf, dynamicRelocationOf, dynamicSymbolOf}
+use Rattle.elf_parser.specs.Records.{programHeaderOf, dynamicRelocationOf, dynamicRelaOf, dynamicSymbolOf}
 use Rattle.elf_parser.specs.Names.{dynamicSymbolName}
 use Rattle.elf_parser.specs.Types.{fileHeader}
 use Rattle.elf_parser.specs.Dynamic.{linked-inside}
@@ -34,10 +35,13 @@ use Rattle.program.specs.declared.FunctionName.{FunctionName}
 use Rattle.program.specs.declared.Legacy.{Legacy}
 use Rattle.program.specs.declared.Legacy.the-variants.{Free, Taken}
 use Rattle.program.specs.Search.{isAmong}
-use Rattle.loader.specs.declared.error.ElfError.the-variants.{UnresolvedSymbol, SymbolHashCollision, InvalidVirtualAddress, UnknownRelocation, UnknownSymbol, ValueOutOfBounds}
+use Rattle.loader.specs.declared.error.ElfError.the-variants.{UnresolvedSymbol, SymbolHashCollision, InvalidVirtualAddress, UnknownRelocation, UnknownSymbol, ValueOutOfBounds, AddendNegative}
 use Rattle.loader.specs.declared.validate.Job.{Job}
 use Rattle.loader.specs.declared.relocations.Used.{Used}
 use Rattle.loader.specs.declared.relocations.Used.the-variants.{None, Header}
+use Rattle.loader.specs.declared.relocations.Addend.{Addend}
+use Rattle.loader.specs.declared.relocations.Addend.the-variants.{None as NoAddend, Is}
+use Rattle.loader.specs.declared.relocations.Relocation.{Relocation}
 use Rattle.loader.specs.declared.relocations.Mapped.{Mapped}
 use Rattle.loader.specs.declared.relocations.Mapped.the-variants.{At, Refused as Unmapped}
 use Rattle.loader.specs.declared.deeds.Deed.{Deed}
@@ -49,16 +53,23 @@ use Rattle.loader.specs.Deeds.{DeedFits, deedTrace}
 
 -- ---- the place
 
--- the relocation number i
-abbrev pub relocationOr : Rel → Elf64Rel
-relocationOr (Relocation r) = r
-relocationOr (NoRel e) = record { «r_offset» = 0; «r_info» = 0 }
+-- a relocation of the older kind, which brings no addend, and one that brings one; a blank one where there is none
+abbrev pub relocationOr : Rel → Relocation
+relocationOr (Plain r) = record { «r_offset» = r .«r_offset»; «r_info» = r .«r_info»; addend = NoAddend }
+relocationOr (NoRel e) = record { «r_offset» = 0; «r_info» = 0; addend = NoAddend }
 
-unfoldable pub relocationAt : List ℕ → Layout → ℕ → Elf64Rel
-relocationAt s l i = relocationOr (dynamicRelocationOf s l i)
+abbrev pub relaOr : Rela → Relocation
+relaOr (WithAddend r) = record { «r_offset» = r .«r_offset»; «r_info» = r .«r_info»; addend = Is (r .«r_addend») }
+relaOr (NoRela e) = record { «r_offset» = 0; «r_info» = 0; addend = NoAddend }
+
+-- BOTH TABLES AS ONE LIST, the older first: the relocation number i, and how many there are
+unfoldable pub relocationAt : List ℕ → Layout → ℕ → Relocation
+relocationAt s l i =
+    relocationOr (dynamicRelocationOf s l i) if ltb i (l .«dynamic_relocations» .count) else
+    relaOr (dynamicRelaOf s l (i - l .«dynamic_relocations» .count))
 
 abbrev pub relocationCount : Job → ℕ
-relocationCount j = j .layout .«dynamic_relocations» .count
+relocationCount j = j .layout .«dynamic_relocations» .count + j .layout .«dynamic_relas» .count
 
 -- the program header number i; its addresses end at 2 ^ 64 - 1 at the latest
 abbrev pub headerBy : Phdr → Used
@@ -111,7 +122,17 @@ programAddress a = MM-PROGRAM-START + a if ltb a MM-PROGRAM-START else a
 unfoldable pub immediateAt : ℕ → ℕ
 immediateAt r = sumUpTo r 4
 
--- ---- type 1: a symbol's address plus the four bytes that are there
+-- the addend that a relocation brings, and where it brings none the number that was read
+abbrev pub addendOr : Addend → ℕ → ℕ
+addendOr NoAddend n = n
+addendOr (Is a) n = a
+
+-- it brings one that is negative: a signed number of 64 bits
+abbrev pub isNegative : Addend → Bool
+isNegative NoAddend = false
+isNegative (Is a) = leb (2 ^ 63) a
+
+-- ---- type 1: a symbol's address plus the addend, or the four bytes that are there
 
 unfoldable pub halvesDeed : ℕ → ℕ → ℕ → ℕ → Deed
 halvesDeed len low high value =
@@ -132,13 +153,13 @@ abbrev pub symbolDeed : ℕ → Bool → ℕ → ℕ → ℕ → Sym → Deed
 symbolDeed len split at addend number (Symbol y) = addressDeed len split at (programAddress (sumUpTo (y .«st_value») addend))
 symbolDeed len split at addend number (NoSym e) = Refuse (UnknownSymbol number)
 
-unfoldable pub plan6464 : List ℕ → List ℕ → Layout → Bool → ℕ → ℕ → Deed
-plan6464 s im l split r number =
+unfoldable pub plan6464 : List ℕ → List ℕ → Layout → Bool → ℕ → ℕ → Addend → Deed
+plan6464 s im l split r number addend =
     let at : ℕ = immediateAt r if split else r in
     Refuse ValueOutOfBounds if ltb (length im) (at + 4) else
-    symbolDeed (length im) split at (le 4 im at) number (dynamicSymbolOf s l number)
+    symbolDeed (length im) split at (addendOr addend (le 4 im at)) number (dynamicSymbolOf s l number)
 
--- ---- type 8: the address that is there
+-- ---- type 8: the addend, or the address that is there
 
 -- in the text: an instruction's two halves
 unfoldable pub relativeText : ℕ → ℕ → ℕ → ℕ → Deed
@@ -152,12 +173,12 @@ relativeText len low high address =
 unfoldable pub relativeValue : Bool → ℕ → ℕ → ℕ
 relativeValue version2 upper whole = programAddress whole if version2 else MM-PROGRAM-START + upper
 
-unfoldable pub planRelative : List ℕ → Bool → Bool → ℕ → Deed
-planRelative im version2 in-text r =
+unfoldable pub planRelative : List ℕ → Bool → Bool → ℕ → Addend → Deed
+planRelative im version2 in-text r addend =
     let low : ℕ = immediateAt r in
     let high : ℕ = immediateAt (sumUpTo r 8) in
-    relativeText (length im) low high (join 4 (le 4 im low) (le 4 im high)) if in-text else
-    wordDeed (length im) r (relativeValue version2 (le 4 im low) (le 8 im r))
+    relativeText (length im) low high (addendOr addend (join 4 (le 4 im low) (le 4 im high))) if in-text else
+    wordDeed (length im) r (relativeValue version2 (addendOr addend (le 4 im low)) (addendOr addend (le 8 im r)))
 
 -- ---- type 10: a call by a symbol's name
 
@@ -205,16 +226,21 @@ plan6432 s builtins j len r number = symbolCall s builtins j len r number (dynam
 abbrev pub textHolds : Job → ℕ → Bool
 textHolds j r = within (j .start) (j .length) r
 
-unfoldable pub planAt : List ℕ → List ℕ → List ℕ → Job → ℕ → ℕ → Deed
-planAt s im builtins j r info =
-    plan6464 s im (j .layout) (textHolds j r || not (j .version2)) r (info / 2 ^ 32) if eqb (info % 2 ^ 32) 1 else
-    planRelative im (j .version2) (textHolds j r) r if eqb (info % 2 ^ 32) 8 else
+-- the types that use an addend
+abbrev pub usesAddend : ℕ → Bool
+usesAddend type = eqb type 1 || eqb type 8
+
+unfoldable pub planAt : List ℕ → List ℕ → List ℕ → Job → ℕ → ℕ → Addend → Deed
+planAt s im builtins j r info addend =
+    Refuse AddendNegative if usesAddend (info % 2 ^ 32) && isNegative addend else
+    plan6464 s im (j .layout) (textHolds j r || not (j .version2)) r (info / 2 ^ 32) addend if eqb (info % 2 ^ 32) 1 else
+    planRelative im (j .version2) (textHolds j r) r addend if eqb (info % 2 ^ 32) 8 else
     plan6432 s builtins j (length im) r (info / 2 ^ 32) if eqb (info % 2 ^ 32) 10 else
     Refuse (UnknownRelocation (info % 2 ^ 32))
 
-abbrev pub planOf : List ℕ → List ℕ → List ℕ → Job → Mapped → ℕ → Deed
-planOf s im builtins j (At r) info = planAt s im builtins j r info
-planOf s im builtins j Unmapped info = Refuse ValueOutOfBounds
+abbrev pub planOf : List ℕ → List ℕ → List ℕ → Job → Mapped → ℕ → Addend → Deed
+planOf s im builtins j (At r) info addend = planAt s im builtins j r info addend
+planOf s im builtins j Unmapped info addend = Refuse ValueOutOfBounds
 
 -- the place that the relocation number i means
 abbrev pub placeAt : List ℕ → Job → ℕ → Mapped
@@ -222,14 +248,14 @@ placeAt s j i = placeOf (j .version2) (usedBefore s (j .layout) (j .version2) (i
 
 -- what a load does about the relocation number i
 abbrev pub relocationDeed : List ℕ → List ℕ → Job → ℕ → List ℕ → Deed
-relocationDeed s builtins j i im = planOf s im builtins j (placeAt s j i) (relocationAt s (j .layout) i .«r_info»)
+relocationDeed s builtins j i im = planOf s im builtins j (placeAt s j i) (relocationAt s (j .layout) i .«r_info») (relocationAt s (j .layout) i .addend)
 
 unfoldable pub relocationTrace : List ℕ → List ℕ → Job → ℕ → List ℕ → Trace
 relocationTrace s builtins j i im = deedTrace (relocationDeed s builtins j i im) im
 
 -- THE RELOCATIONS' PART OF A LOAD
 abbrev pub relocationsTrace : List ℕ → List ℕ → Job → List ℕ → Trace
-relocationsTrace s builtins j im = each (relocationTrace s builtins j) (j .layout .«dynamic_relocations» .count) 0 im
+relocationsTrace s builtins j im = each (relocationTrace s builtins j) (relocationCount j) 0 im
 
 -- ---- laws
 
@@ -254,6 +280,15 @@ pub used-next : (s : List ℕ) (l : Layout) (version2 : Bool) (i : ℕ)
     → usedBefore s l version2 (i + 1) ≡ usedHeader s l version2 (usedBefore s l version2 i) (relocationAt s l i .«r_offset»)
 unfolding usedBefore
 used-next s l version2 i = rw (add-one i)
+
+-- type 8 uses its addend
+pub uses-eight : (type : ℕ) (a : Addend) → type ≡ 8 → (usesAddend type && isNegative a) ≡ false → isNegative a ≡ false
+uses-eight type a e h = rw e at h
+
+-- an addend that is not negative, and a number that was read
+pub addend-small : (a : Addend) (n : ℕ) → isNegative a ≡ false → n < 2 ^ 63 → addendOr a n < 2 ^ 63
+addend-small NoAddend n e l = l
+addend-small (Is a) n e l = leb-false (2 ^ 63) a e
 
 -- ---- the bytes that a relocation writes lie in the image
 
@@ -281,9 +316,9 @@ symbol-fits : (len : ℕ) (split : Bool) (at addend number : ℕ) (y : Sym) → 
 symbol-fits len split at addend number (Symbol y) = address-fits len split at _
 symbol-fits len split at addend number (NoSym e) = tt
 
-fits6464 : (s im : List ℕ) (l : Layout) (split : Bool) (r number : ℕ) → DeedFits (length im) (plan6464 s im l split r number)
+fits6464 : (s im : List ℕ) (l : Layout) (split : Bool) (r number : ℕ) (addend : Addend) → DeedFits (length im) (plan6464 s im l split r number addend)
 unfolding plan6464
-fits6464 s im l split r number = either (length im) _ _ _ (λ e. tt) (λ e. symbol-fits (length im) split _ _ number (dynamicSymbolOf s l number))
+fits6464 s im l split r number addend = either (length im) _ _ _ (λ e. tt) (λ e. symbol-fits (length im) split _ _ number (dynamicSymbolOf s l number))
 
 text-fits : (len low high address : ℕ) → DeedFits len (relativeText len low high address)
 unfolding relativeText
@@ -292,9 +327,9 @@ text-fits len low high address =
     (λ e. either len _ _ _ (λ f. tt)
     (λ f. either len _ _ _ (λ g. tt) (λ g. (ltb-false len (low + 4) e, ltb-false len (high + 4) f))))
 
-relative-fits : (im : List ℕ) (version2 in-text : Bool) (r : ℕ) → DeedFits (length im) (planRelative im version2 in-text r)
+relative-fits : (im : List ℕ) (version2 in-text : Bool) (r : ℕ) (addend : Addend) → DeedFits (length im) (planRelative im version2 in-text r addend)
 unfolding planRelative
-relative-fits im version2 in-text r = either (length im) in-text _ _ (λ e. text-fits (length im) _ _ _) (λ e. word-fits (length im) r _)
+relative-fits im version2 in-text r addend = either (length im) in-text _ _ (λ e. text-fits (length im) _ _ _) (λ e. word-fits (length im) r _)
 
 register-fits : (len at : ℕ) (row : Legacy) → DeedFits len (registerDeed len at row)
 register-fits len at (Taken key) = tt
@@ -326,24 +361,27 @@ fits6432 : (s builtins : List ℕ) (j : Job) (len r number : ℕ) → DeedFits l
 unfolding plan6432
 fits6432 s builtins j len r number = called-fits s builtins j len r number (dynamicSymbolOf s (j .layout) number)
 
-at-fits : (s im builtins : List ℕ) (j : Job) (r info : ℕ) → DeedFits (length im) (planAt s im builtins j r info)
+at-fits : (s im builtins : List ℕ) (j : Job) (r info : ℕ) (addend : Addend) → DeedFits (length im) (planAt s im builtins j r info addend)
 unfolding planAt
-at-fits s im builtins j r info =
-    either (length im) _ _ _ (λ e. fits6464 s im (j .layout) _ r _)
-    (λ e. either (length im) _ _ _ (λ f. relative-fits im (j .version2) _ r)
-    (λ f. either (length im) _ _ _ (λ g. fits6432 s builtins j (length im) r _) (λ g. tt)))
+at-fits s im builtins j r info addend =
+    either (length im) _ _ _ (λ d. tt)
+    (λ d. either (length im) _ _ _ (λ e. fits6464 s im (j .layout) _ r _ addend)
+    (λ e. either (length im) _ _ _ (λ f. relative-fits im (j .version2) _ r addend)
+    (λ f. either (length im) _ _ _ (λ g. fits6432 s builtins j (length im) r _) (λ g. tt))))
 
-pub plan-fits : (s im builtins : List ℕ) (j : Job) (p : Mapped) (info : ℕ) → DeedFits (length im) (planOf s im builtins j p info)
-plan-fits s im builtins j (At r) info = at-fits s im builtins j r info
-plan-fits s im builtins j Unmapped info = tt
+pub plan-fits : (s im builtins : List ℕ) (j : Job) (p : Mapped) (info : ℕ) (addend : Addend) → DeedFits (length im) (planOf s im builtins j p info addend)
+plan-fits s im builtins j (At r) info addend = at-fits s im builtins j r info addend
+plan-fits s im builtins j Unmapped info addend = tt
 
 -- a parsed file has few relocations
 steps-few : (s : List ℕ) (l : Layout) (x : Steps s l) (k : Layout)
     → File k ≡ layoutOf (fileHeader s) (fileHeader s .«e_shoff» + fileHeader s .«e_shstrndx» * 64) (x .found) (Links (x .linked))
-    → 16 * k .«dynamic_relocations» .count ≤ length s
+    → (16 * k .«dynamic_relocations» .count ≤ length s) × (24 * k .«dynamic_relas» .count ≤ length s)
 steps-few s l x k e =
     let p : k .«dynamic_relocations» ≡ x .linked .relocations = cc in
-    rw p (omega (arith, linked-inside s (tablesOf (fileHeader s)) (x .linked) (x .links) .relocations))
+    let q : k .«dynamic_relas» ≡ x .linked .relas = cc in
+    let inside = linked-inside s (tablesOf (fileHeader s)) (x .linked) (x .links) in
+    (rw p (omega (arith, inside .relocations)), rw q (omega (arith, inside .relas)))
 
-pub few-relocations : (s : List ℕ) (l : Layout) → parsed s ≡ File l → 16 * l .«dynamic_relocations» .count ≤ length s
+pub few-relocations : (s : List ℕ) (l : Layout) → parsed s ≡ File l → (16 * l .«dynamic_relocations» .count ≤ length s) × (24 * l .«dynamic_relas» .count ≤ length s)
 few-relocations s l e = let x = parse-steps s l e in steps-few s l x l (x .layout)

@@ -45,6 +45,7 @@ pub enum ElfError {
         rows: u64,
     },
     TextOutsideReadOnly,
+    AddendNegative,
 }
 
 fn with_value(number: u32, value: u64) -> Report
@@ -124,5 +125,6 @@ pub fn report_of(e: ElfError) -> Report
         ElfError::BuiltinsNotAscending => with_value(42, 0),
         ElfError::TableFull { rows } => with_value(43, rows),
         ElfError::TextOutsideReadOnly => with_value(44, 0),
+        ElfError::AddendNegative => with_value(47, 0),
     }
 }

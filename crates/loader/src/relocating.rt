@@ -30,14 +30,16 @@ pub(crate) fn apply_relocations(
 {
     let layout = job.layout;
     let version2 = job.version2;
-    let relocations = layout.dynamic_relocations;
-    let count = relocations.count as u32;
+    let older = layout.dynamic_relocations;
+    let newer = layout.dynamic_relas;
+    let count = (older.count + newer.count) as u32;
     let mut header = Used::None;
     let mut used = held;
     let mut moves = moved;
     let mut i: u32 = 0;
     while i < count {
         let r = relocation_at(file, layout, i);
+        let addend = r.addend;
         let next = used_header(file, layout, version2, header, r.r_offset);
         header = next;
         let deed = plan_relocation(
@@ -49,6 +51,7 @@ pub(crate) fn apply_relocations(
             next,
             r.r_offset,
             r.r_info,
+            addend,
         );
         match perform(
             image,

@@ -17,28 +17,29 @@ use elf_parser::Layout;
 use elf_parser::Phdr;
 use elf_parser::Place;
 use elf_parser::Rel;
+use elf_parser::Rela;
 use elf_parser::Sym;
+use elf_parser::dynamic_rela;
 use elf_parser::dynamic_relocation;
 use elf_parser::dynamic_symbol;
 use elf_parser::dynamic_symbol_name;
 use elf_parser::part_of;
 use elf_parser::program_header;
-use elf_parser::types::Elf64Rel;
 use elf_parser::types::Elf64Sym;
 use program::FunctionName;
 use program::Legacy;
 use program::is_builtin;
 ghost use mathlib.Core.Path.{_≡_};
-ghost use mathlib.Core.Bool.{_&&_};
+ghost use mathlib.Core.Bool.{false, _&&_};
 ghost use Prim.Native.Nat.{_≤_, _<_, _^_};
 ghost use lib.Dec.{leb, ltb};
 ghost use Rattle.ebpf.specs.LittleEndian.{join};
-ghost use Rattle.elf_parser.specs.Records.{dynamicSymbolOf};
+ghost use Rattle.elf_parser.specs.Records.{dynamicSymbolOf, dynamicRelocationOf, dynamicRelaOf};
 ghost use Rattle.elf_parser.specs.Names.{dynamicSymbolName};
 ghost use Rattle.loader.specs.Addresses.{sumUpTo};
 ghost use Rattle.loader.specs.Functions.{Keyed};
 ghost use Rattle.loader.specs.Contracts.{InFile};
-ghost use Rattle.loader.specs.Relocations.{relocationAt, headerAt, contains, firstFrom, usedHeader, placeOf, within, programAddress, immediateAt, halvesDeed, wordDeed, addressDeed, symbolDeed, plan6464, relativeText, relativeValue, planRelative, registerDeed, functionCall, builtinCall, callByName, namedCall, plan6432, planAt, planOf};
+ghost use Rattle.loader.specs.Relocations.{relocationOr, relaOr, relocationAt, headerAt, contains, firstFrom, usedHeader, placeOf, within, programAddress, immediateAt, halvesDeed, wordDeed, addressDeed, symbolDeed, plan6464, relativeText, relativeValue, addendOr, isNegative, planRelative, registerDeed, functionCall, builtinCall, callByName, namedCall, plan6432, planAt, planOf};
 
 const R_BPF_64_64: u32 = 1;
 
@@ -46,17 +47,67 @@ const R_BPF_64_RELATIVE: u32 = 8;
 
 const R_BPF_64_32: u32 = 10;
 
-// The relocation number `index`; a blank one where there is none.
-pub(crate) fn relocation_at(file: &[u8], layout: Layout, index: u32) -> Elf64Rel
-    ensures { λ r. ⌜ r ≡ relocationAt (now (file .entry)) layout index ⌝ }
+// The addend that a relocation brings, if it is of the kind that does: its bits as an unsigned number.
+pub enum Addend {
+    None,
+    Is(u64),
+}
+
+// A relocation of either kind.
+pub struct Relocation {
+    pub r_offset: u64,
+    pub r_info: u64,
+    pub addend: Addend,
+}
+
+// The relocation number `index` of the older table; a blank one where there is none.
+fn plain_relocation(file: &[u8], layout: Layout, index: u32) -> Relocation
+    ensures { λ r. ⌜ r ≡ relocationOr (dynamicRelocationOf (now (file .entry)) layout index) ⌝ }
 {
     match dynamic_relocation(file, layout, index) {
-        Rel::Relocation(r) => r,
-        Rel::Refused(_) => Elf64Rel {
+        Rel::Relocation(r) => Relocation {
+            r_offset: r.r_offset,
+            r_info: r.r_info,
+            addend: Addend::None,
+        },
+        Rel::Refused(_) => Relocation {
             r_offset: 0,
             r_info: 0,
+            addend: Addend::None,
         },
     }
+}
+
+// The relocation number `index` of the table whose relocations bring an addend; a blank one where there
+// is none.
+fn addend_relocation(file: &[u8], layout: Layout, index: u32) -> Relocation
+    ensures { λ r. ⌜ r ≡ relaOr (dynamicRelaOf (now (file .entry)) layout index) ⌝ }
+{
+    match dynamic_rela(file, layout, index) {
+        Rela::Relocation(r) => Relocation {
+            r_offset: r.r_offset,
+            r_info: r.r_info,
+            addend: Addend::Is(r.r_addend),
+        },
+        Rela::Refused(_) => Relocation {
+            r_offset: 0,
+            r_info: 0,
+            addend: Addend::None,
+        },
+    }
+}
+
+// The relocation number `index` of both tables, the older one first.
+pub(crate) fn relocation_at(file: &[u8], layout: Layout, index: u32) -> Relocation
+    ensures { λ r. ⌜ r ≡ relocationAt (now (file .entry)) layout index ⌝ }
+{
+    let relocations = layout.dynamic_relocations;
+    let older = relocations.count;
+    let number = index as u64;
+    if number < older {
+        return plain_relocation(file, layout, index);
+    }
+    addend_relocation(file, layout, (number - older) as u32)
 }
 
 // A program header, as far as version 2 maps by it: the addresses from `p_vaddr` up to `end` stand
@@ -221,14 +272,14 @@ fn address_deed(len: u64, split: bool, at: u64, value: u64) -> Deed
     word_deed(len, at, value)
 }
 
-// Type 1 once its four bytes are read.
+// Type 1 once its addend is known.
 fn symbol_deed(
     file: &[u8],
     layout: Layout,
     len: u64,
     split: bool,
     at: u64,
-    addend: u32,
+    addend: u64,
     number: u32,
 ) -> Deed
     ensures { λ r. ⌜ r ≡ symbolDeed len split at addend number (dynamicSymbolOf (now (file .entry)) layout number) ⌝ }
@@ -238,15 +289,43 @@ fn symbol_deed(
             len,
             split,
             at,
-            program_address(saturating_add(y.st_value, addend as u64)),
+            program_address(saturating_add(y.st_value, addend)),
         ),
         Sym::Refused(_) => Deed::Refuse(ElfError::UnknownSymbol { number }),
     }
 }
 
-// Type 1: the address of a symbol, plus the four bytes that are there.
-fn plan_64_64(file: &[u8], image: &[u8], layout: Layout, split: bool, r: u64, number: u32) -> Deed
-    ensures { λ x. ⌜ x ≡ plan6464 (now (file .entry)) (now (image .entry)) layout split r number ⌝ }
+// The addend that a relocation brings, or where it brings none the number that was read.
+fn addend_or(addend: Addend, read: u64) -> u64
+    ensures { λ r. ⌜ r ≡ addendOr addend read ⌝ }
+{
+    match addend {
+        Addend::Is(a) => a,
+        Addend::None => read,
+    }
+}
+
+// Whether it brings one that is negative.
+fn is_negative(addend: Addend) -> bool
+    ensures { λ r. ⌜ r ≡ isNegative addend ⌝ }
+{
+    match addend {
+        Addend::Is(a) => 0x8000_0000_0000_0000 <= a,
+        Addend::None => false,
+    }
+}
+
+// Type 1: the address of a symbol, plus the addend or the four bytes that are there.
+fn plan_64_64(
+    file: &[u8],
+    image: &[u8],
+    layout: Layout,
+    split: bool,
+    r: u64,
+    number: u32,
+    addend: Addend,
+) -> Deed
+    ensures { λ x. ⌜ x ≡ plan6464 (now (file .entry)) (now (image .entry)) layout split r number addend ⌝ }
 {
     let len = image.len() as u64;
     let at = pick(split, immediate_at(r), r);
@@ -259,7 +338,7 @@ fn plan_64_64(file: &[u8], image: &[u8], layout: Layout, split: bool, r: u64, nu
         len,
         split,
         at,
-        read_u32(image, at as usize),
+        addend_or(addend, read_u32(image, at as usize) as u64),
         number,
     )
 }
@@ -286,13 +365,14 @@ fn relative_text(len: u64, low: u64, high: u64, address: u64) -> Deed
 
 // Type 8 outside the text: version 2 keeps an address of eight bytes there, version 1 the lower half of
 // one in the upper four.
-fn relative_value(version2: bool, upper: u32, whole: u64) -> u64
+fn relative_value(version2: bool, upper: u64, whole: u64) -> u64
+    requires { ⌜ upper < 2 ^ 63 ⌝ }
     ensures { λ r. ⌜ r ≡ relativeValue version2 upper whole ⌝ }
 {
     if version2 {
         return program_address(whole);
     }
-    MM_PROGRAM_START + upper as u64
+    MM_PROGRAM_START + upper
 }
 
 fn join_halves(low: u32, high: u32) -> u64
@@ -301,9 +381,10 @@ fn join_halves(low: u32, high: u32) -> u64
     low as u64 + high as u64 * 0x1_0000_0000
 }
 
-// Type 8: an address that no symbol has.
-fn plan_relative(image: &[u8], version2: bool, in_text: bool, r: u64) -> Deed
-    ensures { λ x. ⌜ x ≡ planRelative (now (image .entry)) version2 «in_text» r ⌝ }
+// Type 8: an address that no symbol has, the addend or the bytes that are there.
+fn plan_relative(image: &[u8], version2: bool, in_text: bool, r: u64, addend: Addend) -> Deed
+    requires { ⌜ isNegative addend ≡ false ⌝ }
+    ensures { λ x. ⌜ x ≡ planRelative (now (image .entry)) version2 «in_text» r addend ⌝ }
 {
     let len = image.len() as u64;
     let low = immediate_at(r);
@@ -313,12 +394,12 @@ fn plan_relative(image: &[u8], version2: bool, in_text: bool, r: u64) -> Deed
             read_u32(image, low as usize),
             read_u32(image, high as usize),
         );
-        return relative_text(len, low, high, address);
+        return relative_text(len, low, high, addend_or(addend, address));
     }
     let value = relative_value(
         version2,
-        read_u32(image, low as usize),
-        read_u64(image, r as usize),
+        addend_or(addend, read_u32(image, low as usize) as u64),
+        addend_or(addend, read_u64(image, r as usize)),
     );
     word_deed(len, r, value)
 }
@@ -478,20 +559,25 @@ fn plan_at(
     job: Job,
     r: u64,
     r_info: u64,
+    addend: Addend,
 ) -> Deed
     requires { ⌜ InFile (now file) job × Keyed (now table) ⌝ }
-    ensures { λ x. ⌜ x ≡ planAt (now (file .entry)) (now (image .entry)) (now (builtins .entry)) job r «r_info» ⌝ }
+    ensures { λ x. ⌜ x ≡ planAt (now (file .entry)) (now (image .entry)) (now (builtins .entry)) job r «r_info» addend ⌝ }
 {
     let r_type = (r_info % 0x1_0000_0000) as u32;
     let r_sym = (r_info / 0x1_0000_0000) as u32;
     let in_text = is_within(job.start as u64, job.length as u64, r);
     let version2 = job.version2;
+    let uses_addend = (r_type == R_BPF_64_64) | (r_type == R_BPF_64_RELATIVE);
+    if uses_addend & is_negative(addend) {
+        return Deed::Refuse(ElfError::AddendNegative);
+    }
     if r_type == R_BPF_64_64 {
         let layout = job.layout;
-        return plan_64_64(file, image, layout, in_text | !version2, r, r_sym);
+        return plan_64_64(file, image, layout, in_text | !version2, r, r_sym, addend);
     }
     if r_type == R_BPF_64_RELATIVE {
-        return plan_relative(image, version2, in_text, r);
+        return plan_relative(image, version2, in_text, r, addend);
     }
     if r_type == R_BPF_64_32 {
         return plan_64_32(file, builtins, table, job, image.len() as u64, r, r_sym);
@@ -510,12 +596,13 @@ pub(crate) fn plan_relocation(
     used: Used,
     r_offset: u64,
     r_info: u64,
+    addend: Addend,
 ) -> Deed
     requires { ⌜ InFile (now file) job × Keyed (now table) ⌝ }
-    ensures { λ x. ⌜ x ≡ planOf (now (file .entry)) (now (image .entry)) (now (builtins .entry)) job (placeOf (job .version2) used «r_offset») «r_info» ⌝ }
+    ensures { λ x. ⌜ x ≡ planOf (now (file .entry)) (now (image .entry)) (now (builtins .entry)) job (placeOf (job .version2) used «r_offset») «r_info» addend ⌝ }
 {
     match r_place(job.version2, used, r_offset) {
-        Mapped::At(r) => plan_at(file, image, builtins, table, job, r, r_info),
+        Mapped::At(r) => plan_at(file, image, builtins, table, job, r, r_info, addend),
         Mapped::Refused => Deed::Refuse(ElfError::ValueOutOfBounds),
     }
 }

@@ -1,4 +1,4 @@
--- `elf_parser::dynamic::linked_by` meets its contract, whether either table is refused or not.
+-- `elf_parser::dynamic::linked_by` meets its contract, whether a table is refused or not.
 -- Assumes nothing.
 use Rattle.elf_parser.specs.Dynamic.{linking}
 use borrow.Author.Needs.{needs}
@@ -16,6 +16,17 @@ linked-by-spec =
     (search needs)
     (search needs)
     (search needs)
+    (search needs)
+    (search needs)
+    (search needs)
+    (search needs)
+    (search needs)
+    (search needs)
+    (search needs)
+    (search needs)
+    (search needs)
+    (search needs)
     (λ c. rw (← c .before .before .before .relocations .ensures, c .before .found .given .1))
-    (λ c. rw (← c .before .before .before .before .before .before .before .relocations .ensures, c .before .before .before .before .before .found2 .given .1, ← c .before .before .before .symbols .ensures, c .before .r .given .1))
-    (λ c. rw (← c .before .before .before .before .before .before .before .relocations .ensures, c .before .before .before .before .before .found2 .given .1, ← c .before .before .before .symbols .ensures, c .before .s .given .1)))
+    (λ c. rw (← c .before .before .before .before .before .before .before .before .before .before .relocations .ensures, c .before .before .before .before .before .before .before .before .found2 .given .1, ← c .before .before .before .relocations2 .ensures, c .before .found3 .given .1))
+    (λ c. rw (← c .before .before .before .before .before .before .before .before .before .before .before .before .before .before .before .relocations .ensures, c .before .before .before .before .before .before .before .before .before .before .before .before .before .found2 .given .1, ← c .before .before .before .before .before .before .before .before .relocations2 .ensures, c .before .before .before .before .before .before .found4 .given .1, ← c .before .before .before .symbols .ensures, c .before .r .given .1))
+    (λ c. rw (← c .before .before .before .before .before .before .before .before .before .before .before .before .before .before .before .relocations .ensures, c .before .before .before .before .before .before .before .before .before .before .before .before .before .found2 .given .1, ← c .before .before .before .before .before .before .before .before .relocations2 .ensures, c .before .before .before .before .before .before .found4 .given .1, ← c .before .before .before .symbols .ensures, c .before .s .given .1)))

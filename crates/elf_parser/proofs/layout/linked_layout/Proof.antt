@@ -16,4 +16,4 @@ linked-layout-spec =
     (search needs)
     (search needs)
     (λ c. rw (← c .before .before .before .parse-dynamic .ensures, c .before .r .given .1))
-    (λ c. rw (← c .before .before .before .before .before .before .before .parse-dynamic .ensures, c .before .before .before .before .before .d .given .1)))
+    (λ c. rw (← c .before .before .before .before .before .before .before .before .parse-dynamic .ensures, c .before .before .before .before .before .before .d .given .1)))

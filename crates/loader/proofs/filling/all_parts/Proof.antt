@@ -9,6 +9,7 @@ use Rattle.program.proofs.Tables.{SameLens}
 use Rattle.loader.specs.declared.deeds.Outcome.{Outcome}
 use Rattle.loader.specs.Trace.{Trace}
 use Rattle.loader.specs.Calls.{slotCount}
+use Rattle.loader.specs.Relocations.{relocationCount}
 use Rattle.loader.specs.Labels.{labelSymbols}
 use Rattle.loader.specs.Parts.{writingTrace, namingTrace}
 use Rattle.loader.specs.Contracts.{Settles}
@@ -41,7 +42,7 @@ abbrev second : tie.Start → List ℕ → Trace
 second s im = namingTrace (now (s .args .file)) (now (s .args .builtins)) (s .args .job) im
 
 abbrev n : tie.Start → ℕ
-n s = slotCount (s .args .job) + s .args .job .layout .«dynamic_relocations» .count
+n s = slotCount (s .args .job) + relocationCount (s .args .job)
 
 abbrev m : tie.Start → ℕ
 m s = labelSymbols (now (s .args .file)) (s .args .job) .count + 2

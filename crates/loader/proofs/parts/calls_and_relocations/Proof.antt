@@ -9,7 +9,7 @@ use Rattle.program.proofs.Tables.{SameLens}
 use Rattle.loader.specs.declared.deeds.Outcome.{Outcome}
 use Rattle.loader.specs.Trace.{Trace}
 use Rattle.loader.specs.Calls.{callsTrace, slotCount}
-use Rattle.loader.specs.Relocations.{relocationsTrace}
+use Rattle.loader.specs.Relocations.{relocationsTrace, relocationCount}
 use Rattle.loader.specs.Contracts.{Settles}
 use Rattle.loader.proofs.Going.{begins-fewer, begins-then, settles-then, settles-stop}
 use borrow.Author.Needs.{needs}
@@ -42,7 +42,7 @@ abbrev n : tie.Start → ℕ
 n s = slotCount (s .args .job)
 
 abbrev m : tie.Start → ℕ
-m s = s .args .job .layout .«dynamic_relocations» .count
+m s = relocationCount (s .args .job)
 
 lens : (p : tie.After-register-calls) → SameLens (T (st p)) (U p)
 lens p = let k = p .register-calls .kept in record { keys-as = k .1 .0; indices-as = k .1 .1 .0; kinds-as = k .1 .1 .1 .0; starts-as = k .1 .1 .1 .1 .0; lengths-as = k .1 .1 .1 .1 .1 .0 }

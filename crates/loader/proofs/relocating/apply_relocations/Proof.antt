@@ -10,8 +10,8 @@ use Rattle.program.specs.Table.{Slices, slices}
 use Rattle.program.proofs.Tables.{SameLens, same-trans}
 use Rattle.loader.specs.declared.deeds.Outcome.{Outcome}
 use Rattle.loader.specs.declared.deeds.Outcome.the-variants.{Holds, Refused}
-use Rattle.loader.specs.Relocations.{relocationTrace, usedBefore}
-use Rattle.loader.proofs.Turns.{turn-fits, relocations-fit, none-before, header-next, relocation-settles, relocation-fits}
+use Rattle.loader.specs.Relocations.{relocationTrace, relocationCount, usedBefore}
+use Rattle.loader.proofs.Turns.{turn-fits, relocations-fit, counts-fit, none-before, header-next, relocation-settles, relocation-fits}
 use Rattle.loader.specs.Contracts.{Settles}
 use Rattle.loader.proofs.Going.{Going, going-start, going-begins, going-stop, going-on, going-done}
 use borrow.Author.Needs.{needs}
@@ -20,7 +20,7 @@ use Rattle.loader.proofs.relocating.apply_relocations.Tie as tie
 
 abbrev Inv-loop : tie.InvT-loop
 Inv-loop image₀ keys₀ indices₀ kinds₀ starts₀ lengths₀ file builtins table job rows held moved layout version2 count header₀ used₀ moves₀ i₀ image keys indices kinds starts lengths header used moves i =
-    (Going (relocationTrace file builtins job) (job .layout .«dynamic_relocations» .count) image₀ image (slices keys₀ indices₀ kinds₀ starts₀ lengths₀) (slices keys indices kinds starts lengths) held moved used moves i) × (header ≡ usedBefore file (job .layout) (job .version2) i)
+    (Going (relocationTrace file builtins job) (relocationCount job) image₀ image (slices keys₀ indices₀ kinds₀ starts₀ lengths₀) (slices keys indices kinds starts lengths) held moved used moves i) × (header ≡ usedBefore file (job .layout) (job .version2) i)
 
 abbrev μ-loop : tie.MeasureT-loop
 μ-loop image₀ keys₀ indices₀ kinds₀ starts₀ lengths₀ file builtins table job rows held moved layout version2 count header₀ used₀ moves₀ i₀ image keys indices kinds starts lengths header used moves i = count - i
@@ -29,7 +29,7 @@ abbrev lp : tie.After-perform Inv-loop μ-loop → tie.At-loop Inv-loop μ-loop
 lp p = p .before .before .before .before .before .before .before .before .before .before .before .before
 
 abbrev st : tie.At-loop Inv-loop μ-loop → tie.Start Inv-loop μ-loop
-st l = l .before .before .before .before .before .before .before .before .before .before .before .before .before
+st l = l .before .before .before .before .before .before .before .before .before .before .before .before .before .before .before
 
 abbrev T₀ : tie.Start Inv-loop μ-loop → Slices
 T₀ s = slices (s .args .keys .now) (s .args .indices .now) (s .args .kinds .now) (s .args .starts .now) (s .args .lengths .now)
@@ -65,19 +65,19 @@ all-lens : (p : tie.After-perform Inv-loop μ-loop) → SameLens (T₀ (st (lp p
 all-lens p = same-trans (T₀ (st (lp p))) (T (lp p)) (U p) (lp p .loop .inv .0 .same) (lens p)
 
 cast-count : tie.Need-cast-count Inv-loop μ-loop
-cast-count c = let s = c .before .before .before .before .before .before .before .before .before .before .before .before in relocations-fit (now (s .args .file)) (s .args .job) (s .pre .0)
+cast-count c = let s = c .before .before .before .before .before .before .before .before .before .before .before .before .before .before in relocations-fit (now (s .args .file)) (s .args .job) (s .pre .0)
 
 loop-holds : tie.Need-loop-holds Inv-loop μ-loop
 loop-holds c =
-    let s = c .before .before .before .before .before .before .before .before .before .before .before .before in
+    let s = c .before .before .before .before .before .before .before .before .before .before .before .before .before .before in
     let a = s .args in
-    (going-start (relocationTrace (now (a .file)) (now (a .builtins)) (a .job)) (a .job .layout .«dynamic_relocations» .count) (a .image .now) (T₀ s) (a .rows) (a .held) (a .moved) (s .pre .3), none-before (now (a .file)) (a .job .layout) (a .job .version2))
+    (going-start (relocationTrace (now (a .file)) (now (a .builtins)) (a .job)) (relocationCount (a .job)) (a .image .now) (T₀ s) (a .rows) (a .held) (a .moved) (s .pre .3), none-before (now (a .file)) (a .job .layout) (a .job .version2))
 
 used-header-requires : tie.Need-used-header-requires Inv-loop μ-loop
-used-header-requires c κs = c .before .before .before .before .before .before .before .before .before .before .before .before .before .before .before .pre .0 .headers
+used-header-requires c κs = c .before .before .before .before .before .before .before .before .before .before .before .before .before .before .before .before .before .pre .0 .headers
 
 plan-relocation-requires : tie.Need-plan-relocation-requires Inv-loop μ-loop
-plan-relocation-requires c κs = let s = c .before .before .before .before .before .before .before .before .before .before .before .before .before .before .before .before .before in (s .pre .0, s .pre .1)
+plan-relocation-requires c κs = let s = c .before .before .before .before .before .before .before .before .before .before .before .before .before .before .before .before .before .before .before in (s .pre .0, s .pre .1)
 
 perform-requires : tie.Need-perform-requires Inv-loop μ-loop
 perform-requires c κs =
@@ -85,7 +85,7 @@ perform-requires c κs =
     let s = st l in
     let a = s .args in (
       relocation-fits (now (a .file)) (l .loop .image) (now (a .builtins)) (a .job) (c .before .before .before .before .before .before .before .before .used-header .result) (c .before .before .before .before .before .before .before .before .before .relocation-at .result) (c .before .before .before .before .before .before .plan-relocation .ensures),
-      going-begins (relocationTrace (now (a .file)) (now (a .builtins)) (a .job)) (a .job .layout .«dynamic_relocations» .count) (a .image .now) (l .loop .image) (T₀ s) (T l) (a .rows) (a .held) (a .moved) (l .loop .used) (l .loop .moves) (l .loop .i) (s .pre .3) (l .loop .inv .0) (c .before .before .before .before .before .before .before .before .before .before .loop-test .taken),
+      going-begins (relocationTrace (now (a .file)) (now (a .builtins)) (a .job)) (relocationCount (a .job)) (a .image .now) (l .loop .image) (T₀ s) (T l) (a .rows) (a .held) (a .moved) (l .loop .used) (l .loop .moves) (l .loop .i) (s .pre .3) (l .loop .inv .0) (c .before .before .before .before .before .before .before .before .before .before .loop-test .taken),
     )
 
 returns : tie.Need-returns Inv-loop μ-loop
@@ -94,14 +94,14 @@ returns c =
     let l = lp p in
     let s = st l in
     let a = s .args in
-    going-stop (relocationTrace (now (a .file)) (now (a .builtins)) (a .job)) (a .job .layout .«dynamic_relocations» .count) (a .image .now) (l .loop .image) (T₀ s) (T l) (a .rows) (a .held) (a .moved) (l .loop .used) (l .loop .moves) (l .loop .i) (s .pre .3) (l .loop .inv .0) (p .before .before .before .before .before .before .before .before .before .before .before .loop-test .taken) (im′ p) (U p) _ (did p (Refused (c .before .r .given .0 .0)) (c .before .r .given .1))
+    going-stop (relocationTrace (now (a .file)) (now (a .builtins)) (a .job)) (relocationCount (a .job)) (a .image .now) (l .loop .image) (T₀ s) (T l) (a .rows) (a .held) (a .moved) (l .loop .used) (l .loop .moves) (l .loop .i) (s .pre .3) (l .loop .inv .0) (p .before .before .before .before .before .before .before .before .before .before .before .loop-test .taken) (im′ p) (U p) _ (did p (Refused (c .before .r .given .0 .0)) (c .before .r .given .1))
 
 add-i : tie.Need-add-i Inv-loop μ-loop
 add-i c =
     let l = c .before .before .before .before .before .before .before .before .before .before .before .before .before .before .before .before .before .before .before .before .before .before .before .before .before .before .before in
     let s = st l in
     let a = s .args in
-    turn-fits (l .loop .i) (a .job .layout .«dynamic_relocations» .count) (a .held) (c .before .before .before .before .before .before .before .before .before .before .before .before .before .before .before .before .before .before .before .before .before .before .before .before .before .before .loop-test .taken) (s .pre .3 .room .few)
+    turn-fits (l .loop .i) (relocationCount (a .job)) (a .held) (c .before .before .before .before .before .before .before .before .before .before .before .before .before .before .before .before .before .before .before .before .before .before .before .before .before .before .loop-test .taken) (s .pre .3 .room .few)
 
 loop-again : tie.Need-loop-again Inv-loop μ-loop
 loop-again c =
@@ -109,14 +109,14 @@ loop-again c =
     let l = lp p in
     let s = st l in
     let a = s .args in
-    (going-on (relocationTrace (now (a .file)) (now (a .builtins)) (a .job)) (a .job .layout .«dynamic_relocations» .count) (a .image .now) (l .loop .image) (T₀ s) (T l) (a .rows) (a .held) (a .moved) (l .loop .used) (l .loop .moves) (l .loop .i) (s .pre .3) (l .loop .inv .0) (p .before .before .before .before .before .before .before .before .before .before .before .loop-test .taken) (im′ p) (U p) _ _ (lens p) (p .perform .kept .0) (did p (Holds (c .before .u .given .0 .0) (c .before .u .given .0 .1 .0)) (c .before .u .given .1)), header-next (now (a .file)) (now (a .builtins)) (a .job) (l .loop .i) (l .loop .header) (p .before .before .before .before .before .before .before .before .before .used-header .result) (p .before .before .before .before .before .before .before .before .before .before .relocation-at .result) (l .loop .inv .1) (p .before .before .before .before .before .before .before .before .before .before .relocation-at .ensures) (p .before .before .before .before .before .before .before .before .before .used-header .ensures))
+    (going-on (relocationTrace (now (a .file)) (now (a .builtins)) (a .job)) (relocationCount (a .job)) (a .image .now) (l .loop .image) (T₀ s) (T l) (a .rows) (a .held) (a .moved) (l .loop .used) (l .loop .moves) (l .loop .i) (s .pre .3) (l .loop .inv .0) (p .before .before .before .before .before .before .before .before .before .before .before .loop-test .taken) (im′ p) (U p) _ _ (lens p) (p .perform .kept .0) (did p (Holds (c .before .u .given .0 .0) (c .before .u .given .0 .1 .0)) (c .before .u .given .1)), header-next (now (a .file)) (now (a .builtins)) (a .job) (l .loop .i) (l .loop .header) (p .before .before .before .before .before .before .before .before .before .used-header .result) (p .before .before .before .before .before .before .before .before .before .before .relocation-at .result) (l .loop .inv .1) (p .before .before .before .before .before .before .before .before .before .before .relocation-at .ensures) (p .before .before .before .before .before .before .before .before .before .used-header .ensures))
 
 returns-2 : tie.Need-returns-2 Inv-loop μ-loop
 returns-2 c =
     let l = c .before in
     let s = st l in
     let a = s .args in
-    going-done (relocationTrace (now (a .file)) (now (a .builtins)) (a .job)) (a .job .layout .«dynamic_relocations» .count) (a .image .now) (l .loop .image) (T₀ s) (T l) (a .rows) (a .held) (a .moved) (l .loop .used) (l .loop .moves) (l .loop .i) (s .pre .3) (l .loop .inv .0) (c .loop-test .left)
+    going-done (relocationTrace (now (a .file)) (now (a .builtins)) (a .job)) (relocationCount (a .job)) (a .image .now) (l .loop .image) (T₀ s) (T l) (a .rows) (a .held) (a .moved) (l .loop .used) (l .loop .moves) (l .loop .i) (s .pre .3) (l .loop .inv .0) (c .loop-test .left)
 
 pub apply-relocations-spec : {M : Type 1} → statement M
 apply-relocations-spec =
@@ -124,6 +124,7 @@ apply-relocations-spec =
     (tie.spec
     Inv-loop
     μ-loop
+    (λ c. let s = c .before .before .before .before .before .before .before .before .before .before .before .before .before .before in counts-fit (now (s .args .file)) (s .args .job) (s .pre .0))
     cast-count
     loop-holds
     (search needs)

@@ -1,4 +1,4 @@
--- `loader::relocations::plan_64_64` meets its contract: the bytes that are there, then the symbol.
+-- `loader::relocations::plan_64_64` meets its contract: the addend or the bytes that are there, then the symbol.
 -- Assumes nothing.
 use Rattle.ebpf.specs.Choice.{choices, no-go}
 use Rattle.loader.specs.Relocations.{plan6464}
@@ -17,4 +17,6 @@ plan-64-64-spec =
     (λ c. rw (← c .before .before .before .immediate-at .ensures, ← c .before .before .pick .ensures, ← c .before .past .ensures) (search choices))
     (search needs)
     (search needs)
-    (λ c. rw (← c .before .before .before .before .before .immediate-at .ensures, ← c .before .before .before .before .pick .ensures, ← c .before .before .before .past .ensures, ← c .before .read-u32 .ensures) (no-go _ _ _ _ (c .before .before .if1 .left) (c .symbol-deed .ensures))))
+    (search needs)
+    (search needs)
+    (λ c. rw (← c .before .before .before .before .before .before .immediate-at .ensures, ← c .before .before .before .before .before .pick .ensures, ← c .before .before .before .before .past .ensures, ← c .before .before .read-u32 .ensures, ← c .before .addend-or .ensures) (no-go _ _ _ _ (c .before .before .before .if1 .left) (c .symbol-deed .ensures))))
