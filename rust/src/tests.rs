@@ -183,6 +183,28 @@ fn the_readers_answer_parts_of_the_file() {
     assert_eq!(symbol_table(EXAMPLE), Ok(at(0, 0)));
 }
 
+#[test]
+fn relocations_bring_addends() {
+    let file = include_bytes!("../../examples/addends.so");
+    let layout = parse(file).expect("the file is parsed");
+    let at = |start, count| Entries { start, count };
+    assert_eq!(layout.dynamic_relocations, at(0, 0));
+    assert_eq!(layout.dynamic_relas, at(0x1a8, 4));
+    let mut held = Held::new(file.len(), 4);
+    let word = |image: &[u8], at: usize| u32::from_le_bytes(image[at..at + 4].try_into().unwrap());
+    load(file, &[], Settings::ALL_ON, &mut held.lend()).expect("the file is accepted");
+    let image = &held.bytes[0];
+    // message stands at 0xd8: plus 4, in the two halves of the text's first instruction
+    assert_eq!([word(image, 0xb4), word(image, 0xbc)], [0xdc, 1]);
+    // the address of the local table, in .data.rel.ro
+    assert_eq!([word(image, 0xf8), word(image, 0xfc)], [0xe8, 1]);
+    // an addend of -1 for the type 8 there
+    let mut negative = file.to_vec();
+    negative[0x1b8..0x1c0].fill(0xff);
+    assert_eq!(refused(&negative, &[], &mut held), refusal(47, 0));
+    assert!(held.all_zero());
+}
+
 /// The names of the numbers 0 to 255, as the library gives them.
 fn names() -> Vec<(u32, String)> {
     let named = |n| refusal_name(n).map(|name| (n, name));

@@ -15,10 +15,12 @@ assemble() {
     objcopy -R .data -R .bss "$work/$1.o"
 }
 
-# patch NAME MACHINE FLAGS: machine 247 is BPF, 263 is SBPF; flags 0x20 is version 2.
+# patch NAME MACHINE FLAGS [plain]: machine 247 is BPF, 263 is SBPF; flags 0x20 is version 2.
 patch() {
-    python3 "$here/patch.py" "$out/$1.so" "$2" "$3"
-    chmod 644 "$out/$1.so"
+    name=$1
+    shift
+    python3 "$here/patch.py" "$out/$name.so" "$@"
+    chmod 644 "$out/$name.so"
 }
 
 # lld NAME FROM MACHINE FLAGS [WORDS]: without page alignment each section's address is its place in
@@ -31,18 +33,20 @@ lld() {
     patch "$name" "$machine" "$flags"
 }
 
-# gnu NAME MACHINE FLAGS: lld has no type 10 in a shared object, and GNU ld has it only where it is
-# told not to ask whether an address fits 32 bits. It writes relocations with addends.
+# gnu NAME MACHINE FLAGS [plain]: lld has no type 10 in a shared object, and GNU ld has it only where
+# it is told not to ask whether an address fits 32 bits. It writes relocations with addends, of which
+# `plain` makes relocations without, for solana_rbpf, which reads no others.
 gnu() {
     assemble "$1"
     ld.bfd -shared -T "$here/sections.ld" -z notext -z noreloc-overflow --hash-style=sysv \
         --no-warn-rwx-segments -e entrypoint "$work/$1.o" -o "$out/$1.so"
-    patch "$1" "$2" "$3"
+    patch "$@"
 }
 
 lld two_functions two_functions 263 0
 lld pointers pointers 247 0
 lld pointers_version2 pointers 263 0x20 --image-base=0x100000000
-gnu calls 247 0
-gnu functions 247 0
-gnu unresolved 263 0
+gnu addends 247 0
+gnu calls 247 0 plain
+gnu functions 247 0 plain
+gnu unresolved 263 0 plain

@@ -1,9 +1,9 @@
 #!/usr/bin/env python3
-"""patch.py FILE MACHINE FLAGS: makes a profile of an ELF-64 file that a linker wrote for x86-64.
+"""patch.py FILE MACHINE FLAGS [plain]: makes a profile of an ELF-64 file that a linker wrote for x86-64.
 
-Sets e_machine (247 BPF, 263 SBPF) and e_flags (0x20 for version 2). Relocations with addends, which
-GNU ld writes and the loader does not read, become relocations without: entries of 16 bytes, section
-type and dynamic tags to match. Only addends of 0 are taken, so nothing has to be stored.
+Sets e_machine (247 BPF, 263 SBPF) and e_flags (0x20 for version 2). With `plain` relocations with
+addends, which GNU ld writes and solana_rbpf does not read, become relocations without: entries of 16
+bytes, section type and dynamic tags to match. Only addends of 0 are taken, so nothing has to be stored.
 """
 import struct
 import sys
@@ -15,6 +15,7 @@ TAGS = {7: 17, 8: 18, 9: 19}
 
 def main():
     path, machine, flags = sys.argv[1], int(sys.argv[2], 0), int(sys.argv[3], 0)
+    plain = sys.argv[4:] == ["plain"]
     with open(path, "rb") as f:
         file = bytearray(f.read())
 
@@ -28,7 +29,7 @@ def main():
     put("I", 48, flags)
     (headers,) = get("Q", 40)
     (count,) = get("H", 60)
-    sections = [headers + 64 * k for k in range(count)]
+    sections = [headers + 64 * k for k in range(count)] if plain else []
     for header in sections:
         (kind,) = get("I", header + 4)
         start, size = get("QQ", header + 24)
