@@ -2,7 +2,7 @@
 """Wrong programs, and the sample of loads that tells each of them from the right one (README.md).
 
 wrong.py try [NAME..]      runs a program of the gate with each change of the lists: something that it writes must differ
-wrong.py choose POOL..     prints the cases of these folders that tell the wrong programs of the lists
+wrong.py choose POOL..     prints the cases of these folders that tell the wrong programs of the lists; with names before the folders, of these
 wrong.py made [POOL..]     runs `load_vectors` with each change made by rule, and says which it does not tell; prints a case that does
 
 `rt try` lowers a program and its libraries to one module and has the kit's clang compile it. Here it is given a kit whose clang keeps
@@ -29,12 +29,12 @@ Wrong = collections.namedtuple('Wrong', 'crate name texts')
 
 
 def listed():
-    """Those of the lists: a name, then one or more changes, each a file, an old text and a new one."""
+    """Those of the lists: a name, then one or more changes, each a file, an old text and a new one (`\\n` is a line's end)."""
     wrongs, stale = [], []
     for crate in sorted(f[:-4] for f in os.listdir(HERE) if f.endswith('.txt')):
         for line in open(os.path.join(HERE, crate + '.txt')):
             word, _, text = line.rstrip('\n').partition(':')
-            text = text.removeprefix(' ')
+            text = text.removeprefix(' ').replace('\\n', '\n')
             if word == 'wrong': wrongs.append(Wrong(crate, text, {}))
             elif word == 'file': path = os.path.join(crate, text)
             elif word == 'old': old = text
@@ -209,14 +209,15 @@ class Pools:
         return told
 
 
-def tell_listed(pools, chosen):
+def tell_listed(pools, chosen, names):
     """The cases that tell the most wrong programs that are not told often enough yet; small ones first."""
     def telling(wrong, path):
         if not path: sys.exit(f'{wrong.crate} {wrong.name} does not compile')
         return pools.telling(path)
 
     left, candidates = {}, {}
-    for k, (wrong, told) in enumerate(each([w for w in listed() if w.crate != 'exports'], '-O1', telling)):
+    wrongs = [w for w in listed() if w.crate != 'exports' and (not names or w.name in names)]
+    for k, (wrong, told) in enumerate(each(wrongs, '-O1', telling)):
         for case in told: case.tells |= 1 << k
         candidates.update((case.name, case) for case in told)
         left[k] = min(TOLD, len(told))
@@ -237,11 +238,12 @@ def tell_numbers(cases, chosen):
             count[case.group] += 1
 
 
-def choose(folders):
+def choose(words):
+    names, folders = [w for w in words if not os.path.isdir(w)], [w for w in words if os.path.isdir(w)]
     pools, chosen = Pools(folders), set()
     cases = [case for folder in folders for case in pools.cases[folder]]
-    tell_listed(pools, chosen)
-    tell_numbers(cases, chosen)
+    tell_listed(pools, chosen, names)
+    if not names: tell_numbers(cases, chosen)
     for case in cases:
         if case in chosen: print(case.name)
 

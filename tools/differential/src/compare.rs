@@ -2,6 +2,7 @@
 
 use crate::{
     cases::Case,
+    dynamic::{self, Linked},
     elf::{PROGRAM_START, STACK_START},
     outcome::{self, parser_refusal, Refused},
     port::{self, Answer, Columns, Question, WORDS},
@@ -158,8 +159,37 @@ impl Comparer {
 
     /// `bytes` are aligned, for the Rust; `file` are the same for the port.
     fn reader_of(&mut self, case: &Case, bytes: &[u8], file: &[u8]) -> Result<(), String> {
+        if !dynamic::has_relas(bytes) {
+            return self.reader_as(
+                case,
+                bytes,
+                Elf64::parse(bytes).map(|elf| (elf, None)),
+                file,
+            );
+        }
+        // the Rust passes over relocations that bring an addend: it reads the file without the dynamic
+        // table, which is read apart
+        self.count("files with relocations that bring an addend", 0);
+        let mut placed = Placed::new();
+        placed.put(&dynamic::without(bytes), 0);
+        let front = placed.bytes();
+        let elf = Elf64::parse(front).expect("it was parsed before");
+        match dynamic::linked(bytes) {
+            Ok(linked) => self.reader_as(case, front, Ok((elf, Some(linked))), file),
+            Err(number) => self.reader_as(case, front, Err(outcome::parser_error(number)), file),
+        }
+    }
+
+    /// `bytes` are those that the Rust has parsed; where the dynamic table was read apart from it, what that
+    /// leads to is beside its answer.
+    fn reader_as(
+        &mut self,
+        case: &Case,
+        bytes: &[u8],
+        parsed: Result<(Elf64, Option<Linked>), ElfParserError>,
+        file: &[u8],
+    ) -> Result<(), String> {
         let room = case.room;
-        let parsed = Elf64::parse(bytes);
         self.count("parse", number_of(&parsed));
         let full = port::parse(file, WORDS);
         let got = if room == WORDS {
@@ -167,10 +197,16 @@ impl Comparer {
         } else {
             port::parse(file, room)
         };
-        let elf = match parsed {
-            Ok(elf) => elf,
+        let (elf, apart) = match parsed {
+            Ok(read) => read,
             Err(err) => {
                 let refused = parser_refusal(err);
+                if dynamic::parse_number(file) != refused.number {
+                    return Err(format!(
+                        "the refusal read apart is {}\n  Rust: {refused:?}",
+                        dynamic::parse_number(file)
+                    ));
+                }
                 refusal("parse", file, &got, &full, &refused, room)?;
                 // every question has the refusal of the parse
                 for question in [
@@ -217,9 +253,21 @@ impl Comparer {
         words[9] = header_named(b".symtab");
         words[10] = header_named(b".strtab");
         words[11] = header_named(b".dynstr");
-        (words[12], words[13]) = table_place(bytes, elf.dynamic_relocations_table());
-        (words[14], words[15]) = table_place(bytes, elf.dynamic_symbol_table());
+        let linked = apart.unwrap_or_else(|| Linked {
+            relocations: table_place(bytes, elf.dynamic_relocations_table()),
+            relas: (0, 0),
+            symbols: table_place(bytes, elf.dynamic_symbol_table()),
+        });
+        (words[12], words[13]) = linked.relocations;
+        (words[14], words[15]) = linked.symbols;
+        (words[16], words[17]) = linked.relas;
         same("parse", &got, words, room)?;
+        if apart.is_none() && dynamic::linked(file) != Ok(linked) {
+            return Err(format!(
+                "the dynamic table read apart\n  here: {:?}\n  Rust: {linked:?}",
+                dynamic::linked(file)
+            ));
+        }
 
         // the symbol table
         let table = elf.symbol_table();

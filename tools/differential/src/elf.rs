@@ -10,6 +10,7 @@ const SHT_NULL: u32 = 0;
 const SHT_PROGBITS: u32 = 1;
 const SHT_SYMTAB: u32 = 2;
 const SHT_STRTAB: u32 = 3;
+const SHT_RELA: u32 = 4;
 const SHT_DYNAMIC: u32 = 6;
 const SHT_NOBITS: u32 = 8;
 const SHT_REL: u32 = 9;
@@ -140,6 +141,15 @@ pub enum Style {
     Large,
 }
 
+/// Whether a file has relocations that bring an addend.
+#[derive(Clone, Copy, Debug, PartialEq, Eq)]
+pub enum Addends {
+    No,
+    Drawn,
+    /// None, but a section of zeros with room for each of the others as one that brings an addend.
+    Room,
+}
+
 /// A file, and what is known of it.
 pub struct Made {
     pub bytes: Vec<u8>,
@@ -210,6 +220,21 @@ struct Plan {
     version2: bool,
     symbols: usize,
     relocations: usize,
+    /// Relocations that bring an addend.
+    relas: usize,
+}
+
+/// An addend: small, an address, large; seldom negative.
+fn addend(r: &mut Random, text: u64) -> u64 {
+    match r.below(8) {
+        _ if r.odd(8) => r.pick(&[1 << 63, u64::MAX, u64::MAX - 7, 0x8000_0000_0000_0001]),
+        0 => 0,
+        1 => r.pick(&[PROGRAM_START, PROGRAM_START - 1, STACK_START, 0xffff_ffff]),
+        2 => r.pick(&[(1 << 63) - 1, 1 << 62, 1 << 40]),
+        3 => r.next() >> 1,
+        4 => text.wrapping_add(8 * r.below(8)) & (u64::MAX >> 1),
+        _ => r.pick(&[1, 8, 0x10, 0x100, 0x8000_0000]),
+    }
 }
 
 fn st_value(r: &mut Random, start: u64, size: u64) -> u64 {
@@ -282,7 +307,8 @@ enum Base {
 }
 
 /// One file.
-pub fn file(r: &mut Random, style: Style) -> Made {
+pub fn file(r: &mut Random, style: Style, addends: Addends) -> Made {
+    let drawn = addends == Addends::Drawn;
     r.sober = r.pick(&[1, 2, 4, 16, 0]);
     let version2 = r.one_in(2);
     let slots = match style {
@@ -314,8 +340,9 @@ pub fn file(r: &mut Random, style: Style) -> Made {
             _ => Base::At(r.pick(&[PROGRAM_START, STACK_START, 0u64.wrapping_sub(0x400)])),
         },
     };
-    let plan = Plan {
+    let mut plan = Plan {
         version2,
+        relas: 0,
         symbols: match style {
             _ if r.odd(8) => 0,
             Style::Large => r.range(1, 400),
@@ -329,6 +356,19 @@ pub fn file(r: &mut Random, style: Style) -> Made {
             Style::Usual => r.range(1, 7),
         } as usize,
     };
+
+    if drawn {
+        // they alone, behind older ones, or none
+        if r.one_in(2) {
+            plan.relocations = 0;
+        }
+        plan.relas = match style {
+            _ if r.one_in(10) => 0,
+            Style::Large => r.range(1, 400),
+            Style::Small => r.range(1, 2),
+            Style::Usual => r.range(1, 6),
+        } as usize;
+    }
 
     // the sections, in the order of the file
     let mut sections = vec![section(b"", SHT_NULL, 0, Vec::new())];
@@ -399,6 +439,7 @@ pub fn file(r: &mut Random, style: Style) -> Made {
                     Style::Small => r.range(4, 5),
                     _ => r.range(6, 9),
                 } as usize
+                    + 3 * 16 * drawn as usize
             ],
         ));
         parts.push(section(
@@ -414,6 +455,14 @@ pub fn file(r: &mut Random, style: Style) -> Made {
             alloc,
             vec![0; 16 * plan.relocations],
         ));
+        let room = match addends {
+            Addends::No => None,
+            Addends::Drawn => Some(plan.relas),
+            Addends::Room => Some(plan.relocations),
+        };
+        if let Some(n) = room {
+            parts.push(section(b".rela.dyn", SHT_RELA, alloc, vec![0; 24 * n]));
+        }
         if r.one_in(4) {
             // without it the program header leads there
             let at = parts.iter().position(|s| s.kind == SHT_DYNAMIC).unwrap();
@@ -484,7 +533,7 @@ pub fn file(r: &mut Random, style: Style) -> Made {
     // where they stand
     // program headers over one another that map the text differently: which of them version 2's
     // relocations use depends on the one used before
-    let quilt = plan.version2 && plan.relocations > 0 && r.one_in(5);
+    let quilt = plan.version2 && plan.relocations + plan.relas > 0 && r.one_in(5);
     let ph_count = match r.below(10) {
         _ if quilt => 4,
         // version 2 needs them for every relocation
@@ -601,12 +650,12 @@ pub fn file(r: &mut Random, style: Style) -> Made {
         }
     }
     if let Some(i) = find(&sections, b".rel.dyn") {
-        let mut bytes = Vec::new();
         let data = find(&sections, b".rodata")
             .or(find(&sections, b".data.rel.ro"))
             .unwrap_or(text_index);
+        let (data_at, data_size) = (sections[data].at, sections[data].size());
         let mut last = text_at;
-        for _ in 0..plan.relocations {
+        let mut relocation = |r: &mut Random| {
             let kind = if r.odd(24) {
                 r.pick(&[0, 2, 9, 11, 0xffff_ffff])
             } else {
@@ -617,10 +666,10 @@ pub fn file(r: &mut Random, style: Style) -> Made {
                 _ if r.odd(10) => text_at + text_size - text_size.min(r.range(1, 16)),
                 0 => last,
                 1 => last + r.pick(&[4, 8, 1, 12]),
-                2 | 3 | 4 => sections[data].at + 8 * r.below((sections[data].size() / 8).max(1)),
+                2 | 3 | 4 => data_at + 8 * r.below((data_size / 8).max(1)),
                 // a load whose halves are not both 0, so that type 8 has something to place
                 _ if kind == 8 && !loads.is_empty() => text_at + r.pick(&loads),
-                _ if kind == 8 && data != text_index => sections[data].at,
+                _ if kind == 8 && data != text_index => data_at,
                 _ => text_at + 8 * r.below((text_size / 8).max(1)),
             };
             last = place;
@@ -636,10 +685,20 @@ pub fn file(r: &mut Random, style: Style) -> Made {
             } else {
                 r.below((plan.symbols as u64).max(1))
             };
-            bytes.extend_from_slice(&r_offset.to_le_bytes());
-            bytes.extend_from_slice(&(symbol << 32 | kind).to_le_bytes());
+            [r_offset.to_le_bytes(), (symbol << 32 | kind).to_le_bytes()].concat()
+        };
+        let older: Vec<Vec<u8>> = (0..plan.relocations).map(|_| relocation(r)).collect();
+        let newer: Vec<Vec<u8>> = (0..plan.relas)
+            .map(|_| {
+                let two = relocation(r);
+                [two, addend(r, text_addr).to_le_bytes().to_vec()].concat()
+            })
+            .collect();
+        sections[i].data = older.concat();
+        if drawn {
+            let k = find(&sections, b".rela.dyn").unwrap();
+            sections[k].data = newer.concat();
         }
-        sections[i].data = bytes;
     }
     if let Some(i) = find(&sections, b".dynamic") {
         let rel = find(&sections, b".rel.dyn").unwrap();
@@ -649,6 +708,23 @@ pub fn file(r: &mut Random, style: Style) -> Made {
             entries.push((17, sections[rel].addr));
             entries.push((18, sections[rel].size()));
             entries.push((19, if r.odd(30) { 24 } else { 16 }));
+        }
+        if drawn && (plan.relas > 0 || r.odd(4)) {
+            // seldom the older ones' place, or another size
+            let table = if r.odd(20) {
+                b".rel.dyn"
+            } else {
+                &b".rela.dyn"[..]
+            };
+            let table = &sections[find(&sections, table).unwrap()];
+            let size = match r.odd(20) {
+                true => r.pick(&[0, 8, 16, 24, 48]),
+                false => table.size(),
+            };
+            entries.push((7, table.addr));
+            entries.push((8, size));
+            let entry = r.pick(&[16, 0, 24 + (1 << 32), 25]);
+            entries.push((9, if r.odd(30) { entry } else { 24 }));
         }
         if !r.odd(8) {
             entries.push((6, sections[symbols].addr));

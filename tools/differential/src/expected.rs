@@ -1,12 +1,15 @@
 //! What a load must answer and leave, in full: from the Rust, and from the scope where the
-//! Rust says nothing (40 to 43, moves, name kinds, places of names, the lent columns).
+//! Rust says nothing (40 to 43, moves, name kinds, places of names, the lent columns). A file with
+//! relocations that bring an addend, which the Rust passes over, has the model's answer, and of the Rust
+//! the read-only section alone.
 
 use crate::{
     cases::Case,
     compare::Placed,
-    elf::STACK_START,
-    model::{self, Stop},
-    outcome::{self, Text},
+    dynamic,
+    elf::{PROGRAM_START, STACK_START},
+    model::{self, Replayed, Stop},
+    outcome::{self, ReadOnly, Text},
     port::{Columns, WORDS},
     Outcome,
 };
@@ -81,6 +84,9 @@ pub fn expected(case: &Case) -> Result<Expected, String> {
     let mut placed = Placed::new();
     placed.put(&case.file, 0);
     let file = placed.bytes();
+    if dynamic::has_relas(file) {
+        return Ok(by_the_model(case, file));
+    }
     let rust = outcome::outcome(file, case.settings, &case.builtins, usize::MAX);
     let (most, whole) = model::replay(file, case.settings, &case.builtins, usize::MAX);
     let wrong = |what: &str| {
@@ -155,42 +161,80 @@ pub fn expected(case: &Case) -> Result<Expected, String> {
     if replayed.moves > n * (n - 1) / 2 + 2 * (n - 1) {
         return wrong("more moves than the scope allows");
     }
+    Ok(accepted_with(case, &replayed, &a.ro, a.text.clone(), most))
+}
+
+/// Where the text stands in the read-only bytes: `get_text_bytes`, from the answer alone.
+pub fn text_in(ro: &[u8], words: &[u64]) -> Option<(u64, u64)> {
+    let (offset, addr, size) = (words[9], words[12], words[14]);
+    let at = addr.saturating_sub(PROGRAM_START).saturating_sub(offset);
+    let end = at.checked_add(size)?;
+    (end <= ro.len() as u64).then_some((at, size))
+}
+
+fn accepted_words(m: &Replayed, ro: &ReadOnly) -> [u64; WORDS] {
     let mut words = [0; WORDS];
     words[4..15].copy_from_slice(&[
-        a.version as u64,
-        a.entry,
-        a.rows.len() as u64,
-        replayed.moves,
-        a.ro.copied as u64,
-        a.ro.addr_offset,
-        a.ro.start,
-        a.ro.length,
-        replayed.text_addr,
-        replayed.text_start,
-        replayed.text_length,
+        1 + m.version2 as u64,
+        m.entry,
+        m.rows.len() as u64,
+        m.moves,
+        ro.copied as u64,
+        ro.addr_offset,
+        ro.start,
+        ro.length,
+        m.text_addr,
+        m.text_start,
+        m.text_length,
     ]);
-    let mut image = a.image.clone();
+    words
+}
+
+fn accepted_with(case: &Case, m: &Replayed, ro: &ReadOnly, text: Text, most: usize) -> Expected {
+    let mut image = m.image.clone();
     image.resize(case.image, 0);
-    let mut ro = if a.ro.copied {
-        a.ro.bytes.clone()
+    let mut copy = if ro.copied {
+        ro.bytes.clone()
     } else {
         Vec::new()
     };
-    ro.resize(case.ro, 0);
+    copy.resize(case.ro, 0);
     let mut table: Columns = case.columns.map(|n| vec![0; n]);
-    for (k, (key, row)) in replayed.rows.iter().enumerate() {
+    for (k, (key, row)) in m.rows.iter().enumerate() {
         table[0][k] = *key;
         table[1][k] = row.index as u32;
         table[2][k] = row.kind;
         table[3][k] = row.start as u32;
         table[4][k] = row.length as u32;
     }
-    Ok(Expected {
-        words,
+    Expected {
+        words: accepted_words(m, ro),
         image,
-        ro,
+        ro: copy,
         table,
-        text: Some(a.text.clone()),
+        text: Some(text),
         most,
-    })
+    }
+}
+
+/// A file with relocations that bring an addend.
+fn by_the_model(case: &Case, file: &[u8]) -> Expected {
+    let (most, _) = model::replay(file, case.settings, &case.builtins, usize::MAX);
+    let replayed = model::replay(file, case.settings, &case.builtins, case.rows()).1;
+    let loaded = replayed.and_then(|m| {
+        let ro = model::read_only(file, case.settings, &m)?;
+        Ok((m, ro))
+    });
+    let (m, ro) = match loaded {
+        Err(stop) => return refused(case, stop, most),
+        Ok(loaded) => loaded,
+    };
+    let text = match text_in(&ro.bytes, &accepted_words(&m, &ro)) {
+        None => Text::Aborted,
+        Some((at, size)) => Text::Part {
+            vaddr: m.text_addr,
+            bytes: ro.bytes[at as usize..(at + size) as usize].to_vec(),
+        },
+    };
+    accepted_with(case, &m, &ro, text, most)
 }

@@ -6,6 +6,7 @@
 pub mod bench;
 pub mod cases;
 pub mod compare;
+pub mod dynamic;
 pub mod elf;
 pub mod expected;
 pub mod loads;
@@ -14,6 +15,7 @@ pub mod mutate;
 pub mod outcome;
 pub mod port;
 pub mod random;
+pub mod twins;
 pub mod worked;
 
 pub use outcome::{outcome, Outcome};
@@ -106,6 +108,7 @@ pub fn number_name(number: u32) -> &'static str {
         44 => "TextOutsideReadOnly",
         45 => "NoSuchIndex",
         46 => "NotASection",
+        47 => "AddendNegative",
         _ => "?",
     }
 }

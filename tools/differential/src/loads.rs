@@ -3,8 +3,7 @@
 use crate::{
     cases::Case,
     compare::{written, Placed},
-    elf::PROGRAM_START,
-    expected::{expected, Expected, LONGEST},
+    expected::{expected, text_in, Expected, LONGEST},
     number_name,
     outcome::Text,
     port::{self, WORDS},
@@ -147,6 +146,7 @@ impl Counts {
             .filter(|n| *n != 5)
             .chain(20..=34)
             .chain(40..=43)
+            .chain(47..=47)
             .filter(|n| !self.numbers.contains_key(n))
             .collect();
         if missing.is_empty() && self.text_aborts > 0 {
@@ -165,14 +165,6 @@ pub fn expect(case: &Case, counts: &mut Counts) -> Result<Expected, String> {
     let e = expected(case)?;
     counts.count(case, &e);
     Ok(e)
-}
-
-/// Where the text stands in the read-only bytes: `get_text_bytes`, from the answer alone.
-fn text_in(ro: &[u8], words: &[u64]) -> Option<(u64, u64)> {
-    let (offset, addr, size) = (words[9], words[12], words[14]);
-    let at = addr.saturating_sub(PROGRAM_START).saturating_sub(offset);
-    let end = at.checked_add(size)?;
-    (end <= ro.len() as u64).then_some((at, size))
 }
 
 /// The port's load against what is expected.

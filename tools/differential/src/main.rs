@@ -3,6 +3,8 @@
 //! differential readers CASES [SEED [FIRST]], differential loads ..: one of them alone.
 //! differential rust CASES [SEED [FIRST]]: what is expected of a load, without the port: the true
 //!     Rust's answers, and the second implementation of the scope held against them.
+//! differential twins CASES [SEED [FIRST]]: loads of a file with relocations, and of the same file with
+//!     them as the kind that brings an addend.
 //! differential worked: the scope's worked examples and published hashes, against what was worked
 //!     out by hand.
 //! differential write CASE FILE [SEED]: the file of a case.
@@ -13,9 +15,9 @@ use differential::{
     compare::{shrink, Comparer},
     expected, loads, number_name, outcome, port,
     random::Random,
-    worked,
+    twins, worked,
 };
-use std::{env, fs, process::exit, time::Instant};
+use std::{collections::BTreeMap, env, fs, process::exit, time::Instant};
 
 const MOST_DIFFERENCES: usize = 5;
 
@@ -45,7 +47,7 @@ fn compare(ask: Ask, cases: u64, seed: u64, first: u64) {
     let mut differences = 0;
     let mut made = 0;
     for number in first..first + cases {
-        let case = Case::new(seed, number);
+        let case = Case::compared(seed, number);
         made += 1;
         if ask.readers {
             let mut r = Random::new(!seed, number);
@@ -134,6 +136,30 @@ fn compare(ask: Ask, cases: u64, seed: u64, first: u64) {
     }
 }
 
+fn compare_twins(cases: u64, seed: u64, first: u64) {
+    need(port::HAS_LOAD);
+    let mut answers = BTreeMap::new();
+    let mut differences = 0;
+    for number in first..first + cases {
+        match twins::compare(seed, number) {
+            Ok(Some(answer)) => *answers.entry(answer).or_insert(0) += 1,
+            Ok(None) => {}
+            Err(text) => {
+                differences += 1;
+                println!("DIFFERENCE in case {number} of seed {seed}: {text}");
+            }
+        }
+        if differences >= MOST_DIFFERENCES {
+            break;
+        }
+    }
+    println!("pairs by the number that both loads answer: {answers:?}");
+    println!("{differences} differences");
+    if differences > 0 {
+        exit(1);
+    }
+}
+
 /// Writes the file of a case that differs, and the smallest that was found from it.
 fn tell(case: &Case, small: Case, again: &dyn Fn(&Case) -> Result<(), String>, name: &str) {
     fs::write(format!("{name}.elf"), &case.file).expect("the folder can be written");
@@ -215,11 +241,12 @@ fn main() {
         Some("readers") => run(true, false, false),
         Some("loads") => run(false, true, true),
         Some("rust") => run(false, true, false),
+        Some("twins") => compare_twins(number(1, 10_000), number(2, 1), number(3, 0)),
         Some("worked") => {
             need(port::HAS_LOAD);
             exit((worked::run() > 0) as i32)
         }
-        Some("write") => fs::write(&args[2], Case::new(number(3, 1), number(1, 0)).file)
+        Some("write") => fs::write(&args[2], Case::compared(number(3, 1), number(1, 0)).file)
             .expect("a file that can be written"),
         Some(a) if a.starts_with(|c: char| c.is_ascii_digit()) => {
             if !port::HAS_LOAD {
@@ -235,7 +262,7 @@ fn main() {
         Some(_) => args.iter().for_each(|name| one(name)),
         None => {
             eprintln!(
-                "differential [readers | loads | rust] CASES [SEED [FIRST]] | worked | write CASE FILE [SEED] | FILE.."
+                "differential [readers | loads | rust | twins] CASES [SEED [FIRST]] | worked | write CASE FILE [SEED] | FILE.."
             );
             exit(2);
         }

@@ -3,19 +3,20 @@
 //! nor of moves and places of names, and has no limit of rows; those come from here. `expected`
 //! holds every outcome of this against the Rust, so that the telling is tested itself.
 //!
-//! Reading the file is the Rust's own `Elf64` and `validate`; placing the read-only sections is
-//! left to the Rust altogether.
+//! Reading the file is the Rust's own `Elf64` and `validate`, but for the dynamic table, which `dynamic` reads, since the
+//! Rust passes over relocations that bring an addend; placing the read-only sections is left to the
+//! Rust altogether.
 
 use crate::{
+    compare::Placed,
+    dynamic,
     elf::{PROGRAM_START, STACK_START},
-    outcome, Settings,
+    outcome::{self, ReadOnly},
+    Settings,
 };
 use rbpf::{
     elf::Executable,
-    elf_parser::{
-        types::{Elf64Shdr, Elf64Sym},
-        Elf64,
-    },
+    elf_parser::{types::Elf64Shdr, Elf64},
     vm::TestContextObject,
 };
 use std::collections::BTreeMap;
@@ -70,6 +71,9 @@ pub struct Replayed {
     pub text_addr: u64,
     pub text_start: u64,
     pub text_length: u64,
+    /// What each relocation of type 1 or 8 takes for its addend, and where the bytes stand that one
+    /// without an addend reads.
+    pub addends: Vec<Option<(u64, u64)>>,
 }
 
 struct Table {
@@ -248,15 +252,20 @@ fn replay_into(
     settings: Settings,
     builtins: &[u32],
 ) -> Result<Replayed, Stop> {
-    let elf = Elf64::parse(file).map_err(|err| {
-        let mut refused = stop(outcome::parser_number(&err), 0);
+    let mut placed_front = Placed::new();
+    placed_front.put(&dynamic::without(file), 0);
+    let front = placed_front.bytes();
+    let refused = |number: u32| {
+        let mut refused = stop(number, 0);
         match refused.number {
             4 => (refused.start, refused.length) = long_name(file),
             5 => refused.number = 33,
             _ => {}
         }
         refused
-    })?;
+    };
+    let elf = Elf64::parse(front).map_err(|err| refused(outcome::parser_number(&err)))?;
+    let linked = dynamic::linked(file).map_err(refused)?;
     let loader = outcome::loader(settings, &[]);
     Executable::<TestContextObject>::validate(loader.get_config(), &elf, file).map_err(|err| {
         let refused = outcome::load_refusal(err);
@@ -274,7 +283,7 @@ fn replay_into(
                 })
                 .next()
                 .expect("a writable section");
-            (s.start, s.length) = (place_of(file, name), name.len() as u64);
+            (s.start, s.length) = (place_of(front, name), name.len() as u64);
         }
         s
     })?;
@@ -334,12 +343,19 @@ fn replay_into(
         write(&mut image, at + 4, key as u64, 4)?;
     }
 
-    // relocations
-    let symbols: &[Elf64Sym] = elf.dynamic_symbol_table().unwrap_or_default();
+    // relocations, of both tables as one list
+    let symbol_at = |number: u64| {
+        let (at, count) = linked.symbols;
+        let at = (number < count).then_some((at + 24 * number) as usize);
+        let at = at.ok_or(stop(32, number))?;
+        let field = |from: usize, width: u64| read(file, (at + from) as u64, width);
+        Ok((field(0, 4)? as u32, field(4, 1)? as u8, field(8, 8)?))
+    };
     let headers = elf.program_header_table();
     let mut used = None;
-    for relocation in elf.dynamic_relocations_table().unwrap_or_default() {
-        let mut r = relocation.r_offset;
+    let mut addends = Vec::new();
+    for (r_offset, r_info, addend) in dynamic::both(file, &linked) {
+        let mut r = r_offset;
         if version2 {
             let contains = |k: &usize| headers[*k].vm_range().contains(&r);
             // the header used last if it contains the place, else the first that does
@@ -349,14 +365,23 @@ fn replay_into(
             let header = &headers[used.ok_or(stop(33, 0))?];
             r = (r - header.p_vaddr).saturating_add(header.p_offset);
         }
-        let number = relocation.r_info >> 32;
-        let symbol = symbols.get(number as usize).ok_or(stop(32, number));
-        match relocation.r_info as u32 {
+        let number = r_info >> 32;
+        let kind = r_info as u32;
+        if (kind == 1 || kind == 8) && addend.is_some_and(|a| a as i64 >> 63 != 0) {
+            return Err(stop(47, 0));
+        }
+        addends.push(None);
+        let mut taken = |at: u64, there: u64| {
+            let value = addend.unwrap_or(there);
+            *addends.last_mut().unwrap() = Some((value, at));
+            value
+        };
+        match kind {
             1 => {
                 let halves = in_text(r) || !version2;
                 let at = if halves { r.saturating_add(4) } else { r };
-                let added = read(&image, at, 4)?;
-                let addr = placed(symbol?.st_value.saturating_add(added));
+                let added = taken(at, read(&image, at, 4)?);
+                let addr = placed(symbol_at(number)?.2.saturating_add(added));
                 if halves {
                     write(&mut image, at, addr & 0xffff_ffff, 4)?;
                     write(&mut image, at.saturating_add(8), addr >> 32, 4)?;
@@ -366,7 +391,7 @@ fn replay_into(
             }
             8 if in_text(r) => {
                 let (low, high) = (r.saturating_add(4), r.saturating_add(12));
-                let addr = read(&image, low, 4)? | read(&image, high, 4)? << 32;
+                let addr = taken(low, read(&image, low, 4)? | read(&image, high, 4)? << 32);
                 if addr == 0 {
                     return Err(stop(29, 0));
                 }
@@ -375,30 +400,30 @@ fn replay_into(
             }
             8 => {
                 let addr = if version2 {
-                    placed(read(&image, r, 8)?)
+                    placed(taken(r, read(&image, r, 8)?))
                 } else {
-                    PROGRAM_START + read(&image, r.saturating_add(4), 4)?
+                    PROGRAM_START + taken(r, read(&image, r.saturating_add(4), 4)?)
                 };
                 write(&mut image, r, addr, 8)?;
             }
             10 => {
-                let symbol = symbol?;
+                let (st_name, st_info, st_value) = symbol_at(number)?;
                 let name = elf
-                    .dynamic_symbol_name(symbol.st_name)
-                    .map_err(|_| stop(32, symbol.st_name as u64))?;
-                let key = if symbol.st_info & 15 == 2 && symbol.st_value != 0 {
-                    if !addresses.contains(&symbol.st_value) {
+                    .dynamic_symbol_name(st_name)
+                    .map_err(|_| stop(32, st_name as u64))?;
+                let key = if st_info & 15 == 2 && st_value != 0 {
+                    if !addresses.contains(&st_value) {
                         return Err(stop(33, 0));
                     }
-                    let name = Name::Symbol(name, place_of(file, name));
-                    rules.register(table, name, index_of(symbol.st_value))?
+                    let name = Name::Symbol(name, place_of(front, name));
+                    rules.register(table, name, index_of(st_value))?
                 } else {
                     let hash = outcome::hash(name);
                     if settings.reject_broken && !rules.is_builtin(hash) {
                         return Err(Stop {
                             number: 22,
                             value: r,
-                            start: place_of(file, name),
+                            start: place_of(front, name),
                             length: name.len() as u64,
                         });
                     }
@@ -422,7 +447,7 @@ fn replay_into(
             let name = elf
                 .symbol_name(symbol.st_name)
                 .map_err(|_| stop(32, symbol.st_name as u64))?;
-            let name = Name::Symbol(name, place_of(file, name));
+            let name = Name::Symbol(name, place_of(front, name));
             rules.register(table, name, index_of(symbol.st_value))?;
         }
     }
@@ -446,5 +471,26 @@ fn replay_into(
         text_addr,
         text_start,
         text_length,
+        addends,
+    })
+}
+
+/// The Rust's read-only section of an image, for a file whose load is otherwise the model's.
+pub fn read_only(file: &[u8], settings: Settings, m: &Replayed) -> Result<ReadOnly, Stop> {
+    let mut placed = Placed::new();
+    placed.put(&dynamic::without(file), 0);
+    let elf = Elf64::parse(placed.bytes()).expect("a file that the model accepts");
+    let loader = outcome::loader(settings, &[]);
+    let section = rbpf::read_only(loader.get_config(), m.version2, &elf, &m.image);
+    let (copied, addr_offset, range, bytes) = section.map_err(|err| {
+        let refused = outcome::load_refusal(err);
+        stop(refused.number, refused.value)
+    })?;
+    Ok(ReadOnly {
+        copied,
+        addr_offset: addr_offset as u64,
+        start: range.start as u64,
+        length: bytes.len() as u64,
+        bytes,
     })
 }

@@ -130,6 +130,18 @@ pub fn parser_number(err: &ElfParserError) -> u32 {
     }
 }
 
+/// The refusal with a number that one of the dynamic table's has.
+pub fn parser_error(number: u32) -> ElfParserError {
+    match number {
+        3 => ElfParserError::InvalidSectionHeader,
+        5 => ElfParserError::OutOfBounds,
+        6 => ElfParserError::InvalidSize,
+        10 => ElfParserError::InvalidDynamicSectionTable,
+        11 => ElfParserError::InvalidAlignment,
+        _ => unreachable!("no refusal of a dynamic table: {number}"),
+    }
+}
+
 pub fn parser_refusal(err: ElfParserError) -> Refused {
     let number = parser_number(&err);
     let name = match err {

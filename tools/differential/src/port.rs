@@ -172,7 +172,14 @@ pub fn lookup_into(by_search: bool, t: &Columns, used: u64, key: u32, words: &mu
     unsafe { look_up(by_search, t, used, key, words.as_mut_ptr(), words.len()) }
 }
 
-unsafe fn look_up(by_search: bool, t: &Columns, used: u64, key: u32, words: *mut u64, n: usize) -> u32 {
+unsafe fn look_up(
+    by_search: bool,
+    t: &Columns,
+    used: u64,
+    key: u32,
+    words: *mut u64,
+    n: usize,
+) -> u32 {
     let call = if by_search {
         sbpf_lookup_ascending
     } else {

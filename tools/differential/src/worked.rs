@@ -190,6 +190,8 @@ struct Relocation {
     name: Option<&'static str>,
     /// How far it stands behind the last eight bytes of the file; None: at the text's start.
     behind: Option<u64>,
+    /// Of the kind that brings this addend.
+    addend: Option<i64>,
 }
 
 /// A file with these and no more: zero bytes as .text, program headers of zeros, an empty section, a
@@ -267,20 +269,32 @@ impl Small {
         }
         // where the relocation stands in the file
         let symbols = text_at + self.text_length;
-        let (relocation_at, dynamic) = (symbols + 24, symbols + 40);
+        let relocation_at = symbols + 24;
         if let Some(Relocation {
-            kind, value, name, ..
+            kind,
+            value,
+            name,
+            addend,
+            ..
         }) = self.relocation
         {
             let (symbols, relocations) = (symbols as u64, relocation_at as u64);
-            let bytes_of = |words: &[u64]| words.iter().flat_map(|w| w.to_le_bytes()).collect();
+            let bytes_of =
+                |words: &[u64]| -> Vec<u8> { words.iter().flat_map(|w| w.to_le_bytes()).collect() };
             let contents = bytes_of(&[name.is_some() as u64, value, 0]);
             sections.push((".dynsym", 11, 2, symbols, 8, contents));
-            let contents = bytes_of(&[text_addr, kind]);
-            sections.push((".rel.dyn", 9, 2, relocations, 8, contents));
-            // DT_REL, DT_RELSZ, DT_RELENT, DT_SYMTAB
-            let contents = bytes_of(&[17, relocations, 18, 16, 19, 16, 6, symbols]);
-            sections.push((".dynamic", 6, 2, dynamic as u64, 8, contents));
+            let mut contents = bytes_of(&[text_addr, kind]);
+            contents.extend(addend.iter().flat_map(|a| a.to_le_bytes()));
+            let size = contents.len() as u64;
+            // DT_REL, DT_RELSZ, DT_RELENT, or those of the kind that brings an addend; DT_SYMTAB
+            let (name_of, section, tag) = match addend {
+                None => (".rel.dyn", 9, 17),
+                Some(_) => (".rela.dyn", 4, 7),
+            };
+            sections.push((name_of, section, 2, relocations, 8, contents));
+            let dynamic = relocations + size;
+            let contents = bytes_of(&[tag, relocations, tag + 1, size, tag + 2, size, 6, symbols]);
+            sections.push((".dynamic", 6, 2, dynamic, 8, contents));
             if let Some(name) = name {
                 let names = format!("\0{name}\0").into_bytes();
                 sections.push((".dynstr", 3, 2, 0, 1, names));
@@ -400,7 +414,7 @@ struct Example {
     asked: Asked,
     case: Case,
     expected: Told,
-    /// The Rust has the limit too.
+    /// The Rust has the limit, or reads the relocation, too.
     asks_rust: bool,
 }
 
@@ -493,7 +507,7 @@ fn examples() -> Vec<Example> {
     // behind the header, slots 0 to 2 and half of slot 3
     let immediate_at = 64 + 28;
     // of this type, with a symbol of this value, over two halves of which the lower holds this
-    let relocation = |kind, value, low: u64| {
+    let relocated = |kind, value, low: u64, addend, behind| {
         Small {
             version2: false,
             slot: Some((0, 0x18 | low << 32)),
@@ -501,14 +515,16 @@ fn examples() -> Vec<Example> {
                 kind,
                 value,
                 name: None,
-                behind: None,
+                behind,
+                addend,
             }),
             ..PLAIN
         }
         .case()
     };
+    let relocation = |kind, value, low: u64| relocated(kind, value, low, None, None);
     // type 10, of a symbol that no function has, named as a built-in
-    let named_call = |behind| {
+    let call_by_name = |behind, addend| {
         Small {
             version2: false,
             relocation: Some(Relocation {
@@ -516,11 +532,13 @@ fn examples() -> Vec<Example> {
                 value: 0,
                 name: Some("abort"),
                 behind,
+                addend,
             }),
             ..PLAIN
         }
         .case()
     };
+    let named_call = |behind| call_by_name(behind, None);
     let flagged = |name, flags| {
         let flagged = Some((name, flags));
         Small { flagged, ..PLAIN }.case()
@@ -687,6 +705,72 @@ fn examples() -> Vec<Example> {
         ),
         example("version 1, type 0", relocation(0, 0x20, 4), refused(30, 0)),
         example("version 1, type 2", relocation(2, 0x20, 4), refused(30, 2)),
+        // relocations that bring an addend, which the Rust passes over
+        added(
+            "version 1, type 1, symbol 0x20, bytes 4, addend 5",
+            relocated(1, 0x20, 4, Some(5), None),
+            halves(&[(0x25, 68), (1, 76)]),
+        ),
+        added(
+            "version 1, type 1, symbol 0x20, bytes 4, addend 0",
+            relocated(1, 0x20, 4, Some(0), None),
+            halves(&[(0x20, 68), (1, 76)]),
+        ),
+        added(
+            "version 1, type 1, symbol 2^63 + 1, addend 2^63 - 1: the sum stops",
+            relocated(1, (1 << 63) + 1, 4, Some(i64::MAX), None),
+            halves(&[(u32::MAX, 68), (u32::MAX, 76)]),
+        ),
+        added(
+            "version 1, type 1, addend -1",
+            relocated(1, 0x20, 4, Some(-1), None),
+            refused(47, 0),
+        ),
+        added(
+            "version 1, type 8 in text, lower half 1, addend 0",
+            relocated(8, 0, 1, Some(0), None),
+            refused(29, 0),
+        ),
+        added(
+            "version 1, type 8 in text, both halves 0, addend 1",
+            relocated(8, 0, 0, Some(1), None),
+            halves(&[(1, 68), (1, 76)]),
+        ),
+        added(
+            "version 1, type 8 in text, addend 2^63",
+            relocated(8, 0, 1, Some(i64::MIN), None),
+            refused(47, 0),
+        ),
+        added(
+            "version 1, type 8 in the file's last 8 bytes, addend 5",
+            relocated(8, 0, 0, Some(5), Some(0)),
+            halves(&[(5, 616), (1, 620)]),
+        ),
+        added(
+            "version 1, type 8 in the file's last 8 bytes, addend 2^32",
+            relocated(8, 0, 0, Some(1 << 32), Some(0)),
+            halves(&[(2, 620)]),
+        ),
+        added(
+            "version 1, type 8 one byte behind that, addend 5",
+            relocated(8, 0, 0, Some(5), Some(1)),
+            refused(33, 0),
+        ),
+        added(
+            "version 1, type 8 one byte behind that, addend -1",
+            relocated(8, 0, 0, Some(-1), Some(1)),
+            refused(47, 0),
+        ),
+        added(
+            "version 1, type 2, addend -1",
+            relocated(2, 0x20, 4, Some(-1), None),
+            refused(30, 2),
+        ),
+        added(
+            "version 1, type 10 of a built-in, in the text, addend -1",
+            with(call_by_name(None, Some(-1)), ALL, abort),
+            halves(&[(abort, 68)]),
+        ),
         example("empty section at 0", empty_at(0), accepted(2, 0)),
         example("empty section at 1", empty_at(1), refused(7, 0)),
         example("empty section at 10", empty_at(10), refused(7, 0)),
@@ -818,12 +902,37 @@ fn examples() -> Vec<Example> {
             flagged(".bss", 0),
             Told::Refused([28, 0, 95, 4]),
         ),
-        contents("contents of section 0 of 3", PLAIN.case(), 0, refused(46, 0)),
-        contents("contents of section 1 of 3, the text", PLAIN.case(), 1, Told::Place(64, 16)),
-        contents("contents of section 3 of 3", PLAIN.case(), 3, refused(45, 0)),
-        contents("contents of .rodata, type 1", rodata(1), 2, Told::Place(80, 8)),
+        contents(
+            "contents of section 0 of 3",
+            PLAIN.case(),
+            0,
+            refused(46, 0),
+        ),
+        contents(
+            "contents of section 1 of 3, the text",
+            PLAIN.case(),
+            1,
+            Told::Place(64, 16),
+        ),
+        contents(
+            "contents of section 3 of 3",
+            PLAIN.case(),
+            3,
+            refused(45, 0),
+        ),
+        contents(
+            "contents of .rodata, type 1",
+            rodata(1),
+            2,
+            Told::Place(80, 8),
+        ),
         contents("contents of .rodata, type 0", rodata(0), 2, refused(46, 0)),
-        contents("contents of .rodata, type 8", rodata(8), 2, Told::Place(0, 0)),
+        contents(
+            "contents of .rodata, type 8",
+            rodata(8),
+            2,
+            Told::Place(0, 0),
+        ),
         // a load reads a header of type 0 as any other
         example(
             "version 1, .rodata with a header of type 1",
@@ -956,9 +1065,16 @@ fn record(e: &Example) -> Vec<u8> {
 /// The program's line: as an answer is told, with all words of an accepted one from the version on.
 fn line(e: &Example) -> String {
     let answer = match e.asked {
-        Asked::Load => load_line(e, &expected(&e.case).expect("the model agrees with the Rust")),
+        Asked::Load => load_line(
+            e,
+            &expected(&e.case).expect("the model agrees with the Rust"),
+        ),
         Asked::File(..) => {
-            assert!(!e.asks_rust || rust(e) == e.expected.to_string(), "{}", e.what);
+            assert!(
+                !e.asks_rust || rust(e) == e.expected.to_string(),
+                "{}",
+                e.what
+            );
             e.expected.to_string()
         }
     };
@@ -1036,10 +1152,7 @@ pub fn run() -> usize {
         let got = port(&e);
         let (rust, asked) = match e.asks_rust {
             true => (rust(&e), e.expected.without_added(&e.case.file)),
-            false => (
-                "has no such limit".to_string(),
-                "has no such limit".to_string(),
-            ),
+            false => ("is not asked".to_string(), "is not asked".to_string()),
         };
         // every byte, word and number, with zeros after a refusal
         let whole = loads::compare(&e.case, &mut loads::Counts::default());

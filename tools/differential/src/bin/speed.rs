@@ -183,7 +183,13 @@ fn lookup_row(count: usize, rows: usize, hit: bool, rounds: usize) {
             .expect("keys are distinct");
     }
     let indices: Vec<u32> = (0..rows as u32).collect();
-    let table = [keys.clone(), indices, vec![3; rows], vec![0; rows], vec![0; rows]];
+    let table = [
+        keys.clone(),
+        indices,
+        vec![3; rows],
+        vec![0; rows],
+        vec![0; rows],
+    ];
     // no key of the table is even
     let asked: Vec<u32> = (0..count)
         .map(|_| keys[r.index(rows)] - if hit { 0 } else { 1 })

@@ -27,8 +27,9 @@
 //! everything lent is zero.
 //!
 //! A list has a line for each case or run of cases: how it is drawn (`small` or `large`, by its file;
-//! `faulty`, small and damaged up to three times; `end`, small with relocations at its end; `any`, as
-//! the comparison draws them), seed, number and, if not 1, how many from that number on. FOLDER/list
+//! `faulty`, small and damaged up to three times; `end`, small with relocations at its end; these three
+//! with `_addends` behind the name for files with relocations that bring an addend; `any`, as the
+//! comparison draws its even cases), seed, number and, if not 1, how many from that number on. FOLDER/list
 //! has the cases written, one to a line. `tools/wrong_programs` chooses the sample.
 //!
 //! The replaying program has nothing but its stack, so what it lends are arrays of fixed lengths,
@@ -37,6 +38,7 @@
 
 use differential::{
     cases::Case,
+    elf::Addends,
     expected::{expected, Expected},
     outcome::{hash, Text},
     worked,
@@ -111,13 +113,17 @@ fn can_lend(case: &Case) -> bool {
 
 /// A case as a list names it: how it is drawn, its seed and its number.
 fn case_of(style: &str, seed: u64, number: u64) -> Case {
+    let addends = match style.ends_with("_addends") {
+        true => Addends::Drawn,
+        false => Addends::No,
+    };
     match style {
-        "small" => Case::small(seed, number),
+        "small" | "small_addends" => Case::small(seed, number, addends),
         "large" => Case::large(seed, number),
-        "faulty" => Case::faulty(seed, number),
-        "end" => Case::end(seed, number),
+        "faulty" | "faulty_addends" => Case::faulty(seed, number, addends),
+        "end" | "end_addends" => Case::end(seed, number, addends),
         "any" => Case::new(seed, number),
-        _ => panic!("{style}: a case is small, large, faulty, end or any"),
+        _ => panic!("{style}: no way to draw a case"),
     }
 }
 
