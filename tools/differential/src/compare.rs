@@ -170,8 +170,7 @@ impl Comparer {
         // the Rust passes over relocations that bring an addend: it reads the file without the dynamic
         // table, which is read apart
         self.count("files with relocations that bring an addend", 0);
-        let mut placed = Placed::new();
-        placed.put(&dynamic::without(bytes), 0);
+        let placed = dynamic::without(bytes);
         let front = placed.bytes();
         let elf = Elf64::parse(front).expect("it was parsed before");
         match dynamic::linked(bytes) {

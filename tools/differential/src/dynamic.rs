@@ -1,7 +1,7 @@
 //! The dynamic table, read apart from the Rust: its own reading is private, and does not look at the tables
 //! of relocations that bring an addend (tags 7, 8 and 9). Files without them hold this against the Rust.
 
-use crate::outcome;
+use crate::{compare::Placed, elf::put, outcome};
 use rbpf::elf_parser::Elf64;
 
 const PT_DYNAMIC: u64 = 2;
@@ -26,7 +26,8 @@ pub struct Linked {
     pub symbols: Table,
 }
 
-fn get(file: &[u8], at: u64, width: usize) -> u64 {
+/// The number of `width` bytes at a place that lies in the file.
+pub fn get(file: &[u8], at: u64, width: usize) -> u64 {
     let mut bytes = [0; 8];
     bytes[..width].copy_from_slice(&file[at as usize..at as usize + width]);
     u64::from_le_bytes(bytes)
@@ -51,27 +52,26 @@ fn has_headers(file: &[u8]) -> bool {
         && within(get(file, 40, 8), 64 * get(file, 60, 2))
 }
 
-/// The same file with no header that leads to a dynamic table. What a parse says before it comes to that
-/// table, the Rust says of this one too.
-pub fn without(file: &[u8]) -> Vec<u8> {
+/// The same file, aligned, with no header that leads to a dynamic table. What a parse says before it comes to
+/// that table, the Rust says of this one too.
+pub fn without(file: &[u8]) -> Placed {
     let mut bytes = file.to_vec();
     if has_headers(file) {
         let (segments, sections) = headers(file);
-        for (at, width, from, to) in segments
-            .iter()
-            .map(|at| (*at, 4, PT_DYNAMIC, PT_NOTE))
-            .chain(
-                sections
-                    .iter()
-                    .map(|at| (*at + 4, 4, SHT_DYNAMIC, SHT_PROGBITS)),
-            )
-        {
-            if get(file, at, width) == from {
-                bytes[at as usize..at as usize + width].copy_from_slice(&to.to_le_bytes()[..width]);
+        for at in segments {
+            if get(file, at, 4) == PT_DYNAMIC {
+                put(&mut bytes, at, PT_NOTE, 4);
+            }
+        }
+        for at in sections {
+            if get(file, at + 4, 4) == SHT_DYNAMIC {
+                put(&mut bytes, at + 4, SHT_PROGBITS, 4);
             }
         }
     }
-    bytes
+    let mut placed = Placed::new();
+    placed.put(&bytes, 0);
+    placed
 }
 
 /// Entries of `width` bytes that fill a range of the file.
@@ -185,9 +185,7 @@ pub fn linked(file: &[u8]) -> Result<Linked, u32> {
 /// Whether the file, aligned to 16, has relocations that bring an addend, or would have them: a parse
 /// comes to its dynamic table, and finds an address under tag 7.
 pub fn has_relas(file: &[u8]) -> bool {
-    let mut placed = crate::compare::Placed::new();
-    placed.put(&without(file), 0);
-    Elf64::parse(placed.bytes()).is_ok() && values_of(file).is_ok_and(|v| v[DT_RELA] != 0)
+    Elf64::parse(without(file).bytes()).is_ok() && values_of(file).is_ok_and(|v| v[DT_RELA] != 0)
 }
 
 /// The relocations of both tables in the order in which they are applied: place, type with symbol, and the
@@ -205,9 +203,7 @@ pub fn both(file: &[u8], linked: &Linked) -> Vec<(u64, u64, Option<u64>)> {
 /// The number that a parse gives of a file, 0 where it accepts it; of a file without relocations that bring
 /// an addend, as the Rust.
 pub fn parse_number(file: &[u8]) -> u32 {
-    let mut placed = crate::compare::Placed::new();
-    placed.put(&without(file), 0);
-    match Elf64::parse(placed.bytes()) {
+    match Elf64::parse(without(file).bytes()) {
         Err(err) => outcome::parser_number(&err),
         Ok(_) => linked(file).err().unwrap_or(0),
     }

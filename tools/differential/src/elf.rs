@@ -102,7 +102,8 @@ fn section(name: &'static [u8], kind: u32, flags: u64, data: Vec<u8>) -> Section
     }
 }
 
-fn put(bytes: &mut [u8], at: u64, value: u64, width: usize) {
+/// Stores a number of `width` bytes.
+pub fn put(bytes: &mut [u8], at: u64, value: u64, width: usize) {
     bytes[at as usize..at as usize + width].copy_from_slice(&value.to_le_bytes()[..width]);
 }
 

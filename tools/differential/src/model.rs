@@ -8,7 +8,6 @@
 //! Rust altogether.
 
 use crate::{
-    compare::Placed,
     dynamic,
     elf::{PROGRAM_START, STACK_START},
     outcome::{self, ReadOnly},
@@ -252,8 +251,7 @@ fn replay_into(
     settings: Settings,
     builtins: &[u32],
 ) -> Result<Replayed, Stop> {
-    let mut placed_front = Placed::new();
-    placed_front.put(&dynamic::without(file), 0);
+    let placed_front = dynamic::without(file);
     let front = placed_front.bytes();
     let refused = |number: u32| {
         let mut refused = stop(number, 0);
@@ -477,9 +475,8 @@ fn replay_into(
 
 /// The Rust's read-only section of an image, for a file whose load is otherwise the model's.
 pub fn read_only(file: &[u8], settings: Settings, m: &Replayed) -> Result<ReadOnly, Stop> {
-    let mut placed = Placed::new();
-    placed.put(&dynamic::without(file), 0);
-    let elf = Elf64::parse(placed.bytes()).expect("a file that the model accepts");
+    let front = dynamic::without(file);
+    let elf = Elf64::parse(front.bytes()).expect("a file that the model accepts");
     let loader = outcome::loader(settings, &[]);
     let section = rbpf::read_only(loader.get_config(), m.version2, &elf, &m.image);
     let (copied, addr_offset, range, bytes) = section.map_err(|err| {

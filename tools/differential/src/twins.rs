@@ -5,7 +5,9 @@
 use crate::{
     cases::Case,
     compare::Placed,
-    dynamic, model,
+    dynamic::{self, get},
+    elf::put,
+    model,
     port::{self, WORDS},
     random::Random,
 };
@@ -38,31 +40,23 @@ fn load(case: &Case, file: &[u8]) -> Left {
     left
 }
 
-fn put(file: &mut [u8], at: u64, value: u64) {
-    file[at as usize..at as usize + 8].copy_from_slice(&value.to_le_bytes());
-}
-
-fn get(file: &[u8], at: u64) -> u64 {
-    u64::from_le_bytes(file[at as usize..at as usize + 8].try_into().unwrap())
-}
-
 /// The section of type SHT_RELA: its address, offset and size.
 fn rela_section(file: &[u8]) -> Option<(u64, u64, u64)> {
-    let (table, count) = (get(file, 40), file[60] as u64);
+    let (table, count) = (get(file, 40, 8), get(file, 60, 2));
     let header = (0..count)
         .map(|k| table + 64 * k)
-        .find(|at| file[*at as usize + 4] == 4)?;
+        .find(|at| get(file, *at + 4, 4) == 4)?;
     Some((
-        get(file, header + 16),
-        get(file, header + 24),
-        get(file, header + 32),
+        get(file, header + 16, 8),
+        get(file, header + 24, 8),
+        get(file, header + 32, 8),
     ))
 }
 
 /// The numbers in the dynamic table that lead to the relocations: of tags 17, 18 and 19, each once.
 fn entries(file: &[u8]) -> Option<[u64; 3]> {
     let (at, count) = dynamic::table(file).ok()?;
-    let tags: Vec<u64> = (0..count).map(|k| get(file, at + 16 * k)).collect();
+    let tags: Vec<u64> = (0..count).map(|k| get(file, at + 16 * k, 8)).collect();
     let one = |tag: u64| {
         let all: Vec<usize> = (0..tags.len()).filter(|k| tags[*k] == tag).collect();
         (all.len() == 1).then_some(at + 16 * *all.first()? as u64)
@@ -110,13 +104,13 @@ fn twins(case: &Case) -> Option<(Vec<u8>, Vec<u8>)> {
     // the table of the newer kind stands in both files
     for k in 0..count {
         for field in [0, 8] {
-            let value = get(&older, from + 16 * k + field);
-            put(&mut older, to + 24 * k + field, value);
+            let value = get(&older, from + 16 * k + field, 8);
+            put(&mut older, to + 24 * k + field, value, 8);
         }
     }
     let all = addends(case, &older)?;
     for (k, addend) in all.iter().enumerate() {
-        put(&mut older, to + 24 * k as u64 + 16, *addend);
+        put(&mut older, to + 24 * k as u64 + 16, *addend, 8);
     }
     // which itself may be what a relocation reads, or where it writes
     if addends(case, &older)? != all {
@@ -124,8 +118,8 @@ fn twins(case: &Case) -> Option<(Vec<u8>, Vec<u8>)> {
     }
     let mut newer = older.clone();
     for (entry, (tag, value)) in entries.iter().zip([(7, address), (8, size), (9, 24)]) {
-        put(&mut newer, *entry, tag);
-        put(&mut newer, entry + 8, value);
+        put(&mut newer, *entry, tag, 8);
+        put(&mut newer, entry + 8, value, 8);
     }
     let found = dynamic::linked(&newer).ok()?;
     if found.relas != (to, count) {
