@@ -67,6 +67,7 @@ enum {
     SBPF_NoSuchIndex = 45,
     SBPF_NotASection = 46,
     SBPF_AddendNegative = 47, /* of a relocation of type 1 or 8 */
+    SBPF_BadHashTable = 48, /* of sbpf_find_symbol alone */
 };
 
 /* Words of an accepted parse. A header that was found by name is given by its offset in the
@@ -85,7 +86,8 @@ enum {
     SBPF_DYNAMIC_SYMBOLS,
     SBPF_DYNAMIC_SYMBOL_COUNT,
     SBPF_DYNAMIC_RELAS, /* the relocations that bring an addend */
-    SBPF_DYNAMIC_RELA_COUNT
+    SBPF_DYNAMIC_RELA_COUNT,
+    SBPF_HASH_TABLE /* the address under tag 4, 0 where there is none; a parse does not look there */
 };
 
 /* Words of an accepted load. The read-only bytes stand in the image from SBPF_RO_START on, or,
@@ -125,6 +127,9 @@ enum { SBPF_START = 4, SBPF_LENGTH };
 /* Words of a lookup: whether a row was found, 1 or 0, and the row's, 0 where none was. */
 enum { SBPF_FOUND = 4, SBPF_ROW_INDEX, SBPF_ROW_KIND, SBPF_ROW_START, SBPF_ROW_LENGTH };
 
+/* Words of a symbol by its name: SBPF_FOUND, and its number among the dynamic symbols. */
+enum { SBPF_SYMBOL = 5 };
+
 /* MurmurHash3, x86 32-bit, seed 0. */
 uint32_t sbpf_hash(const uint8_t *name, size_t name_len);
 
@@ -154,6 +159,12 @@ uint32_t sbpf_dynamic_symbol_name(const uint8_t *file, size_t file_len, uint32_t
 /* The symbols of .symtab: no entries where there is no such section. */
 uint32_t sbpf_symbol_table(const uint8_t *file, size_t file_len, uint64_t *answer,
                            size_t answer_len);
+
+/* The dynamic symbol with a name, through the file's hash table (tag 4): the first on the name's
+ * chain that carries it. The result is 0, also where there is none: SBPF_FOUND says it. 48 where the
+ * table is absent or cannot be used. */
+uint32_t sbpf_find_symbol(const uint8_t *file, size_t file_len, const uint8_t *name,
+                          size_t name_len, uint64_t *answer, size_t answer_len);
 
 /* The first of the used rows with the key, whatever the columns hold; at most the rows lent
  * count, that is as many as the shortest column has. The result is 0, also where there is none:

@@ -54,6 +54,14 @@ mod c {
             answer: *mut u64,
             answer_len: usize,
         ) -> u32;
+        pub fn sbpf_find_symbol(
+            file: *const u8,
+            file_len: usize,
+            name: *const u8,
+            name_len: usize,
+            answer: *mut u64,
+            answer_len: usize,
+        ) -> u32;
         pub fn sbpf_symbol_table(
             file: *const u8,
             file_len: usize,
@@ -192,6 +200,8 @@ pub struct Layout {
     /// The relocations that bring an addend.
     pub dynamic_relas: Entries,
     pub dynamic_symbols: Entries,
+    /// The address of the symbols' hash table, 0 where there is none.
+    pub hash_table: u64,
 }
 
 /// Where things stand in an ELF-64 file.
@@ -214,6 +224,7 @@ pub fn parse(file: &[u8]) -> Result<Layout, Refusal> {
         dynamic_relocations: entries(12),
         dynamic_relas: entries(16),
         dynamic_symbols: entries(14),
+        hash_table: a[18],
     })
 }
 
@@ -259,6 +270,23 @@ pub fn symbol_table(file: &[u8]) -> Result<Entries, Refusal> {
         start: a[4] as usize,
         count: a[5] as usize,
     })
+}
+
+/// The number of the dynamic symbol with a name, through the file's hash table; none where no symbol of
+/// the name's chain carries it. 48 where the table is absent or cannot be used.
+pub fn find_symbol(file: &[u8], name: &[u8]) -> Result<Option<u32>, Refusal> {
+    // SAFETY: as said above.
+    let a = answered(file, |words, n| unsafe {
+        c::sbpf_find_symbol(
+            file.as_ptr(),
+            file.len(),
+            name.as_ptr(),
+            name.len(),
+            words,
+            n,
+        )
+    })?;
+    Ok((a[4] == 1).then_some(a[5] as u32))
 }
 
 /// The five columns of a table; it has as many rows as the shortest.

@@ -86,6 +86,7 @@ reasons! {
     45 NoSuchIndex,
     46 NotASection,
     47 AddendNegative,
+    48 BadHashTable,
 }
 
 /// Why there is nothing, and what goes with it. The name that it speaks of is the part of the file

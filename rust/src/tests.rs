@@ -111,7 +111,10 @@ fn a_call_holds_the_key_that_finds_its_target() {
     let found = |key| {
         let row = lookup(lent.table(), a.used, key);
         assert_eq!(lookup_ascending(lent.table(), a.used, key), row);
-        assert_eq!(index_ascending(lent.table(), a.used, key), row.map(|r| r.index));
+        assert_eq!(
+            index_ascending(lent.table(), a.used, key),
+            row.map(|r| r.index)
+        );
         row.map(|row| (row.index, row.kind))
     };
     assert_eq!(found(key), Some((1, 3)));
@@ -209,6 +212,24 @@ fn relocations_bring_addends() {
 fn names() -> Vec<(u32, String)> {
     let named = |n| refusal_name(n).map(|name| (n, name));
     (0..=255).filter_map(named).collect()
+}
+
+#[test]
+fn symbols_are_found_by_their_names() {
+    let file = include_bytes!("../../examples/names_gnu.so");
+    assert_eq!(find_symbol(file, b"start_lift"), Ok(Some(6)));
+    assert_eq!(find_symbol(file, b"brake"), Ok(Some(8)));
+    assert_eq!(find_symbol(file, b"start_lif"), Ok(None));
+    assert_eq!(find_symbol(file, b""), Ok(None));
+    let layout = parse(file).expect("the file is parsed");
+    assert_eq!(layout.hash_table, 0xf0);
+    // another count of chains, which stands behind that of the buckets
+    let mut bad = file.to_vec();
+    bad[0xf4] += 1;
+    assert_eq!(find_symbol(&bad, b"brake"), Err(refusal(48, 0)));
+    // a file without a table, and one that is refused
+    assert_eq!(find_symbol(EXAMPLE, b"brake"), Err(refusal(48, 0)));
+    assert_eq!(find_symbol(b"", b""), Err(refusal(5, 0)));
 }
 
 #[test]

@@ -1,4 +1,4 @@
--- The dynamic table: where it stands, its 35 values by tag, and the three tables that they lead to.
+-- The dynamic table: where it stands, its 35 values by tag, and what they lead to.
 use Prim.Native.Nat.{ℕ, zero, suc, _+_, _-_, _*_, _≤_, _<_}
 use native.Mathlib.Nat.{mul-suc}
 use native.Mathlib.Omega.{arith}
@@ -22,9 +22,10 @@ use Rattle.elf_parser.specs.declared.dynamic.Found.the-variants.{At, Not
 use Rattle.elf_parser.specs.declared.dynamic.Linked.{Linked}
 use Rattle.elf_parser.specs.declared.dynamic.Linking.{Linking}
 use Rattle.elf_parser.specs.declared.dynamic.Linking.the-variants.{Found as Links, Refused}
+use Rattle.elf_parser.specs.declared.layout.Layout.{Layout}
 use Rattle.elf_parser.specs.declared.types.Elf64Phdr.{Elf64Phdr}
 use Rattle.elf_parser.specs.declared.types.Elf64Shdr.{Elf64Shdr}
-use Rattle.elf_parser.specs.Types.{programHeader, sectionHeader, d-tag, d-val, PT-DYNAMIC, SHT-DYNAMIC, DT-NULL, DT-SYMTAB, DT-RELA, DT-RELASZ, DT-RELAENT, DT-REL, DT-RELSZ, DT-RELENT}
+use Rattle.elf_parser.specs.Types.{programHeader, sectionHeader, d-tag, d-val, PT-DYNAMIC, SHT-DYNAMIC, DT-NULL, DT-HASH, DT-SYMTAB, DT-RELA, DT-RELASZ, DT-RELAENT, DT-REL, DT-RELSZ, DT-RELENT}
 use Rattle.elf_parser.specs.ProgramHeaders.{headerForVaddr}
 use Rattle.elf_parser.specs.Records.{sliced, symbolTableIn, no-entries, no-slice, InFile, slice-in-file, symbol-table-in-file}
 
@@ -112,9 +113,25 @@ orSection Unmapped other = other
 abbrev pub sectionWithAddr : List ℕ → Tables → ℕ → Found
 sectionWithAddr s t vaddr = firstWith s 64 16 true vaddr (t .shnum) (t .shoff)
 
--- where the relocations at an address start in the file
+-- where what has an address starts in the file
 abbrev pub relocationOffset : List ℕ → Tables → ℕ → Mapped
 relocationOffset s t vaddr = orSection (headerForVaddr s vaddr (t .phnum) (t .phoff)) (sectionOffset s (sectionWithAddr s t vaddr))
+
+-- the same by a layout: one that no parse made may have its header tables outside the file
+abbrev pub tablesOf : Layout → Tables
+tablesOf l =
+    record {
+      phoff = l .«program_headers» .offset;
+      phnum = l .«program_headers» .count;
+      shoff = l .«section_headers» .offset;
+      shnum = l .«section_headers» .count;
+    }
+
+unfoldable pub fileOffset : List ℕ → Layout → ℕ → Mapped
+fileOffset s l vaddr =
+    NoMap OutOfBounds if ltb (length s) (l .«program_headers» .offset + 56 * l .«program_headers» .count) else
+    NoMap OutOfBounds if ltb (length s) (l .«section_headers» .offset + 64 * l .«section_headers» .count) else
+    relocationOffset s (tablesOf l) vaddr
 
 unfoldable pub relocationsAt : ℕ → ℕ → ℕ → ℕ → Sliced
 relocationsAt len offset size width =
@@ -144,12 +161,12 @@ symbolsOf s t vaddr =
     Slice no-entries if eqb vaddr 0 else
     symbolsBy s (sectionWithAddr s t vaddr)
 
--- relocations, those that bring an addend, then symbols
-unfoldable pub linking : Sliced → Sliced → Sliced → Linking
-linking (NoSlice r) b c = Refused r
-linking (Slice e) (NoSlice r) c = Refused r
-linking (Slice e) (Slice a) (NoSlice r) = Refused r
-linking (Slice e) (Slice a) (Slice x) = Links (record { relocations = e; relas = a; symbols = x })
+-- relocations, those that bring an addend, then symbols; the address of the hash table is kept as it is
+unfoldable pub linking : Sliced → Sliced → Sliced → ℕ → Linking
+linking (NoSlice r) b c hash = Refused r
+linking (Slice e) (NoSlice r) c hash = Refused r
+linking (Slice e) (Slice a) (NoSlice r) hash = Refused r
+linking (Slice e) (Slice a) (Slice x) hash = Links (record { relocations = e; relas = a; symbols = x; «hash_table» = hash })
 
 abbrev pub linkedBy : List ℕ → Tables → List ℕ → Linking
 linkedBy s t values =
@@ -157,6 +174,7 @@ linkedBy s t values =
     (relocationsOf s t 16 (getD values DT-REL 0) (getD values DT-RELSZ 0) (getD values DT-RELENT 0))
     (relocationsOf s t 24 (getD values DT-RELA 0) (getD values DT-RELASZ 0) (getD values DT-RELAENT 0))
     (symbolsOf s t (getD values DT-SYMTAB 0))
+    (getD values DT-HASH 0)
 
 unfoldable pub dynamicIn : List ℕ → Tables → Sliced → Linking
 dynamicIn s t (NoSlice r) = Refused r
@@ -276,13 +294,13 @@ pub record LinkedInside (len : ℕ) (d : Linked) : Type 0 where
   pub relas : d .relas .offset + 24 * d .relas .count ≤ len
   pub symbols : d .symbols .offset + 24 * d .symbols .count ≤ len
 
-linking-inside : (len : ℕ) (a b c : Sliced) (d : Linked) → InFile len 16 a → InFile len 24 b → InFile len 24 c → linking a b c ≡ Links d → LinkedInside len d
+linking-inside : (len : ℕ) (a b c : Sliced) (hash : ℕ) (d : Linked) → InFile len 16 a → InFile len 24 b → InFile len 24 c → linking a b c hash ≡ Links d → LinkedInside len d
 unfolding linking
-linking-inside len (NoSlice r) b c d h k l e = let z : _≡_ {A = ℕ} 0 1 = cc in absurd (omega arith)
-linking-inside len (Slice x) (NoSlice r) c d h k l e = let z : _≡_ {A = ℕ} 0 1 = cc in absurd (omega arith)
-linking-inside len (Slice x) (Slice y) (NoSlice r) d h k l e = let z : _≡_ {A = ℕ} 0 1 = cc in absurd (omega arith)
-linking-inside len (Slice x) (Slice y) (Slice w) d h k l e =
-    let p : record { relocations = x; relas = y; symbols = w } ≡ d = cc in
+linking-inside len (NoSlice r) b c hash d h k l e = let z : _≡_ {A = ℕ} 0 1 = cc in absurd (omega arith)
+linking-inside len (Slice x) (NoSlice r) c hash d h k l e = let z : _≡_ {A = ℕ} 0 1 = cc in absurd (omega arith)
+linking-inside len (Slice x) (Slice y) (NoSlice r) hash d h k l e = let z : _≡_ {A = ℕ} 0 1 = cc in absurd (omega arith)
+linking-inside len (Slice x) (Slice y) (Slice w) hash d h k l e =
+    let p : record { relocations = x; relas = y; symbols = w; «hash_table» = hash } ≡ d = cc in
     rw (← p) (record { relocations = h x refl; relas = k y refl; symbols = l w refl })
 
 pub linked-inside : (s : List ℕ) (t : Tables) (d : Linked) → dynamicOf s t ≡ Links d → LinkedInside (length s) d
@@ -291,4 +309,4 @@ linked-inside s t d = by (dynamicTable s t)
   where
     by : (a : Sliced) → dynamicIn s t a ≡ Links d → LinkedInside (length s) d
     by (NoSlice r) e = let z : _≡_ {A = ℕ} 0 1 = cc in absurd (omega arith)
-    by (Slice x) e = linking-inside _ _ _ _ _ (relocations-in-file _ _ _ _ _ _) (relocations-in-file _ _ _ _ _ _) (symbols-in-file _ _ _) e
+    by (Slice x) e = linking-inside _ _ _ _ _ _ (relocations-in-file _ _ _ _ _ _) (relocations-in-file _ _ _ _ _ _) (symbols-in-file _ _ _) e

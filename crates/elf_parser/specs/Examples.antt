@@ -19,6 +19,8 @@ use Rattle.elf_parser.specs.declared.records.Sliced.the-variants.{At as 
 use Rattle.elf_parser.specs.declared.records.Rela.the-variants.{Relocation as WithAddend, Refused as NoRela}
 use Rattle.elf_parser.specs.declared.dynamic.Linking.{Linking}
 use Rattle.elf_parser.specs.declared.dynamic.Linking.the-variants.{Found as Links, Refused as NoLinks}
+use Rattle.elf_parser.specs.declared.program_headers.Mapped.{Mapped}
+use Rattle.elf_parser.specs.declared.program_headers.Mapped.the-variants.{At as Maps, Nothing as Unmapped, Refused as NoMap}
 use Rattle.elf_parser.specs.declared.section_headers.Ranges.{Ranges}
 use Rattle.elf_parser.specs.FileHeader.{headerCheck, headerRight, headerFixed, tablesCheck}
 use Rattle.elf_parser.specs.SectionHeaders.{sectionCheck}
@@ -28,7 +30,7 @@ use Rattle.elf_parser.specs.Parts.{bytesAt, partOf}
 use Rattle.elf_parser.specs.Types.{programHeader, sectionHeader, rela}
 use Rattle.elf_parser.specs.Loops.{over, _into_}
 use Rattle.elf_parser.specs.ProgramHeaders.{containsStep}
-use Rattle.elf_parser.specs.Dynamic.{withTag, valuesFrom, dynamicValues, firstWith, sectionOffset, orSection, relocationsAt, relocationsBy, relocationsOf, symbolsBy, symbolsOf, linking, linkedBy}
+use Rattle.elf_parser.specs.Dynamic.{withTag, valuesFrom, dynamicValues, firstWith, sectionOffset, orSection, relocationsAt, relocationsBy, relocationsOf, symbolsBy, symbolsOf, linking, linkedBy, fileOffset}
 use Rattle.elf_parser.specs.Parse.{namedLayout, parsed, fileCheck}
 use Rattle.elf_parser.specs.Errors.{_then_}
 
@@ -135,6 +137,7 @@ three-layout = record {
   «dynamic_relocations» = no-entries;
   «dynamic_relas» = no-entries;
   «dynamic_symbols» = no-entries;
+  «hash_table» = 0;
 }
 
 -- contents by index: a header of type 0 has none, whatever its numbers are and at whichever index; past the table it is 45
@@ -196,25 +199,25 @@ relas-located :
 unfolding relocationsOf relocationsBy relocationsAt sectionOffset orSection firstWith over _into_ containsStep sliced programHeader sectionHeader le bytesOf _if_else_
 relas-located = refl
 
--- by the address, size and entry size of tag 17, then of tag 7, and the address of tag 6
-abbrev links-by : ℕ → ℕ → ℕ → ℕ → ℕ → ℕ → ℕ → Linking
-links-by rel relsz relent rela relasz relaent symtab =
+-- by the address, size and entry size of tag 17, then of tag 7, and the addresses of tags 6 and 4
+abbrev links-by : ℕ → ℕ → ℕ → ℕ → ℕ → ℕ → ℕ → ℕ → Linking
+links-by rel relsz relent rela relasz relaent symtab hash =
     linkedBy (two-relas 64) (record { phoff = 0; phnum = 0; shoff = 0; shnum = 1 })
-    (set (set (set (set (set (set (set (replicate 35 0) 17 rel) 18 relsz) 19 relent) 7 rela) 8 relasz) 9 relaent) 6 symtab)
+    (set (set (set (set (set (set (set (set (replicate 35 0) 17 rel) 18 relsz) 19 relent) 7 rela) 8 relasz) 9 relaent) 6 symtab) 4 hash)
 
--- the older table is refused before the newer one, and that before the symbols; all three may be one place
+-- the older table is refused before the newer one, and that before the symbols; all three may be one place. The address under tag 4 is kept, wherever it leads
 relas-between :
-    links-by 0x1000 (2 ^ 64 - 64) 16 0x2000 48 24 0
-    ∷ links-by 0x2000 48 16 0x1000 (2 ^ 64 - 64) 24 0
-    ∷ links-by 0x1000 48 16 0x1000 (2 ^ 64 - 64) 24 0x2000
-    ∷ links-by 0 0 0 0x1000 48 24 0x2000
-    ∷ links-by 0x1000 48 16 0x1000 48 24 0x1000
+    links-by 0x1000 (2 ^ 64 - 64) 16 0x2000 48 24 0 0
+    ∷ links-by 0x2000 48 16 0x1000 (2 ^ 64 - 64) 24 0 0
+    ∷ links-by 0x1000 48 16 0x1000 (2 ^ 64 - 64) 24 0x2000 0
+    ∷ links-by 0 0 0 0x1000 48 24 0x2000 0
+    ∷ links-by 0x1000 48 16 0x1000 48 24 0x1000 0x3000
     ∷ []
     ≡ NoLinks OutOfBounds
     ∷ NoLinks InvalidDynamicSectionTable
     ∷ NoLinks OutOfBounds
     ∷ NoLinks InvalidDynamicSectionTable
-    ∷ Links (record { relocations = record { offset = 64; count = 3 }; relas = record { offset = 64; count = 2 }; symbols = record { offset = 64; count = 2 } })
+    ∷ Links (record { relocations = record { offset = 64; count = 3 }; relas = record { offset = 64; count = 2 }; symbols = record { offset = 64; count = 2 }; «hash_table» = 0x3000 })
     ∷ []
 unfolding linking relocationsOf relocationsBy relocationsAt symbolsOf symbolsBy symbolTableIn sectionOffset orSection firstWith over _into_ sliced sectionHeader le bytesOf _if_else_
 relas-between = refl
@@ -233,3 +236,35 @@ rela-by-number :
     ∷ []
 unfolding entryAt rela le bytesOf _if_else_
 rela-by-number = refl
+
+-- ---- an address in a file of 184 bytes: a program header of 16 bytes from 0x1000 on, which stand at 8, and two section headers, at 0x1008 and at 0x2000
+
+abbrev mapped-file : List ℕ
+mapped-file =
+    (replicate 8 0 ++ bytesOf 8 8 ++ bytesOf 8 0x1000 ++ replicate 16 0 ++ bytesOf 8 16 ++ replicate 8 0)
+    ++ (replicate 16 0 ++ bytesOf 8 0x1008 ++ bytesOf 8 99 ++ replicate 32 0)
+    ++ (replicate 16 0 ++ bytesOf 8 0x2000 ++ bytesOf 8 24 ++ replicate 32 0)
+
+abbrev offset-by : ℕ → ℕ → ℕ → Mapped
+offset-by segments sections vaddr =
+    fileOffset mapped-file
+    (record {
+      «program_headers» = record { offset = 0; count = segments };
+      «section_headers» = record { offset = 56; count = sections };
+      shstrtab = 0;
+      symtab = 0;
+      strtab = 0;
+      dynstr = 0;
+      «dynamic_relocations» = no-entries;
+      «dynamic_relas» = no-entries;
+      «dynamic_symbols» = no-entries;
+      «hash_table» = 0;
+    })
+    vaddr
+
+-- the last byte of the program header, one further, a section's, one that both have; without the program header; header tables that end past the file
+addresses :
+    offset-by 1 2 0x100f ∷ offset-by 1 2 0x1010 ∷ offset-by 1 2 0x2000 ∷ offset-by 1 2 0x1008 ∷ offset-by 0 2 0x1008 ∷ offset-by 4 2 0x2000 ∷ offset-by 1 3 0x2000 ∷ []
+    ≡ Maps 23 ∷ Unmapped ∷ Maps 24 ∷ Maps 16 ∷ Maps 99 ∷ NoMap OutOfBounds ∷ NoMap OutOfBounds ∷ []
+unfolding fileOffset sectionOffset orSection firstWith over _into_ containsStep programHeader sectionHeader le bytesOf _if_else_
+addresses = refl

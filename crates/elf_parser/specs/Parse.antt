@@ -63,6 +63,7 @@ layoutOf h names n (Links d) =
       «dynamic_relocations» = d .relocations;
       «dynamic_relas» = d .relas;
       «dynamic_symbols» = d .symbols;
+      «hash_table» = d .«hash_table»;
     })
 
 -- the dynamic part, with the name table's header at `names` and the named sections found

@@ -254,6 +254,7 @@ sound-steps s l x k e = subst (Sound s) (sym whole) sound-whole
           «dynamic_relocations» = x .linked .relocations;
           «dynamic_relas» = x .linked .relas;
           «dynamic_symbols» = x .linked .symbols;
+          «hash_table» = x .linked .«hash_table»;
         }
 
     whole : k ≡ m

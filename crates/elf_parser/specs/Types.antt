@@ -149,6 +149,9 @@ SHT-DYNSYM = 11
 abbrev pub DT-NULL : ℕ
 DT-NULL = 0
 
+abbrev pub DT-HASH : ℕ
+DT-HASH = 4
+
 abbrev pub DT-SYMTAB : ℕ
 DT-SYMTAB = 6
 

@@ -27,6 +27,8 @@ pub const SHT_DYNSYM: u32 = 11;
 
 pub const DT_NULL: u64 = 0;
 
+pub const DT_HASH: usize = 4;
+
 pub const DT_SYMTAB: usize = 6;
 
 pub const DT_RELA: usize = 7;

@@ -1,4 +1,5 @@
-// The dynamic table: where it stands, its 35 values, and the three tables that they lead to.
+// The dynamic table: where it stands, its 35 values, and what they lead to.
+use crate::consts::DT_HASH;
 use crate::consts::DT_NULL;
 use crate::consts::DT_NUM;
 use crate::consts::DT_REL;
@@ -11,6 +12,7 @@ use crate::consts::DT_SYMTAB;
 use crate::consts::PT_DYNAMIC;
 use crate::consts::SHT_DYNAMIC;
 use crate::error::ElfParserError;
+use crate::layout::Layout;
 use crate::program_headers::Mapped;
 use crate::program_headers::header_for_vaddr;
 use crate::records::Entries;
@@ -23,8 +25,9 @@ use ebpf::little_endian::read_u32;
 use ebpf::little_endian::read_u64;
 ghost use mathlib.Core.Path.{_≡_};
 ghost use Prim.Native.Nat.{_+_, _*_, _≤_, _<_};
+ghost use lib.Dec.{ltb};
 ghost use lib.ListN.{length};
-ghost use Rattle.elf_parser.specs.Dynamic.{field, firstWith, Inside, fromSegment, fromSection, dynamicTable, withTag, dynamicValues, relocationOffset, relocationsAt, relocationsOf, symbolsOf, linkedBy, dynamicOf};
+ghost use Rattle.elf_parser.specs.Dynamic.{field, firstWith, Inside, fromSegment, fromSection, dynamicTable, withTag, dynamicValues, relocationOffset, fileOffset, relocationsAt, relocationsOf, symbolsOf, linkedBy, dynamicOf};
 
 // Where the header tables stand: offsets and counts, as the file header has them.
 pub struct Tables {
@@ -40,11 +43,13 @@ pub enum Found {
     Nothing,
 }
 
-// What the dynamic table leads to: the relocations, those that bring an addend, and the symbols.
+// What the dynamic table leads to: the relocations, those that bring an addend, and the symbols; and the
+// address of the symbols' hash table, which a parse does not look at.
 pub struct Linked {
     pub relocations: Entries,
     pub relas: Entries,
     pub symbols: Entries,
+    pub hash_table: u64,
 }
 
 pub enum Linking {
@@ -170,8 +175,8 @@ fn dynamic_values(file: &[u8], from: usize, count: u64) -> [u64; 35]
     values
 }
 
-// Where the relocations at an address start in the file: by the first program header that contains
-// it, else by the first section header with that address.
+// Where what has an address starts in the file: by the first program header that contains it, else by
+// the first section header with that address.
 fn relocation_offset(file: &[u8], t: Tables, vaddr: u64) -> Mapped
     requires { ⌜ Inside (length (now file)) t ⌝ }
     ensures { λ r. ⌜ r ≡ relocationOffset (now (file .entry)) t vaddr ⌝ }
@@ -188,6 +193,40 @@ fn relocation_offset(file: &[u8], t: Tables, vaddr: u64) -> Mapped
             Found::Nothing => Mapped::Nothing,
         },
     }
+}
+
+// Whether a table's entries, `width` bytes each, end past `len`.
+fn ends_past(len: u64, table: Entries, width: u64) -> bool
+    requires { ⌜ 0 < width ⌝ }
+    ensures { λ r. ⌜ r ≡ ltb len (table .offset + width * table .count) ⌝ }
+{
+    if len < table.offset {
+        return true;
+    }
+    (len - table.offset) / width < table.count
+}
+
+// Where what has an address starts in the file, by a layout. In one that no parse made the header tables
+// may lie outside the file.
+pub fn file_offset(file: &[u8], layout: Layout, vaddr: u64) -> Mapped
+    ensures { λ r. ⌜ r ≡ fileOffset (now (file .entry)) layout vaddr ⌝ }
+{
+    let program_headers = layout.program_headers;
+    let section_headers = layout.section_headers;
+    let len = file.len() as u64;
+    if ends_past(len, program_headers, 56) {
+        return Mapped::Refused(ElfParserError::OutOfBounds);
+    }
+    if ends_past(len, section_headers, 64) {
+        return Mapped::Refused(ElfParserError::OutOfBounds);
+    }
+    let t = Tables {
+        phoff: program_headers.offset as usize,
+        phnum: program_headers.count,
+        shoff: section_headers.offset as usize,
+        shnum: section_headers.count,
+    };
+    relocation_offset(file, t, vaddr)
 }
 
 // The relocations of `width` bytes each that fill `size` bytes from `offset` on.
@@ -280,6 +319,7 @@ fn linked_by(file: &[u8], t: Tables, values: &[u64; 35]) -> Linking
                         relocations: e,
                         relas: a,
                         symbols: s,
+                        hash_table: values[DT_HASH],
                     }),
                 },
             }

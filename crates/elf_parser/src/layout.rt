@@ -24,7 +24,8 @@ ghost use lib.ListN.{length};
 ghost use Rattle.elf_parser.specs.Parse.{Room, fileCheck, linkedLayout, namedLayout, parsed};
 
 // Where things stand in a file: plain numbers. A section header that was found by name, or is the
-// name table's, is given by its offset in the file, 0 where there is none.
+// name table's, is given by its offset in the file, 0 where there is none. The hash table of the dynamic
+// symbols is given by its address, as the dynamic table has it: a parse does not look for it.
 pub struct Layout {
     pub program_headers: Entries,
     pub section_headers: Entries,
@@ -35,6 +36,7 @@ pub struct Layout {
     pub dynamic_relocations: Entries,
     pub dynamic_relas: Entries,
     pub dynamic_symbols: Entries,
+    pub hash_table: u64,
 }
 
 pub enum Parsed {
@@ -108,6 +110,7 @@ fn linked_layout(file: &[u8], h: Elf64Ehdr, names: u64, n: Named) -> Parsed
                 dynamic_relocations: relocations,
                 dynamic_relas: relas,
                 dynamic_symbols: symbols,
+                hash_table: d.hash_table,
             })
         }
     }

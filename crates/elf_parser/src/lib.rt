@@ -14,6 +14,7 @@ mod section_names;
 mod strings;
 pub mod types;
 
+pub use dynamic::file_offset;
 pub use error::Check;
 pub use error::ElfParserError;
 pub use error::Report;
@@ -29,6 +30,8 @@ pub use names::symbol_name;
 pub use names::symbol_name_part;
 pub use parts::Place;
 pub use parts::part_of;
+pub use parts::past;
+pub use program_headers::Mapped;
 pub use records::Entries;
 pub use records::Phdr;
 pub use records::Rel;

@@ -32,7 +32,7 @@ pub fn part_of(file: &[u8], place: Place) -> &[u8]
 }
 
 // Whether `b` bytes from `a` on end past `len`.
-pub(crate) fn past(len: u64, a: u64, b: u64) -> bool
+pub fn past(len: u64, a: u64, b: u64) -> bool
     ensures { λ r. ⌜ r ≡ ltb len (a + b) ⌝ }
 {
     if len < b {

@@ -1,5 +1,5 @@
 // The parsed file as a view: one reference to the file, with plain offsets beside it. Each function
-// takes the view apart and asks `elf_parser`, whose contract it repeats at the view's file and
+// takes the view apart and asks `elf_parser` or `hash_table`, whose contract it repeats at the view's file and
 // layout, also in a view that no parse made. Whoever has the file and the layout asks there.
 use elf_parser::Layout;
 use elf_parser::Place;
@@ -15,9 +15,12 @@ use elf_parser::section_name_part;
 use elf_parser::section_place;
 use elf_parser::symbol_name;
 use elf_parser::symbol_name_part;
+use hash_table::FoundSymbol;
+use hash_table::find_symbol;
 ghost use mathlib.Core.Path.{_≡_};
 ghost use Rattle.elf_parser.specs.Names.{sectionName, symbolName, dynamicSymbolName};
 ghost use Rattle.elf_parser.specs.Parts.{partOf};
+ghost use Rattle.hash_table.specs.Find.{findSymbol};
 ghost use Rattle.elf_parser.specs.Records.{sectionPlaceOf, dynamicRelocationOf, dynamicRelaOf};
 
 pub struct Elf64<'a> {
@@ -68,6 +71,13 @@ impl<'a> Elf64<'a> {
         ensures { λ r. ⌜ r ≡ dynamicRelaOf (now (self .entry .file)) (self .entry .layout) index ⌝ }
     {
         dynamic_rela(self.file, self.layout, index)
+    }
+
+    // The dynamic symbol with a name.
+    pub fn find_symbol(self, name: &[u8]) -> FoundSymbol
+        ensures { λ r. ⌜ r ≡ findSymbol (now (self .entry .file)) (self .entry .layout) (now (name .entry)) ⌝ }
+    {
+        find_symbol(self.file, self.layout, name)
     }
 
     // Where the contents of section `index` stand.

@@ -17,6 +17,8 @@ use Rattle.elf_parser.specs.declared.records.Sliced.{Sliced}
 use Rattle.elf_parser.specs.declared.records.Sliced.the-variants.{At as Slice, Refused as NoSlice}
 use Rattle.elf_parser.specs.Errors.{reportOf}
 use Rattle.elf_parser.specs.Parse.{parsed}
+use Rattle.hash_table.specs.declared.FoundSymbol.{FoundSymbol}
+use Rattle.hash_table.specs.declared.FoundSymbol.the-variants.{At as SymbolAt, Nothing as NoSymbol, BadHashTable}
 use Rattle.program.specs.declared.Found.{Found}
 use Rattle.program.specs.declared.Found.the-variants.{At, Nothing}
 use Rattle.program.specs.declared.FoundIndex.{FoundIndex}
@@ -86,6 +88,7 @@ laidOut l =
     ∷ l .«dynamic_symbols» .count
     ∷ l .«dynamic_relas» .offset
     ∷ l .«dynamic_relas» .count
+    ∷ l .«hash_table»
     ∷ [])
 
 abbrev pub parseAnswer : Parsed → Answer
@@ -115,6 +118,12 @@ GivesAsked file question answer r = Gives (asked (parsed (now (file .entry))) (q
 abbrev pub rowAnswer : Found → Answer
 rowAnswer (At r) = accepted (1 ∷ r .index ∷ r .kind ∷ r .start ∷ r .length ∷ [])
 rowAnswer Nothing = accepted (0 ∷ [])
+
+-- a symbol by its name: 1 and its number, 0 where there is none; 48 where the hash table cannot be used
+abbrev pub symbolAnswer : FoundSymbol → Answer
+symbolAnswer (SymbolAt index) = accepted (1 ∷ index ∷ [])
+symbolAnswer NoSymbol = accepted (0 ∷ [])
+symbolAnswer BadHashTable = answerWith 48 (0 ∷ [])
 
 -- an index as a word, and where there is none the largest word, which is no index
 abbrev pub indexWord : FoundIndex → ℕ

@@ -50,6 +50,7 @@ names =
     ∷ (45, "NoSuchIndex")
     ∷ (46, "NotASection")
     ∷ (47, "AddendNegative")
+    ∷ (48, "BadHashTable")
     ∷ []
 
 -- the bytes of a text whose characters are one byte long

@@ -6,13 +6,14 @@ use elf_parser::Place;
 use elf_parser::Report;
 use elf_parser::Sliced;
 use elf_parser::report_of;
+use hash_table::FoundSymbol;
 use program::Found;
 use program::FoundIndex;
 ghost use mathlib.Core.Path.{_≡_};
 ghost use mathlib.Core.List.{_∷_, _++_};
 ghost use Prim.Native.Nat.{_≤_};
 ghost use lib.ListN.{length, getD, drop};
-ghost use Rattle.exports.specs.Answers.{written, Gives, answerWith, reported, refused, laidOut, parseAnswer, placeAnswer, tableAnswer, rowAnswer, indexWord, nineWords, clearedFrom};
+ghost use Rattle.exports.specs.Answers.{written, Gives, answerWith, reported, refused, laidOut, parseAnswer, placeAnswer, tableAnswer, symbolAnswer, rowAnswer, indexWord, nineWords, clearedFrom};
 
 // A number, 0 where nothing was refused, and what goes with it.
 pub struct Answer {
@@ -89,6 +90,7 @@ fn laid_out(l: Layout) -> Answer
         symbols.count,
         relas.offset,
         relas.count,
+        l.hash_table,
     ];
     answer_with(0, &words)
 }
@@ -117,6 +119,16 @@ pub(crate) fn table_answer(t: Sliced) -> Answer
     match t {
         Sliced::At(e) => answer_with(0, &[0, 0, 0, e.offset, e.count]),
         Sliced::Refused(e) => refused(e),
+    }
+}
+
+pub(crate) fn symbol_answer(f: FoundSymbol) -> Answer
+    ensures { λ r. ⌜ r ≡ symbolAnswer f ⌝ }
+{
+    match f {
+        FoundSymbol::At(index) => answer_with(0, &[0, 0, 0, 1, index as u64]),
+        FoundSymbol::Nothing => answer_with(0, &[0, 0, 0, 0]),
+        FoundSymbol::BadHashTable => answer_with(48, &[0]),
     }
 }
 

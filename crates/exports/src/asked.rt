@@ -2,6 +2,7 @@
 use crate::answers::Answer;
 use crate::answers::place_answer;
 use crate::answers::refused;
+use crate::answers::symbol_answer;
 use crate::answers::table_answer;
 use elf_parser::Parsed;
 use elf_parser::dynamic_symbol_name;
@@ -9,10 +10,12 @@ use elf_parser::section_name;
 use elf_parser::section_place;
 use elf_parser::symbol_name;
 use elf_parser::symbol_table;
+use hash_table::find_symbol;
 ghost use mathlib.Core.Path.{_≡_};
 ghost use Rattle.elf_parser.specs.Names.{sectionName, symbolName, dynamicSymbolName};
 ghost use Rattle.elf_parser.specs.Records.{sectionPlaceOf, symbolTableOf};
-ghost use Rattle.exports.specs.Answers.{asked, placeAnswer, tableAnswer};
+ghost use Rattle.hash_table.specs.Find.{findSymbol};
+ghost use Rattle.exports.specs.Answers.{asked, placeAnswer, tableAnswer, symbolAnswer};
 
 pub(crate) fn section_place_answer(file: &[u8], parsed: Parsed, index: u32) -> Answer
     ensures { λ r. ⌜ r ≡ asked parsed (λ l. placeAnswer (sectionPlaceOf (now (file .entry)) l index)) ⌝ }
@@ -55,6 +58,15 @@ pub(crate) fn symbol_table_answer(file: &[u8], parsed: Parsed) -> Answer
 {
     match parsed {
         Parsed::File(layout) => table_answer(symbol_table(file, layout)),
+        Parsed::Refused(e) => refused(e),
+    }
+}
+
+pub(crate) fn find_symbol_answer(file: &[u8], parsed: Parsed, name: &[u8]) -> Answer
+    ensures { λ r. ⌜ r ≡ asked parsed (λ l. symbolAnswer (findSymbol (now (file .entry)) l (now (name .entry)))) ⌝ }
+{
+    match parsed {
+        Parsed::File(layout) => symbol_answer(find_symbol(file, layout, name)),
         Parsed::Refused(e) => refused(e),
     }
 }

@@ -7,6 +7,7 @@ use answers::give_row;
 use answers::index_word;
 use answers::parse_answer;
 use asked::dynamic_symbol_name_answer;
+use asked::find_symbol_answer;
 use asked::section_name_answer;
 use asked::section_place_answer;
 use asked::symbol_name_answer;
@@ -27,9 +28,10 @@ ghost use Rattle.ebpf.specs.Murmur3.{murmur3};
 ghost use Rattle.elf_parser.specs.Names.{sectionName, symbolName, dynamicSymbolName};
 ghost use Rattle.elf_parser.specs.Parse.{parsed};
 ghost use Rattle.elf_parser.specs.Records.{sectionPlaceOf, symbolTableOf};
+ghost use Rattle.hash_table.specs.Find.{findSymbol};
 ghost use Rattle.program.specs.Table.{lookupIn, lookupAscendingIn, indexAscendingIn, tableBefore};
 ghost use Rattle.loader.specs.GetBytes.{textPlace};
-ghost use Rattle.exports.specs.Answers.{Gives, GivesAsked, GivesLoad, textAnswer, parseAnswer, placeAnswer, tableAnswer, rowAnswer, indexWord};
+ghost use Rattle.exports.specs.Answers.{Gives, GivesAsked, GivesLoad, textAnswer, parseAnswer, placeAnswer, tableAnswer, symbolAnswer, rowAnswer, indexWord};
 ghost use Rattle.exports.specs.Names.{Named, refusalName};
 
 mod answers;
@@ -103,6 +105,14 @@ pub extern "C" fn sbpf_symbol_table(file: &[u8], answer: &mut [u64]) -> u32
     ensures { λ r. ⌜ GivesAsked file (λ f l. tableAnswer (symbolTableOf f l)) answer r ⌝ }
 {
     give(answer, symbol_table_answer(file, parse(file)))
+}
+
+// The dynamic symbol with a name, through the file's hash table: whether there is one, and its number.
+#[no_mangle]
+pub extern "C" fn sbpf_find_symbol(file: &[u8], name: &[u8], answer: &mut [u64]) -> u32
+    ensures { λ r. ⌜ GivesAsked file (λ f l. symbolAnswer (findSymbol f l (now (name .entry)))) answer r ⌝ }
+{
+    give(answer, find_symbol_answer(file, parse(file), name))
 }
 
 // The first used row with the key, whatever the five slices hold; at most the rows lent count.

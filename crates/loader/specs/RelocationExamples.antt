@@ -52,6 +52,7 @@ layoutWith n m =
       «dynamic_relocations» = record { offset = 0; count = n };
       «dynamic_relas» = record { offset = 233; count = m };
       «dynamic_symbols» = record { offset = 32; count = 1 };
+      «hash_table» = 0;
     }
 
 abbrev jobWith : Bool → Layout → Job

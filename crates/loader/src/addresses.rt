@@ -2,7 +2,6 @@
 use ebpf::MM_PROGRAM_START;
 ghost use mathlib.Core.Path.{_≡_};
 ghost use Prim.Native.Nat.{_+_, _-_, min, max};
-ghost use lib.Dec.{ltb};
 ghost use Rattle.ebpf.specs.Choice.{_if_else_};
 ghost use Rattle.loader.specs.Addresses.{sumUpTo, machineAddr};
 
@@ -52,16 +51,6 @@ pub(crate) fn pick(b: bool, x: u64, y: u64) -> u64
         return x;
     }
     y
-}
-
-// Whether `b` bytes from `a` on end past `len`.
-pub(crate) fn past(len: u64, a: u64, b: u64) -> bool
-    ensures { λ r. ⌜ r ≡ ltb len (a + b) ⌝ }
-{
-    if len < b {
-        return true;
-    }
-    len - b < a
 }
 
 // Where a section of that sh_addr stands in the machine.

@@ -1,10 +1,10 @@
 // The read-only bytes of an accepted load, and the text among them: `get_ro_section` and
 // `get_text_bytes`. They stand in the image, or in the buffer that they were copied to.
-use crate::addresses::past;
 use crate::addresses::saturating_sub;
 use crate::answer::Accepted;
 use crate::error::ElfError;
 use ebpf::MM_PROGRAM_START;
+use elf_parser::past;
 ghost use mathlib.Core.Path.{_≡_};
 ghost use lib.ListN.{length};
 ghost use Rattle.loader.specs.GetBytes.{textPlace, roPlace, lentFor, roOf, textPlaceOf, partOf, partFor};

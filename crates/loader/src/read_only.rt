@@ -2,7 +2,6 @@
 use crate::addresses::greater;
 use crate::addresses::lesser;
 use crate::addresses::machine_addr;
-use crate::addresses::past;
 use crate::addresses::pick;
 use crate::addresses::saturating_add;
 use crate::addresses::saturating_sub;
@@ -13,6 +12,7 @@ use ebpf::MM_STACK_START;
 use elf_parser::Layout;
 use elf_parser::Place;
 use elf_parser::file_range;
+use elf_parser::past;
 use elf_parser::same_bytes;
 use elf_parser::section_name_part;
 use elf_parser::types::Elf64Shdr;

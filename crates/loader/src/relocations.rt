@@ -1,6 +1,5 @@
 // What a relocation asks for: the place that it means, the bytes that it writes there, and the function
 // that it registers. Reads only; the caller registers and writes.
-use crate::addresses::past;
 use crate::addresses::pick;
 use crate::addresses::saturating_add;
 use crate::addresses::saturating_sub;
@@ -24,6 +23,7 @@ use elf_parser::dynamic_relocation;
 use elf_parser::dynamic_symbol;
 use elf_parser::dynamic_symbol_name;
 use elf_parser::part_of;
+use elf_parser::past;
 use elf_parser::program_header;
 use elf_parser::types::Elf64Sym;
 use program::FunctionName;

@@ -1,7 +1,8 @@
 // The line of a load: `refused` with number, value, name start and name length; or `accepted` with the
 // words of the answer from the version on, then key, index, and the name's kind, start and length of
 // each row, and the words of the image that are not the file's, with their places. The line of a
-// question: `refused` likewise, or how many bytes and where they start.
+// question: `refused` likewise, or how many bytes and where they start, or whether there is a symbol and
+// its number.
 use ebpf::little_endian::read_u32;
 
 // The longest file, and the most rows.
@@ -82,6 +83,16 @@ pub(crate) fn print_place(number: u32, answer: &[u64; 24]) {
         io::print_decimal(1, answer[5]);
         io::write_all(1, b" bytes at");
         print_words(answer, 4, 5);
+        io::write_all(1, b"\n");
+    } else {
+        print_refused(answer);
+    }
+}
+
+pub(crate) fn print_symbol(number: u32, answer: &[u64; 24]) {
+    if number == 0 {
+        io::write_all(1, b"symbol");
+        print_words(answer, 4, 6);
         io::write_all(1, b"\n");
     } else {
         print_refused(answer);

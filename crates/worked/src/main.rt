@@ -3,10 +3,12 @@
 //
 // A record has a title, padded with spaces, which starts the line; seven numbers of 32 bits: the
 // file's length, the settings by their bits, how many built-ins there are, one at most, the built-in,
-// the rows, what is asked, 0 for a load, and the number that a question has; and the file. What is lent
-// holds anything but zeros before.
+// the rows, what is asked, 0 for a load, and the number that a question has; and the file. Question 5, for
+// a symbol by its name, has the name behind the file, and its length as the number. What is lent holds
+// anything but zeros before.
 use ebpf::little_endian::read_u32;
 use exports::sbpf_dynamic_symbol_name;
+use exports::sbpf_find_symbol;
 use exports::sbpf_load;
 use exports::sbpf_section_name;
 use exports::sbpf_section_place;
@@ -15,12 +17,15 @@ use lines::FILE;
 use lines::ROWS;
 use lines::print_line;
 use lines::print_place;
+use lines::print_symbol;
 
 mod lines;
 
 const TITLE: usize = 80;
 
 const NUMBERS: usize = 28;
+// The longest name.
+const NAME: usize = 64;
 // More examples than there are: a loop needs a bound, and the input gives none.
 const MOST: usize = 1000;
 
@@ -93,8 +98,20 @@ fn ask_and_print(file: &[u8], question: u32, number: u32) -> bool {
     true
 }
 
+// Reads the name behind the file, asks for its symbol, and prints what was answered.
+fn find_and_print(file: &[u8], name: &mut [u8], length: usize) -> bool {
+    if name.len() < length {
+        return bad_record();
+    }
+    io::read_full(0, &mut name[..length]);
+    let mut answer = [0xa8a8_a8a8u64; 24];
+    let refused = sbpf_find_symbol(file, &name[..length], &mut answer);
+    print_symbol(refused, &answer);
+    true
+}
+
 // Reads the file behind a record's numbers, and loads or asks it.
-fn run(numbers: &[u8; NUMBERS], file: &mut [u8]) -> bool {
+fn run(numbers: &[u8; NUMBERS], file: &mut [u8], name: &mut [u8]) -> bool {
     let length = read_u32(numbers, 0) as usize;
     let count = read_u32(numbers, 8) as usize;
     if file.len() < length {
@@ -105,6 +122,9 @@ fn run(numbers: &[u8; NUMBERS], file: &mut [u8]) -> bool {
     }
     io::read_full(0, &mut file[..length]);
     let question = read_u32(numbers, 20);
+    if question == 5 {
+        return find_and_print(&file[..length], name, read_u32(numbers, 24) as usize);
+    }
     if 0 < question {
         return ask_and_print(&file[..length], question, read_u32(numbers, 24));
     }
@@ -122,12 +142,13 @@ fn next_record() -> bool {
     let mut title = [0u8; TITLE];
     let mut numbers = [0u8; NUMBERS];
     let mut file = [0u8; FILE];
+    let mut name = [0u8; NAME];
     if io::read_full(0, &mut title) == 0 {
         return false;
     }
     io::write_all(1, &title);
     io::read_full(0, &mut numbers);
-    run(&numbers, &mut file)
+    run(&numbers, &mut file, &mut name)
 }
 
 fn main() {

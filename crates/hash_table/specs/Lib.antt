@@ -1,0 +1,4 @@
+pub mod Hash
+pub mod Find
+pub mod Laws
+pub mod Examples
