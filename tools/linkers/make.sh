@@ -33,20 +33,24 @@ lld() {
     patch "$name" "$machine" "$flags"
 }
 
-# gnu NAME MACHINE FLAGS [plain]: lld has no type 10 in a shared object, and GNU ld has it only where
+# gnu NAME FROM MACHINE FLAGS [plain]: lld has no type 10 in a shared object, and GNU ld has it only where
 # it is told not to ask whether an address fits 32 bits. It writes relocations with addends, of which
 # `plain` makes relocations without, for solana_rbpf, which reads no others.
 gnu() {
-    assemble "$1"
+    name=$1 from=$2
+    shift 2
+    assemble "$from"
     ld.bfd -shared -T "$here/sections.ld" -z notext -z noreloc-overflow --hash-style=sysv \
-        --no-warn-rwx-segments -e entrypoint "$work/$1.o" -o "$out/$1.so"
-    patch "$@"
+        --no-warn-rwx-segments -e entrypoint "$work/$from.o" -o "$out/$name.so"
+    patch "$name" "$@"
 }
 
 lld two_functions two_functions 263 0
 lld pointers pointers 247 0
 lld pointers_version2 pointers 263 0x20 --image-base=0x100000000
-gnu addends 247 0
-gnu calls 247 0 plain
-gnu functions 247 0 plain
-gnu unresolved 263 0 plain
+lld names names 263 0
+gnu names_gnu names 263 0
+gnu addends addends 247 0
+gnu calls calls 247 0 plain
+gnu functions functions 247 0 plain
+gnu unresolved unresolved 263 0 plain

@@ -131,9 +131,13 @@ def each(wrongs, level, work):
     with ThreadPoolExecutor(JOBS) as pool: yield from pool.map(one, wrongs)
 
 
+# What no load comes to is told by `worked`, which asks through the C interface.
+ASKED = ('exports', 'hash_table')
+
+
 def program_of(wrong):
-    """The program of the gate that must tell it: changes of the C interface are told by `worked`."""
-    return 'worked' if wrong.crate == 'exports' else 'load_vectors'
+    """The program of the gate that must tell it."""
+    return 'worked' if wrong.crate in ASKED else 'load_vectors'
 
 
 def lines_of(folder, name): return open(os.path.join(folder, name), 'rb').read().split(b'\n')[:-1]
@@ -216,7 +220,7 @@ def tell_listed(pools, chosen, names):
         return pools.telling(path)
 
     left, candidates = {}, {}
-    wrongs = [w for w in listed() if w.crate != 'exports' and (not names or w.name in names)]
+    wrongs = [w for w in listed() if w.crate not in ASKED and (not names or w.name in names)]
     for k, (wrong, told) in enumerate(each(wrongs, '-O1', telling)):
         for case in told: case.tells |= 1 << k
         candidates.update((case.name, case) for case in told)

@@ -2,7 +2,7 @@
 
 use crate::{
     compare::Placed,
-    elf::{self, Addends, Style},
+    elf::{self, Addends, Beyond, Style},
     expected::LONGEST,
     model, mutate, outcome,
     port::WORDS,
@@ -114,71 +114,85 @@ fn columns(r: &mut Random, most: usize) -> [usize; 5] {
 
 impl Case {
     pub fn new(seed: u64, number: u64) -> Case {
-        Case::of_any_size(seed, number, Addends::No)
+        Case::of_any_size(seed, number, Beyond::NOTHING)
     }
 
-    /// The cases of a comparison: every other one has relocations that bring an addend.
+    /// The cases of a comparison: every other one has relocations that bring an addend, and of four in a row
+    /// the last two a hash table.
     pub fn compared(seed: u64, number: u64) -> Case {
-        let addends = match number % 2 {
-            0 => Addends::No,
-            _ => Addends::Drawn,
+        let beyond = Beyond {
+            addends: match number % 2 {
+                0 => Addends::No,
+                _ => Addends::Drawn,
+            },
+            hash_table: number % 4 > 1,
         };
-        Case::of_any_size(seed, number, addends)
+        Case::of_any_size(seed, number, beyond)
     }
 
-    fn of_any_size(seed: u64, number: u64, addends: Addends) -> Case {
+    fn of_any_size(seed: u64, number: u64, beyond: Beyond) -> Case {
         let r = &mut Random::new(seed, number);
         let style = if r.one_in(250) {
             Style::Large
         } else {
             Style::Usual
         };
-        Case::drawn(r, style, addends, mutate::damage)
+        Case::drawn(r, style, beyond, mutate::damage)
     }
 
     /// A case whose file is small.
     pub fn small(seed: u64, number: u64, addends: Addends) -> Case {
         let r = &mut Random::new(seed, number);
-        Case::drawn(r, Style::Small, addends, mutate::damage)
+        Case::drawn(r, Style::Small, Beyond::addends(addends), mutate::damage)
     }
 
     /// A case whose file has more instructions than the constant table has keys.
     pub fn large(seed: u64, number: u64) -> Case {
         let r = &mut Random::new(seed, number);
-        Case::drawn(r, Style::Large, Addends::No, mutate::damage)
+        Case::drawn(r, Style::Large, Beyond::NOTHING, mutate::damage)
     }
 
     /// A case whose file is small and damaged up to three times: of two faults the order of the checks shows.
     pub fn faulty(seed: u64, number: u64, addends: Addends) -> Case {
-        let thrice = |r: &mut Random, file: &mut Vec<u8>, newer: bool| {
-            (0..3).fold(false, |any, _| mutate::damage(r, file, newer) | any)
+        let thrice = |r: &mut Random, file: &mut Vec<u8>, beyond: Beyond| {
+            (0..3).fold(false, |any, _| mutate::damage(r, file, beyond) | any)
         };
         let r = &mut Random::new(seed, number);
-        Case::drawn(r, Style::Small, addends, thrice)
+        Case::drawn(r, Style::Small, Beyond::addends(addends), thrice)
     }
 
     /// A case whose file is small and has a relocation at its end.
     pub fn end(seed: u64, number: u64, addends: Addends) -> Case {
         let r = &mut Random::new(seed, number);
-        Case::drawn(r, Style::Small, addends, mutate::relocate_end)
+        Case::drawn(
+            r,
+            Style::Small,
+            Beyond::addends(addends),
+            mutate::relocate_end,
+        )
     }
 
     /// A case whose file has room for its relocations as the kind that brings an addend.
     pub fn twin(seed: u64, number: u64) -> Case {
         let r = &mut Random::new(seed, number);
-        Case::drawn(r, Style::Usual, Addends::Room, |_, _, _| false)
+        Case::drawn(
+            r,
+            Style::Usual,
+            Beyond::addends(Addends::Room),
+            |_, _, _| false,
+        )
     }
 
     fn drawn(
         r: &mut Random,
         style: Style,
-        addends: Addends,
-        damage: impl FnOnce(&mut Random, &mut Vec<u8>, bool) -> bool,
+        beyond: Beyond,
+        damage: impl FnOnce(&mut Random, &mut Vec<u8>, Beyond) -> bool,
     ) -> Case {
-        let made = elf::file(r, style, addends);
+        let made = elf::file(r, style, beyond);
         let settings = settings(r, &made);
         let mut file = made.bytes;
-        let sound = !damage(r, &mut file, addends == Addends::Drawn);
+        let sound = !damage(r, &mut file, beyond);
         let mut builtins = builtins(r);
 
         // how many rows the load asks for

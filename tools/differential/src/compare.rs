@@ -3,7 +3,8 @@
 use crate::{
     cases::Case,
     dynamic::{self, Linked},
-    elf::{PROGRAM_START, STACK_START},
+    elf::{PROGRAM_START, STACK_START, SYMBOLS},
+    finding,
     outcome::{self, parser_refusal, Refused},
     port::{self, Answer, Columns, Question, WORDS},
     random::Random,
@@ -224,6 +225,14 @@ impl Comparer {
                         room,
                     )?;
                 }
+                refusal(
+                    "a symbol by its name of a file that is refused",
+                    file,
+                    &port::find_symbol(file, b"entrypoint", room),
+                    &full,
+                    &refused,
+                    room,
+                )?;
                 return refusal(
                     "symbol table of a file that is refused",
                     file,
@@ -260,6 +269,7 @@ impl Comparer {
         (words[12], words[13]) = linked.relocations;
         (words[14], words[15]) = linked.symbols;
         (words[16], words[17]) = linked.relas;
+        words[18] = dynamic::hash_table(file);
         same("parse", &got, words, room)?;
         if apart.is_none() && dynamic::linked(file) != Ok(linked) {
             return Err(format!(
@@ -267,6 +277,8 @@ impl Comparer {
                 dynamic::linked(file)
             ));
         }
+
+        self.symbols_by_name(&elf, linked, file, room)?;
 
         // the symbol table
         let table = elf.symbol_table();
@@ -383,6 +395,50 @@ impl Comparer {
                     )?,
                 }
             }
+        }
+        Ok(())
+    }
+
+    /// Dynamic symbols by names that they have, that are near those, and that none has.
+    fn symbols_by_name(
+        &mut self,
+        elf: &Elf64,
+        linked: Linked,
+        file: &[u8],
+        room: usize,
+    ) -> Result<(), String> {
+        let name_of = |st_name: u32| elf.dynamic_symbol_name(st_name).ok();
+        let (table, count) = linked.symbols;
+        let offsets = (0..count.min(6)).map(|k| dynamic::get(file, table + 24 * k, 4) as u32);
+        let mut names: Vec<Vec<u8>> = offsets.filter_map(name_of).map(<[u8]>::to_vec).collect();
+        if let Some(name) = names.last().cloned() {
+            names.push([&name[..], b"\0"].concat());
+            names.push([&name[..], b"x"].concat());
+            names.push(name[..name.len() - name.len().min(1)].to_vec());
+        }
+        // as many names as there are take turns
+        let turn = file.len() % SYMBOLS.len();
+        names.extend([&b"entrypoint"[..], b"", SYMBOLS[turn]].map(<[u8]>::to_vec));
+        for name in names {
+            let mut words = [0; WORDS];
+            match finding::find_symbol(file, linked.symbols, name_of, &name) {
+                Ok(found) => {
+                    words[4] = found.is_some() as u64;
+                    words[5] = found.unwrap_or(0) as u64;
+                    self.count("symbol by name", words[4] as u32);
+                }
+                Err(why) => {
+                    words[0] = 48;
+                    self.count("symbol by name", 48);
+                    self.count(why, 48);
+                }
+            }
+            same(
+                &format!("symbol by the name \"{}\"", name.escape_ascii()),
+                &port::find_symbol(file, &name, room),
+                words,
+                room,
+            )?;
         }
         Ok(())
     }

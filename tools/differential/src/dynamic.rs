@@ -10,6 +10,7 @@ const SHT_DYNAMIC: u64 = 6;
 const PT_NOTE: u64 = 4;
 const SHT_PROGBITS: u64 = 1;
 
+const DT_HASH: usize = 4;
 const DT_SYMTAB: usize = 6;
 const DT_RELA: usize = 7;
 const DT_REL: usize = 17;
@@ -121,6 +122,22 @@ fn values(file: &[u8], (at, count): Table) -> [u64; 35] {
     values
 }
 
+/// Where an address stands in the file: by the first program header that contains it, else by the first
+/// section header that has it.
+pub fn locate(file: &[u8], vaddr: u64) -> Result<Option<u64>, u32> {
+    let (segments, sections) = headers(file);
+    for at in segments {
+        let (from, memory) = (get(file, at + 16, 8), get(file, at + 40, 8));
+        let end = from.checked_add(memory).ok_or(5u32)?;
+        if from <= vaddr && vaddr < end {
+            let offset = (vaddr - from).checked_add(get(file, at + 8, 8));
+            return offset.map(Some).ok_or(5);
+        }
+    }
+    let section = sections.iter().find(|at| get(file, **at + 16, 8) == vaddr);
+    Ok(section.map(|at| get(file, at + 24, 8)))
+}
+
 /// A table of relocations, by the values of its three tags.
 fn relocations(file: &[u8], [vaddr, size, entry]: [u64; 3], width: u64) -> Result<Table, u32> {
     if vaddr == 0 {
@@ -129,25 +146,7 @@ fn relocations(file: &[u8], [vaddr, size, entry]: [u64; 3], width: u64) -> Resul
     if entry != width || size == 0 {
         return Err(10);
     }
-    let (segments, sections) = headers(file);
-    let mut offset = None;
-    for at in segments {
-        let (from, memory) = (get(file, at + 16, 8), get(file, at + 40, 8));
-        let end = from.checked_add(memory).ok_or(5u32)?;
-        if from <= vaddr && vaddr < end {
-            offset = Some(
-                (vaddr - from)
-                    .checked_add(get(file, at + 8, 8))
-                    .ok_or(5u32)?,
-            );
-            break;
-        }
-    }
-    let section = || {
-        let at = sections.iter().find(|at| get(file, **at + 16, 8) == vaddr);
-        at.map(|at| get(file, at + 24, 8))
-    };
-    let offset = offset.or_else(section).ok_or(10u32)?;
+    let offset = locate(file, vaddr)?.ok_or(10u32)?;
     offset.checked_add(size).ok_or(5u32)?;
     slice(file, offset, size, width).map_err(|_| 10)
 }
@@ -180,6 +179,12 @@ pub fn linked(file: &[u8]) -> Result<Linked, u32> {
         relas: relocations(file, three(DT_RELA), 24)?,
         symbols: symbols(file, values[DT_SYMTAB])?,
     })
+}
+
+/// The address of the hash table, 0 where there is none, of a file that a parse accepts up to the
+/// dynamic table.
+pub fn hash_table(file: &[u8]) -> u64 {
+    values_of(file).map_or(0, |values| values[DT_HASH])
 }
 
 /// Whether the file, aligned to 16, has relocations that bring an addend, or would have them: a parse

@@ -1,7 +1,7 @@
 //! Makes structured ELF files: both versions, the sections and tables that a load looks at, and
 //! the values around which its checks turn.
 
-use crate::random::Random;
+use crate::{finding, random::Random};
 
 pub const PROGRAM_START: u64 = 0x1_0000_0000;
 pub const STACK_START: u64 = 0x2_0000_0000;
@@ -11,6 +11,7 @@ const SHT_PROGBITS: u32 = 1;
 const SHT_SYMTAB: u32 = 2;
 const SHT_STRTAB: u32 = 3;
 const SHT_RELA: u32 = 4;
+const SHT_HASH: u32 = 5;
 const SHT_DYNAMIC: u32 = 6;
 const SHT_NOBITS: u32 = 8;
 const SHT_REL: u32 = 9;
@@ -151,6 +152,28 @@ pub enum Addends {
     Room,
 }
 
+/// What a file has beyond what the Rust looks at.
+#[derive(Clone, Copy, Debug, PartialEq, Eq)]
+pub struct Beyond {
+    pub addends: Addends,
+    /// A hash table of the dynamic symbols.
+    pub hash_table: bool,
+}
+
+impl Beyond {
+    pub fn addends(addends: Addends) -> Beyond {
+        Beyond {
+            addends,
+            hash_table: false,
+        }
+    }
+
+    pub const NOTHING: Beyond = Beyond {
+        addends: Addends::No,
+        hash_table: false,
+    };
+}
+
 /// A file, and what is known of it.
 pub struct Made {
     pub bytes: Vec<u8>,
@@ -276,6 +299,49 @@ fn symbol_table(r: &mut Random, n: usize, names: &[u32], start: u64, size: u64) 
     bytes
 }
 
+/// The bytes of the symbols' names, as far as their offsets lie among the names.
+fn symbol_names(symbols: &[u8], names: &[u8]) -> Vec<Vec<u8>> {
+    let name = |symbol: &[u8]| {
+        let at = u32::from_le_bytes(symbol[..4].try_into().unwrap()) as usize;
+        let from = names.get(at..).unwrap_or_default();
+        let end = from.iter().position(|b| *b == 0).unwrap_or(from.len());
+        from[..end].to_vec()
+    };
+    symbols.chunks_exact(24).map(name).collect()
+}
+
+/// The hash table of symbols with these names: each but the first stands in its bucket's chain, in any
+/// order. Seldom a number of it is another.
+fn hash_table(r: &mut Random, buckets: u32, names: &[Vec<u8>]) -> Vec<u8> {
+    let count = names.len() as u32;
+    let (mut first, mut chain) = (vec![0; buckets as usize], vec![0; names.len()]);
+    let mut order: Vec<u32> = (1..count).collect();
+    for k in 1..order.len() {
+        let to = r.index(k + 1);
+        order.swap(k, to);
+    }
+    for index in order {
+        let bucket = (finding::elf_hash(&names[index as usize]) % buckets) as usize;
+        chain[index as usize] = first[bucket];
+        first[bucket] = index;
+    }
+    let mut numbers = [vec![buckets, count], first, chain].concat();
+    if r.odd(2) {
+        // another count, or an index: past the symbols, a circle, the end, another chain
+        for _ in 0..r.range(1, 2) {
+            let at = r.index(numbers.len());
+            numbers[at] = match r.below(6) {
+                0 => r.pick(&[0, u32::MAX, 1 << 31]),
+                1 => numbers[at].wrapping_add(1),
+                2 => numbers[at].wrapping_sub(1),
+                3 => count,
+                _ => r.below(count as u64 + 1) as u32,
+            };
+        }
+    }
+    numbers.iter().flat_map(|n| n.to_le_bytes()).collect()
+}
+
 /// Bytes too many for whole entries.
 fn uneven(r: &mut Random) -> usize {
     if r.odd(20) {
@@ -308,7 +374,8 @@ enum Base {
 }
 
 /// One file.
-pub fn file(r: &mut Random, style: Style, addends: Addends) -> Made {
+pub fn file(r: &mut Random, style: Style, beyond: Beyond) -> Made {
+    let addends = beyond.addends;
     let drawn = addends == Addends::Drawn;
     r.sober = r.pick(&[1, 2, 4, 16, 0]);
     let version2 = r.one_in(2);
@@ -422,6 +489,10 @@ pub fn file(r: &mut Random, style: Style, addends: Addends) -> Made {
         parts.swap(a, b);
     }
     let dynamic = !r.one_in(if style == Style::Small { 2 } else { 6 });
+    let buckets = match beyond.hash_table {
+        true => r.range(1, 4) as u32,
+        false => 0,
+    };
     let mut dynamic_names = Vec::new();
     let most_names = if style == Style::Small { 1 } else { 4 };
     if dynamic {
@@ -441,6 +512,7 @@ pub fn file(r: &mut Random, style: Style, addends: Addends) -> Made {
                     _ => r.range(6, 9),
                 } as usize
                     + 3 * 16 * drawn as usize
+                    + 16 * beyond.hash_table as usize
             ],
         ));
         parts.push(section(
@@ -463,6 +535,12 @@ pub fn file(r: &mut Random, style: Style, addends: Addends) -> Made {
         };
         if let Some(n) = room {
             parts.push(section(b".rela.dyn", SHT_RELA, alloc, vec![0; 24 * n]));
+        }
+        if beyond.hash_table {
+            let mut s = section(b".hash", SHT_HASH, alloc, Vec::new());
+            s.align = r.pick(&[8, 4, 1]);
+            s.data = vec![0; 4 * (2 + buckets as usize + plan.symbols)];
+            parts.push(s);
         }
         if r.one_in(4) {
             // without it the program header leads there
@@ -638,6 +716,11 @@ pub fn file(r: &mut Random, style: Style, addends: Addends) -> Made {
             sections[i].data[..table.len()].copy_from_slice(&table);
         }
     }
+    if let Some(i) = find(&sections, b".hash") {
+        let symbols = &sections[find(&sections, b".dynsym").unwrap()].data;
+        let names = &sections[find(&sections, b".dynstr").unwrap()].data;
+        sections[i].data = hash_table(r, buckets, &symbol_names(symbols, names));
+    }
     if let Some(i) = find(&sections, b".symtab") {
         let table = symbol_table(r, labels, &label_names, text_addr, text_size);
         if table.len() <= sections[i].data.len() {
@@ -729,6 +812,11 @@ pub fn file(r: &mut Random, style: Style, addends: Addends) -> Made {
         }
         if !r.odd(8) {
             entries.push((6, sections[symbols].addr));
+        }
+        if let Some(k) = find(&sections, b".hash") {
+            if !r.odd(8) {
+                entries.push((4, sections[k].addr));
+            }
         }
         if r.one_in(3) {
             entries.push((r.pick(&[5, 34, 35, 36, u64::MAX, 1]), r.next()));

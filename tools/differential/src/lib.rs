@@ -9,6 +9,7 @@ pub mod compare;
 pub mod dynamic;
 pub mod elf;
 pub mod expected;
+pub mod finding;
 pub mod loads;
 pub mod model;
 pub mod mutate;
@@ -109,6 +110,7 @@ pub fn number_name(number: u32) -> &'static str {
         45 => "NoSuchIndex",
         46 => "NotASection",
         47 => "AddendNegative",
+        48 => "BadHashTable",
         _ => "?",
     }
 }

@@ -112,8 +112,8 @@ fn compare(ask: Ask, cases: u64, seed: u64, first: u64) {
             last = what;
         }
         let name = match (*what, number) {
-            ("lookup" | "lookup_ascending" | "index_ascending", 0) => "none",
-            ("lookup" | "lookup_ascending" | "index_ascending", _) => "found",
+            ("lookup" | "lookup_ascending" | "index_ascending" | "symbol by name", 0) => "none",
+            ("lookup" | "lookup_ascending" | "index_ascending" | "symbol by name", 1) => "found",
             (_, 0) => "",
             _ => number_name(*number),
         };

@@ -1,6 +1,9 @@
 //! Damage: fields set to values around which checks turn, headers moved, bytes and lengths changed.
 
-use crate::random::Random;
+use crate::{
+    elf::{Addends, Beyond},
+    random::Random,
+};
 
 fn get(file: &[u8], at: u64, width: usize) -> u64 {
     let mut bytes = [0; 8];
@@ -51,12 +54,15 @@ const SYM: &[(u64, usize)] = &[(0, 4), (4, 1), (8, 8)];
 const DYN: &[(u64, usize)] = &[(0, 8), (8, 8)];
 const REL: &[(u64, usize)] = &[(0, 8), (8, 4), (12, 4)];
 const RELA: &[(u64, usize)] = &[(0, 8), (8, 4), (12, 4), (16, 8)];
+/// A number of a hash table.
+const NUMBER: &[(u64, usize)] = &[(0, 4)];
 /// Opcode, registers and immediate of a slot.
 const SLOT: &[(u64, usize)] = &[(0, 1), (1, 1), (4, 4)];
 
 /// Where the tables of a file stand, as far as its header tells: start, size of an entry, number
-/// of entries, fields. With `newer` the relocations that bring an addend are among them.
-fn tables(file: &[u8], newer: bool) -> Vec<(u64, u64, u64, &'static [(u64, usize)])> {
+/// of entries, fields. Relocations that bring an addend and hash tables are among them where the file was
+/// made with them.
+fn tables(file: &[u8], beyond: Beyond) -> Vec<(u64, u64, u64, &'static [(u64, usize)])> {
     let (phoff, phnum) = (get(file, 32, 8), get(file, 56, 2));
     let (shoff, shnum) = (get(file, 40, 8), get(file, 60, 2));
     let mut all = vec![
@@ -75,7 +81,8 @@ fn tables(file: &[u8], newer: bool) -> Vec<(u64, u64, u64, &'static [(u64, usize
             2 | 11 => all.push((at, 24, size / 24, SYM)),
             6 => all.push((at, 16, size / 16, DYN)),
             9 => all.push((at, 16, size / 16, REL)),
-            4 if newer => all.push((at, 24, size / 24, RELA)),
+            4 if beyond.addends == Addends::Drawn => all.push((at, 24, size / 24, RELA)),
+            5 if beyond.hash_table => all.push((at, 4, size / 4, NUMBER)),
             1 if get(file, header.wrapping_add(8), 8) & 4 != 0 => all.push((at, 8, size / 8, SLOT)),
             _ => {}
         }
@@ -85,7 +92,7 @@ fn tables(file: &[u8], newer: bool) -> Vec<(u64, u64, u64, &'static [(u64, usize
 }
 
 /// A value near the old one, near a limit, or one that another field has.
-fn value(r: &mut Random, file: &[u8], old: u64, newer: bool) -> u64 {
+fn value(r: &mut Random, file: &[u8], old: u64, beyond: Beyond) -> u64 {
     let len = file.len() as u64;
     match r.below(13) {
         12 => r.pick(&[
@@ -111,7 +118,7 @@ fn value(r: &mut Random, file: &[u8], old: u64, newer: bool) -> u64 {
         9 => old ^ 1 << r.below(64),
         10 => r.next(),
         _ => {
-            let all = tables(file, newer);
+            let all = tables(file, beyond);
             if all.is_empty() {
                 return 64;
             }
@@ -127,7 +134,7 @@ fn value(r: &mut Random, file: &[u8], old: u64, newer: bool) -> u64 {
 }
 
 /// One change.
-fn change(r: &mut Random, file: &mut Vec<u8>, newer: bool) {
+fn change(r: &mut Random, file: &mut Vec<u8>, beyond: Beyond) {
     match r.below(20) {
         0 => {
             let n = r.index(file.len() + 1);
@@ -159,7 +166,7 @@ fn change(r: &mut Random, file: &mut Vec<u8>, newer: bool) {
         }
         4 | 5 => {
             // two entries of a table change places, or one becomes the other
-            let all = tables(file, newer);
+            let all = tables(file, beyond);
             if all.is_empty() {
                 return;
             }
@@ -175,21 +182,21 @@ fn change(r: &mut Random, file: &mut Vec<u8>, newer: bool) {
             }
         }
         _ => {
-            let all = tables(file, newer);
+            let all = tables(file, beyond);
             if all.is_empty() {
                 return;
             }
             let (at, size, n, fields) = r.pick(&all);
             let (field, width) = r.pick(fields);
             let place = at.wrapping_add(size * r.below(n)).wrapping_add(field);
-            let new = value(r, file, get(file, place, width), newer);
+            let new = value(r, file, get(file, place, width), beyond);
             set(file, place, new, width);
         }
     }
 }
 
 /// No damage, a little, or more; answers whether there is any.
-pub fn damage(r: &mut Random, file: &mut Vec<u8>, newer: bool) -> bool {
+pub fn damage(r: &mut Random, file: &mut Vec<u8>, beyond: Beyond) -> bool {
     let n = match r.below(10) {
         0..=3 => 0,
         4..=7 => 1,
@@ -197,7 +204,7 @@ pub fn damage(r: &mut Random, file: &mut Vec<u8>, newer: bool) -> bool {
         _ => r.range(3, 6),
     };
     for _ in 0..n {
-        change(r, file, newer);
+        change(r, file, beyond);
     }
     if r.one_in(200) {
         let n = r.index(200);
@@ -209,7 +216,7 @@ pub fn damage(r: &mut Random, file: &mut Vec<u8>, newer: bool) -> bool {
 
 /// Moves relocations to the last bytes of a file, on either side of its end. In version 2 the first
 /// program header is made long enough to give that place an address.
-pub fn relocate_end(r: &mut Random, file: &mut Vec<u8>, newer: bool) -> bool {
+pub fn relocate_end(r: &mut Random, file: &mut Vec<u8>, beyond: Beyond) -> bool {
     let mut address = (file.len() as u64).saturating_sub(r.below(20));
     if get(file, 48, 4) == 0x20 {
         let header = get(file, 32, 8);
@@ -218,7 +225,7 @@ pub fn relocate_end(r: &mut Random, file: &mut Vec<u8>, newer: bool) -> bool {
             .wrapping_add(get(file, header + 16, 8));
         set(file, header + 40, 0x1_0000, 8);
     }
-    for (at, size, n, fields) in tables(file, newer) {
+    for (at, size, n, fields) in tables(file, beyond) {
         if fields == REL || fields == RELA {
             set(file, at + size * r.below(n), address, 8);
         }

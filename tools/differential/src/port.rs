@@ -45,6 +45,11 @@ proved! { port:
         file: *const u8, file_len: usize,
         answer: *mut u64, answer_len: usize,
     ) -> u32;
+    fn sbpf_find_symbol(
+        file: *const u8, file_len: usize,
+        name: *const u8, name_len: usize,
+        answer: *mut u64, answer_len: usize,
+    ) -> u32;
     fn sbpf_lookup(
         keys: *const u32, keys_len: usize,
         indices: *const u32, indices_len: usize,
@@ -134,6 +139,19 @@ pub fn parse(file: &[u8], room: usize) -> Answer {
 pub fn symbol_table(file: &[u8], room: usize) -> Answer {
     with_room(room, |words, n| unsafe {
         sbpf_symbol_table(file.as_ptr(), file.len(), words, n)
+    })
+}
+
+pub fn find_symbol(file: &[u8], name: &[u8], room: usize) -> Answer {
+    with_room(room, |words, n| unsafe {
+        sbpf_find_symbol(
+            file.as_ptr(),
+            file.len(),
+            name.as_ptr(),
+            name.len(),
+            words,
+            n,
+        )
     })
 }
 

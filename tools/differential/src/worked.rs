@@ -6,12 +6,15 @@
 
 use crate::{
     cases::Case,
+    compare::Placed,
+    dynamic,
     elf::{PROGRAM_START, STACK_START},
     expected::{expected, Expected, LONGEST},
-    loads, outcome,
+    finding, loads, outcome,
     port::{self, Columns, Question},
     Outcome, Settings,
 };
+use rbpf::elf_parser::Elf64;
 use std::{fmt, fs, path::Path};
 
 /// The input of crates/loadlist, which is the version 2 example.
@@ -27,6 +30,8 @@ enum Told {
     Accepted([u64; 4], Vec<[u32; 5]>, Vec<(u32, usize)>),
     /// Start and length, of a question to the file.
     Place(u64, u64),
+    /// Whether there is a symbol with a name, 1 or 0, and its number.
+    Symbol(u64, u64),
 }
 
 /// The words of `image` that are not the file's.
@@ -67,6 +72,7 @@ impl fmt::Display for Told {
                 told_written(words)
             ),
             Told::Place(start, length) => write!(f, "{length} bytes at {start}"),
+            Told::Symbol(found, number) => write!(f, "symbol {found} {number}"),
         }
     }
 }
@@ -108,19 +114,38 @@ impl Told {
                 }
                 text + &told_written(words)
             }
-            Told::Place(..) => self.to_string(),
+            Told::Place(..) | Told::Symbol(..) => self.to_string(),
         }
     }
 }
 
-/// The same of the Rust.
+/// The same of the Rust; a symbol by its name, of the model.
 fn rust(e: &Example) -> String {
     match e.asked {
         Asked::Load => rust_load(&e.case),
+        Asked::Symbol(name) => symbol_by_name(&e.case.file, name),
         Asked::File(question, number) => match outcome::ask(&e.case.file, question, number) {
             Ok((start, length)) => Told::Place(start, length).to_string(),
             Err(r) => format!("refused {} {}", r.number, r.value),
         },
+    }
+}
+
+fn symbol_by_name(file: &[u8], name: &[u8]) -> String {
+    let mut placed = Placed::new();
+    placed.put(file, 0);
+    let elf = match Elf64::parse(placed.bytes()) {
+        Ok(elf) => elf,
+        Err(err) => return format!("refused {} 0", outcome::parser_number(&err)),
+    };
+    let symbols = dynamic::linked(file)
+        .expect("the Rust accepts the table")
+        .symbols;
+    let name_of = |st_name| elf.dynamic_symbol_name(st_name).ok();
+    match finding::find_symbol(file, symbols, name_of, name) {
+        Ok(Some(number)) => Told::Symbol(1, number as u64).to_string(),
+        Ok(None) => Told::Symbol(0, 0).to_string(),
+        Err(_) => "refused 48 0".to_string(),
     }
 }
 
@@ -152,6 +177,13 @@ fn rust_load(case: &Case) -> String {
 fn port(e: &Example) -> Told {
     match e.asked {
         Asked::Load => port_load(&e.case),
+        Asked::Symbol(name) => {
+            let words = port::find_symbol(&e.case.file, name, port::WORDS).1;
+            match words[0] {
+                0 => Told::Symbol(words[4], words[5]),
+                _ => Told::Refused([words[0], words[1], words[2], words[3]]),
+            }
+        }
         Asked::File(question, number) => {
             let words = port::ask(question, &e.case.file, number, port::WORDS).1;
             match words[0] {
@@ -194,8 +226,34 @@ struct Relocation {
     addend: Option<i64>,
 }
 
+/// Dynamic symbols, and a hash table of them.
+#[derive(Clone, Copy)]
+struct Symbols {
+    /// Where each symbol's name stands in .dynstr.
+    st_names: [u32; 3],
+    names: &'static [u8],
+    /// The numbers of the table: how many buckets and how many chains, and what they hold.
+    numbers: &'static [u32],
+    /// What tag 4 has; None: the address of the table.
+    address: Option<u64>,
+    /// The first number is so large that the table ends so many numbers behind the file's end.
+    buckets_behind_end: Option<u32>,
+    /// The first program header has 64 bytes from this address on, which are those from the table on.
+    segment: Option<u64>,
+}
+
+/// The symbols lift and lower, both in the one bucket.
+const NAMED: Symbols = Symbols {
+    st_names: [0, 1, 6],
+    names: b"\0lift\0lower\0",
+    numbers: &[1, 3, 1, 0, 2, 0],
+    address: None,
+    buckets_behind_end: None,
+    segment: None,
+};
+
 /// A file with these and no more: zero bytes as .text, program headers of zeros, an empty section, a
-/// section of eight bytes, a relocation, a label, names.
+/// section of eight bytes, a relocation, a label, dynamic symbols, names.
 #[derive(Clone, Copy)]
 struct Small {
     version2: bool,
@@ -217,6 +275,7 @@ struct Small {
     relocation: Option<Relocation>,
     /// The name of a function symbol at slot 1.
     label: Option<&'static str>,
+    symbols: Option<Symbols>,
     /// e_shstrndx; None: the section of names.
     names: Option<u16>,
 }
@@ -234,6 +293,7 @@ const PLAIN: Small = Small {
     rodata: None,
     relocation: None,
     label: None,
+    symbols: None,
     names: None,
 };
 
@@ -308,6 +368,28 @@ impl Small {
             let names = format!("\0{label}\0").into_bytes();
             sections.push((".strtab", 3, 0, 0, 1, names));
         }
+        // the text is all that stands before them
+        let dynsym = text_at + self.text_length;
+        let hash = dynsym + 72;
+        if let Some(symbols) = self.symbols {
+            let (dynsym, hash) = (dynsym as u64, hash as u64);
+            let symbol = |st_name: u32| [&st_name.to_le_bytes()[..], &[0; 20]].concat();
+            let contents = symbols.st_names.map(symbol).concat();
+            sections.push((".dynsym", 11, 2, dynsym, 8, contents));
+            let mut contents: Vec<u8> = symbols
+                .numbers
+                .iter()
+                .flat_map(|n| n.to_le_bytes())
+                .collect();
+            contents.resize(contents.len().div_ceil(8) * 8, 0);
+            let dynamic = hash + contents.len() as u64;
+            sections.push((".hash", 5, 2, hash, 4, contents));
+            // DT_HASH, DT_SYMTAB
+            let entries = [4, symbols.address.unwrap_or(hash), 6, dynsym];
+            let contents = entries.iter().flat_map(|w| w.to_le_bytes()).collect();
+            sections.push((".dynamic", 6, 2, dynamic, 8, contents));
+            sections.push((".dynstr", 3, 2, 0, 1, symbols.names.to_vec()));
+        }
         sections.push((".shstrtab", 3, 0, 0, 1, Vec::new()));
         let mut names = vec![0];
         let mut name_at = Vec::new();
@@ -363,6 +445,24 @@ impl Small {
         ] {
             bytes[at..at + 8].copy_from_slice(&value.to_le_bytes());
         }
+        if let Some(Symbols {
+            numbers,
+            buckets_behind_end: Some(behind),
+            ..
+        }) = self.symbols
+        {
+            let buckets = ((bytes.len() - hash - 8) / 4) as u32 - numbers[1] + behind;
+            bytes[hash..hash + 4].copy_from_slice(&buckets.to_le_bytes());
+        }
+        if let Some(Symbols {
+            segment: Some(address),
+            ..
+        }) = self.symbols
+        {
+            for (at, value) in [(8, hash as u64), (16, address), (40, 64)] {
+                bytes[64 + at..72 + at].copy_from_slice(&value.to_le_bytes());
+            }
+        }
         if let Some(Relocation {
             behind: Some(behind),
             ..
@@ -402,11 +502,12 @@ fn accepted(version: u64, key: u32) -> Told {
     Told::Accepted([version, 0, 1, 0], vec![[key, 0, 2, 0, 10]], Vec::new())
 }
 
-/// What is asked: a load of the case, or a question to its file, with its number.
+/// What is asked: a load of the case, or a question to its file, with its number or the name.
 #[derive(Clone, Copy)]
 enum Asked {
     Load,
     File(Question, u32),
+    Symbol(&'static [u8]),
 }
 
 struct Example {
@@ -414,7 +515,7 @@ struct Example {
     asked: Asked,
     case: Case,
     expected: Told,
-    /// The Rust has the limit, or reads the relocation, too.
+    /// The Rust has the limit, or reads the relocation, too; or the model has the question.
     asks_rust: bool,
 }
 
@@ -1033,11 +1134,208 @@ fn examples() -> Vec<Example> {
     ]
 }
 
+/// Symbols by their names. The hash of lift is 0x72fd4, of lower 0x736dc2, of drop 0x6b960.
+fn symbol_examples() -> Vec<Example> {
+    let asked = |what, symbols, name, expected| Example {
+        what,
+        asked: Asked::Symbol(name),
+        case: Small {
+            symbols: Some(symbols),
+            program_headers: symbols.segment.is_some() as usize,
+            ..LEAST
+        }
+        .case(),
+        expected,
+        asks_rust: true,
+    };
+    let numbers = |numbers| Symbols { numbers, ..NAMED };
+    let address = |address| Symbols {
+        address: Some(address),
+        ..NAMED
+    };
+    let segment = |address| Symbols {
+        address: Some(address),
+        segment: Some(address),
+        ..NAMED
+    };
+    let buckets_behind_end = |behind| Symbols {
+        buckets_behind_end: Some(behind),
+        ..NAMED
+    };
+    let st_names = |st_names| Symbols { st_names, ..NAMED };
+    let (found, none) = (|number| Told::Symbol(1, number), Told::Symbol(0, 0));
+    let bad = refused(48, 0);
+    let circle = numbers(&[1, 3, 1, 0, 2, 1]);
+    // a hash of 0xd0; sums of 64 bits would make it 0x1000000d0, which is another bucket of three
+    let long_sum = b"\xf0\xfe\x10\xfe\x10\xfe\xf0";
+    let in_bucket_1 = Symbols {
+        st_names: [0, 1, 0],
+        names: b"\0\xf0\xfe\x10\xfe\x10\xfe\xf0\0",
+        numbers: &[3, 3, 0, 1, 0, 0, 0, 0],
+        ..NAMED
+    };
+    vec![
+        asked("symbol lift", NAMED, b"lift", found(1)),
+        asked("symbol lower", NAMED, b"lower", found(2)),
+        asked(
+            "symbol drop, which there is not",
+            NAMED,
+            b"drop",
+            none.clone(),
+        ),
+        asked("symbol lif", NAMED, b"lif", none.clone()),
+        asked(
+            "symbol lift and a zero byte",
+            NAMED,
+            b"lift\0",
+            none.clone(),
+        ),
+        asked(
+            "symbol without a name: 0 is no answer",
+            NAMED,
+            b"",
+            none.clone(),
+        ),
+        asked(
+            "symbol lift, which 0 carries",
+            st_names([1, 0, 6]),
+            b"lift",
+            none.clone(),
+        ),
+        asked("symbol without a name", st_names([0, 0, 6]), b"", found(1)),
+        asked(
+            "symbol lift, two of them, the second first on the chain",
+            Symbols {
+                st_names: [0, 1, 1],
+                ..numbers(&[1, 3, 2, 0, 0, 1])
+            },
+            b"lift",
+            found(2),
+        ),
+        asked(
+            "symbol by a hash that has a sum past 32 bits",
+            in_bucket_1,
+            long_sum,
+            found(1),
+        ),
+        // 0xa019be4, after high bits were folded in: bucket 1 of three
+        asked(
+            "symbol entrypoint, three buckets",
+            Symbols {
+                names: b"\0entrypoint\0",
+                ..in_bucket_1
+            },
+            b"entrypoint",
+            found(1),
+        ),
+        // all three hashes are even
+        asked(
+            "symbol lift, two buckets",
+            numbers(&[2, 3, 1, 2, 0, 0, 0]),
+            b"lift",
+            found(1),
+        ),
+        asked(
+            "symbol lift, two buckets, in the other one",
+            numbers(&[2, 3, 2, 1, 0, 0, 0]),
+            b"lift",
+            none.clone(),
+        ),
+        asked("symbol lift, no table", address(0), b"lift", bad.clone()),
+        asked(
+            "symbol lower, table by a program header",
+            segment(0x1000),
+            b"lower",
+            found(2),
+        ),
+        // the address 0 is none, also where something stands there
+        asked("symbol lift, table at 0", segment(0), b"lift", bad.clone()),
+        asked(
+            "symbol lift, table nowhere",
+            address(8),
+            b"lift",
+            bad.clone(),
+        ),
+        asked(
+            "symbol lift, no buckets",
+            numbers(&[0, 3, 1, 0, 2, 0]),
+            b"lift",
+            bad.clone(),
+        ),
+        asked(
+            "symbol lift, 2 chains for 3 symbols",
+            numbers(&[1, 2, 1, 0, 2, 0]),
+            b"lift",
+            bad.clone(),
+        ),
+        asked(
+            "symbol lift, 4 chains for 3 symbols",
+            numbers(&[1, 4, 1, 0, 2, 0]),
+            b"lift",
+            bad.clone(),
+        ),
+        // 137 buckets: lift's, number 127, is a zero of the last section header
+        asked(
+            "symbol lift, buckets up to the file's end",
+            buckets_behind_end(0),
+            b"lift",
+            none.clone(),
+        ),
+        asked(
+            "symbol lift, buckets past the file's end",
+            buckets_behind_end(1),
+            b"lift",
+            bad.clone(),
+        ),
+        asked(
+            "symbol lift, index 3 of 3 first",
+            numbers(&[1, 3, 3, 0, 2, 0]),
+            b"lift",
+            bad.clone(),
+        ),
+        asked(
+            "symbol lift, index 3 of 3 behind",
+            numbers(&[1, 3, 1, 0, 3, 0]),
+            b"lift",
+            found(1),
+        ),
+        asked("symbol drop in a circle", circle, b"drop", bad.clone()),
+        asked("symbol lower in a circle", circle, b"lower", found(2)),
+        asked(
+            "symbol lower, a name that cannot be read before it",
+            st_names([0, 99, 6]),
+            b"lower",
+            bad.clone(),
+        ),
+        asked(
+            "symbol lift, a name that cannot be read behind it",
+            st_names([0, 1, 99]),
+            b"lift",
+            found(1),
+        ),
+        Example {
+            case: Small {
+                symbols: Some(NAMED),
+                names: Some(0),
+                ..LEAST
+            }
+            .case(),
+            ..asked(
+                "symbol lift of a file that is refused",
+                NAMED,
+                b"lift",
+                refused(9, 0),
+            )
+        },
+    ]
+}
+
 /// How long a title is with the spaces behind it.
 const TITLE: usize = 80;
 
 /// A record of the program's input: the title, the file's length, the settings, how many built-ins,
-/// the built-in, the rows, what is asked and its number, and the file.
+/// the built-in, the rows, what is asked and its number, and the file. A name stands behind the file, its
+/// length is the number.
 fn record(e: &Example) -> Vec<u8> {
     let case = &e.case;
     assert!(e.what.len() < TITLE && case.builtins.len() <= 1);
@@ -1051,14 +1349,19 @@ fn record(e: &Example) -> Vec<u8> {
         match e.asked {
             Asked::Load => 0,
             Asked::File(question, _) => 1 + question as u32,
+            Asked::Symbol(_) => 5,
         },
         match e.asked {
             Asked::Load => 0,
             Asked::File(_, number) => number,
+            Asked::Symbol(name) => name.len() as u32,
         },
     ];
     bytes.extend(numbers.iter().flat_map(|n| n.to_le_bytes()));
     bytes.extend_from_slice(&case.file);
+    if let Asked::Symbol(name) = e.asked {
+        bytes.extend_from_slice(name);
+    }
     bytes
 }
 
@@ -1069,9 +1372,9 @@ fn line(e: &Example) -> String {
             e,
             &expected(&e.case).expect("the model agrees with the Rust"),
         ),
-        Asked::File(..) => {
+        Asked::File(..) | Asked::Symbol(_) => {
             assert!(
-                !e.asks_rust || rust(e) == e.expected.to_string(),
+                !e.asks_rust || rust(e) == e.expected.without_added(&e.case.file),
                 "{}",
                 e.what
             );
@@ -1099,7 +1402,7 @@ fn load_line(e: &Example, x: &Expected) -> String {
 /// (the scope where the Rust says nothing), which must be what was worked out by hand.
 pub fn write(folder: &str) {
     let (mut input, mut output) = (Vec::new(), String::new());
-    for e in examples() {
+    for e in examples().into_iter().chain(symbol_examples()) {
         if e.case.file.len() <= LENT {
             input.extend(record(&e));
             output += &line(&e);
@@ -1148,7 +1451,7 @@ pub fn run() -> usize {
         LOADLIST == PLAIN.file(),
         "the input of loadlist and the file built here".into(),
     );
-    for e in examples() {
+    for e in examples().into_iter().chain(symbol_examples()) {
         let got = port(&e);
         let (rust, asked) = match e.asks_rust {
             true => (rust(&e), e.expected.without_added(&e.case.file)),
