@@ -118,8 +118,8 @@ abbrev pub relocationOffset : List ℕ → Tables → ℕ → Mapped
 relocationOffset s t vaddr = orSection (headerForVaddr s vaddr (t .phnum) (t .phoff)) (sectionOffset s (sectionWithAddr s t vaddr))
 
 -- the same by a layout: one that no parse made may have its header tables outside the file
-abbrev pub tablesOf : Layout → Tables
-tablesOf l =
+abbrev pub headerTables : Layout → Tables
+headerTables l =
     record {
       phoff = l .«program_headers» .offset;
       phnum = l .«program_headers» .count;
@@ -131,7 +131,7 @@ unfoldable pub fileOffset : List ℕ → Layout → ℕ → Mapped
 fileOffset s l vaddr =
     NoMap OutOfBounds if ltb (length s) (l .«program_headers» .offset + 56 * l .«program_headers» .count) else
     NoMap OutOfBounds if ltb (length s) (l .«section_headers» .offset + 64 * l .«section_headers» .count) else
-    relocationOffset s (tablesOf l) vaddr
+    relocationOffset s (headerTables l) vaddr
 
 unfoldable pub relocationsAt : ℕ → ℕ → ℕ → ℕ → Sliced
 relocationsAt len offset size width =

@@ -53,7 +53,7 @@ hashTable s l =
     tableBy s (l .«dynamic_symbols» .count) (fileOffset s l (l .«hash_table»))
 
 -- such a table has buckets and lies in the file
-pub record Lies (len : ℕ) (t : HashTable) : Type 0 where
+pub record Usable (len : ℕ) (t : HashTable) : Type 0 where
   pub some : 0 < t .nbucket
   pub within : t .buckets + (t .nbucket + t .nchain) * 4 ≤ len
 
@@ -69,19 +69,19 @@ chainAt s t index = numberAt s t (t .nbucket + index)
 
 -- ---- a symbol's name
 
-abbrev pub nameOf : List ℕ → Layout → Sym → Place
-nameOf s l (Symbol y) = dynamicSymbolName s l (y .«st_name»)
-nameOf s l (NoSym r) = NoPlace r
+abbrev pub nameOfRecord : List ℕ → Layout → Sym → Place
+nameOfRecord s l (Symbol y) = dynamicSymbolName s l (y .«st_name»)
+nameOfRecord s l (NoSym r) = NoPlace r
 
-abbrev pub symbolName : List ℕ → Layout → ℕ → Place
-symbolName s l index = nameOf s l (dynamicSymbolOf s l index)
+abbrev pub nameAt : List ℕ → Layout → ℕ → Place
+nameAt s l index = nameOfRecord s l (dynamicSymbolOf s l index)
 
 unfoldable pub carriedAt : List ℕ → Place → List ℕ → Carried
 carriedAt s (Stands start n) name = Yes if sameBytes (bytesAt s start n) name else No
 carriedAt s (NoPlace r) name = Unreadable
 
 abbrev pub carried : List ℕ → Layout → List ℕ → ℕ → Carried
-carried s l name index = carriedAt s (symbolName s l index) name
+carried s l name index = carriedAt s (nameAt s l index) name
 
 -- ---- the walk
 

@@ -22,7 +22,7 @@ use Rattle.hash_table.specs.declared.Carried.the-variants.{Yes, No, Unre
 use Rattle.hash_table.specs.declared.Link.{Link}
 use Rattle.hash_table.specs.declared.Link.the-variants.{Ends, Next}
 use Rattle.hash_table.specs.Hash.{elfHash}
-use Rattle.hash_table.specs.Find.{hashTable, bucketAt, chainAt, symbolName, carriedAt, carried, linkBy, linkAt, walked, onLink, foundIn, findSymbol}
+use Rattle.hash_table.specs.Find.{hashTable, bucketAt, chainAt, nameAt, carriedAt, carried, linkBy, linkAt, walked, onLink, foundIn, findSymbol}
 
 -- the symbol number i, which is not symbol 0, carries the name
 pub record Carries (s : List ℕ) (l : Layout) (t : HashTable) (name : List ℕ) (i : ℕ) : Type 0 where
@@ -44,7 +44,7 @@ pub record First (s : List ℕ) (l : Layout) (t : HashTable) (name : List ℕ) (
 -- every symbol other than symbol 0 whose name can be read stands in its own bucket's chain
 abbrev pub Chained : List ℕ → Layout → HashTable → Type 0
 Chained s l t =
-    (i start n : ℕ) → 0 < i → i < t .nchain → symbolName s l i ≡ Stands start n
+    (i start n : ℕ) → 0 < i → i < t .nchain → nameAt s l i ≡ Stands start n
     → (k : ℕ) × (along s t k (bucketAt s t (elfHash (bytesAt s start n))) ≡ i)
 
 -- ---- the walk
@@ -133,18 +133,18 @@ module _ (s : List ℕ) (l : Layout) (name : List ℕ) (t : HashTable) where
 pub record Reads (s : List ℕ) (l : Layout) (name : List ℕ) (i : ℕ) : Type 0 where
   pub start : ℕ
   pub size : ℕ
-  pub stands : symbolName s l i ≡ Stands start size
+  pub stands : nameAt s l i ≡ Stands start size
   pub same : bytesAt s start size ≡ name
 
 pub carried-reads : (s : List ℕ) (l : Layout) (name : List ℕ) (i : ℕ) → carried s l name i ≡ Yes → Reads s l name i
 unfolding carriedAt _if_else_
-carried-reads s l name i = go (symbolName s l i) refl
+carried-reads s l name i = go (nameAt s l i) refl
   where
-    by : (start n : ℕ) → symbolName s l i ≡ Stands start n → (b : Bool) → sameBytes (bytesAt s start n) name ≡ b → (Yes if b else No) ≡ Yes → Reads s l name i
+    by : (start n : ℕ) → nameAt s l i ≡ Stands start n → (b : Bool) → sameBytes (bytesAt s start n) name ≡ b → (Yes if b else No) ≡ Yes → Reads s l name i
     by start n e true q h = record { start = start; size = n; stands = e; same = same-equal (bytesAt s start n) name q }
     by start n e false q h = let z : _≡_ {A = ℕ} 0 1 = cc in absurd (omega arith)
 
-    go : (p : Place) → symbolName s l i ≡ p → carriedAt s p name ≡ Yes → Reads s l name i
+    go : (p : Place) → nameAt s l i ≡ p → carriedAt s p name ≡ Yes → Reads s l name i
     go (Stands start n) e h = by start n e (sameBytes (bytesAt s start n) name) refl h
     go (NoPlace r) e h = let z : _≡_ {A = ℕ} 0 1 = cc in absurd (omega arith)
 

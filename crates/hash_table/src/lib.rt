@@ -15,7 +15,7 @@ ghost use mathlib.Core.Path.{_≡_};
 ghost use Prim.Native.Nat.{_+_, _%_, _<_};
 ghost use lib.ListN.{length};
 ghost use Rattle.hash_table.specs.Hash.{sumWith, highBits, withoutHigh, hashWith, elfHash};
-ghost use Rattle.hash_table.specs.Find.{tableAt, hashTable, Lies, numberAt, bucketAt, chainAt, symbolName, carriedAt, carried, linkAt, walked, findSymbol};
+ghost use Rattle.hash_table.specs.Find.{tableAt, hashTable, Usable, numberAt, bucketAt, chainAt, nameAt, carriedAt, carried, linkAt, walked, findSymbol};
 
 // (h << 4) + byte, modulo 2^32.
 fn sum_with(h: u32, byte: u8) -> u32
@@ -61,13 +61,13 @@ pub fn elf_hash(name: &[u8]) -> u32
 }
 
 // A hash table: where its buckets start, how many they are, and how many chains there are behind them.
-pub struct HashTable {
-    pub buckets: usize,
-    pub nbucket: u32,
-    pub nchain: u32,
+struct HashTable {
+    buckets: usize,
+    nbucket: u32,
+    nchain: u32,
 }
 
-pub enum Table {
+enum Table {
     At(HashTable),
     Bad,
 }
@@ -80,14 +80,14 @@ pub enum FoundSymbol {
 }
 
 // Whether a symbol carries a name.
-pub enum Carried {
+enum Carried {
     Yes,
     No,
     Unreadable,
 }
 
 // One link of a chain: the end of the walk, or where it goes on.
-pub enum Link {
+enum Link {
     Ends(FoundSymbol),
     Next(u32),
 }
@@ -146,7 +146,7 @@ fn bucket_of(hash: u32, nbucket: u32) -> u32
 // The number at a place behind the two counts: `index` from `first` on, which is 0 for the buckets and
 // their count for the chains.
 fn number_at(file: &[u8], t: HashTable, first: u32, index: u32) -> u32
-    requires { ⌜ Lies (length (now file)) t × (first + index < t .nbucket + t .nchain) ⌝ }
+    requires { ⌜ Usable (length (now file)) t × (first + index < t .nbucket + t .nchain) ⌝ }
     ensures { λ r. ⌜ r ≡ numberAt (now (file .entry)) t (first + index) ⌝ }
 {
     read_u32(file, t.buckets + (first as usize + index as usize) * 4)
@@ -154,7 +154,7 @@ fn number_at(file: &[u8], t: HashTable, first: u32, index: u32) -> u32
 
 // The first symbol of the bucket that a hash falls into.
 fn bucket_at(file: &[u8], t: HashTable, hash: u32) -> u32
-    requires { ⌜ Lies (length (now file)) t ⌝ }
+    requires { ⌜ Usable (length (now file)) t ⌝ }
     ensures { λ r. ⌜ r ≡ bucketAt (now (file .entry)) t hash ⌝ }
 {
     let bucket = bucket_of(hash, t.nbucket);
@@ -163,15 +163,15 @@ fn bucket_at(file: &[u8], t: HashTable, hash: u32) -> u32
 
 // The symbol behind another on its chain.
 fn chain_at(file: &[u8], t: HashTable, index: u32) -> u32
-    requires { ⌜ Lies (length (now file)) t × (index < t .nchain) ⌝ }
+    requires { ⌜ Usable (length (now file)) t × (index < t .nchain) ⌝ }
     ensures { λ r. ⌜ r ≡ chainAt (now (file .entry)) t index ⌝ }
 {
     number_at(file, t, t.nbucket, index)
 }
 
 // Where the name of a dynamic symbol stands.
-fn symbol_name(file: &[u8], layout: Layout, index: u32) -> Place
-    ensures { λ r. ⌜ r ≡ symbolName (now (file .entry)) layout index ⌝ }
+fn name_at(file: &[u8], layout: Layout, index: u32) -> Place
+    ensures { λ r. ⌜ r ≡ nameAt (now (file .entry)) layout index ⌝ }
 {
     match dynamic_symbol(file, layout, index) {
         Sym::Symbol(y) => dynamic_symbol_name(file, layout, y.st_name),
@@ -198,11 +198,11 @@ fn carried_at(file: &[u8], place: Place, name: &[u8]) -> Carried
 fn carries_name(file: &[u8], layout: Layout, name: &[u8], index: u32) -> Carried
     ensures { λ r. ⌜ r ≡ carried (now (file .entry)) layout (now (name .entry)) index ⌝ }
 {
-    carried_at(file, symbol_name(file, layout, index), name)
+    carried_at(file, name_at(file, layout, index), name)
 }
 
 fn link_at(file: &[u8], layout: Layout, name: &[u8], t: HashTable, index: u32) -> Link
-    requires { ⌜ Lies (length (now file)) t ⌝ }
+    requires { ⌜ Usable (length (now file)) t ⌝ }
     ensures { λ r. ⌜ r ≡ linkAt (now (file .entry)) layout (now (name .entry)) t index ⌝ }
 {
     if index == 0 {
@@ -220,7 +220,7 @@ fn link_at(file: &[u8], layout: Layout, name: &[u8], t: HashTable, index: u32) -
 
 // The walk along a chain from a symbol on: a chain has no more links than there are symbols, and the end.
 fn walk(file: &[u8], layout: Layout, name: &[u8], t: HashTable, first: u32) -> FoundSymbol
-    requires { ⌜ Lies (length (now file)) t ⌝ }
+    requires { ⌜ Usable (length (now file)) t ⌝ }
     ensures { λ r. ⌜ r ≡ walked (now (file .entry)) layout (now (name .entry)) t (t .nchain + 1) first ⌝ }
 {
     let mut index = first;

@@ -10,4 +10,4 @@ carries-name-spec =
     (tie.spec
     (search needs)
     (search needs)
-    (λ c. rw (← c .before .symbol-name .ensures) (c .carried-at .ensures)))
+    (λ c. rw (← c .before .name-at .ensures) (c .carried-at .ensures)))

@@ -14,7 +14,7 @@ use Rattle.elf_parser.specs.declared.program_headers.Mapped.the-variants.{At as
 use Rattle.elf_parser.specs.Dynamic.{fileOffset}
 use Rattle.hash_table.specs.declared.HashTable.{HashTable}
 use Rattle.hash_table.specs.declared.Table.the-variants.{At as Is, Bad}
-use Rattle.hash_table.specs.Find.{tableAt, tableBy, hashTable, Lies}
+use Rattle.hash_table.specs.Find.{tableAt, tableBy, hashTable, Usable}
 use borrow.Author.Needs.{needs}
 use Rattle.hash_table.proofs.find_symbol.Statement.{statement}
 use Rattle.hash_table.proofs.find_symbol.Tie as tie
@@ -23,7 +23,7 @@ not-is : (t : HashTable) → Bad ≡ Is t → ⊥
 not-is t e = let z : _≡_ {A = ℕ} 0 1 = cc in omega arith
 
 -- a table that is found has buckets and lies in the file
-lies-at : (s : List ℕ) (symbols at : ℕ) (t : HashTable) → tableAt s symbols at ≡ Is t → Lies (length s) t
+lies-at : (s : List ℕ) (symbols at : ℕ) (t : HashTable) → tableAt s symbols at ≡ Is t → Usable (length s) t
 unfolding tableAt
 lies-at s symbols at t e =
     let e1 = row-rest _ _ _ _ (not-is t) e in
@@ -39,11 +39,11 @@ lies-at s symbols at t e =
     above zero d = absurd (d refl)
     above (suc i) d = omega arith
 
-lies : (s : List ℕ) (l : Layout) (t : HashTable) → hashTable s l ≡ Is t → Lies (length s) t
+lies : (s : List ℕ) (l : Layout) (t : HashTable) → hashTable s l ≡ Is t → Usable (length s) t
 unfolding hashTable
 lies s l t e = go (fileOffset s l (l .«hash_table»)) (row-rest _ _ _ _ (not-is t) e)
   where
-    go : (m : Mapped) → tableBy s (l .«dynamic_symbols» .count) m ≡ Is t → Lies (length s) t
+    go : (m : Mapped) → tableBy s (l .«dynamic_symbols» .count) m ≡ Is t → Usable (length s) t
     go (Maps at) q = lies-at s (l .«dynamic_symbols» .count) at t q
     go Unmapped q = absurd (not-is t q)
     go (NoMap r) q = absurd (not-is t q)

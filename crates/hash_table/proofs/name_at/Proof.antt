@@ -1,11 +1,11 @@
--- `hash_table::symbol_name` meets its contract: by the symbol.
+-- `hash_table::name_at` meets its contract: by the symbol.
 -- Assumes nothing.
 use borrow.Author.Needs.{needs}
-use Rattle.hash_table.proofs.symbol_name.Statement.{statement}
-use Rattle.hash_table.proofs.symbol_name.Tie as tie
+use Rattle.hash_table.proofs.name_at.Statement.{statement}
+use Rattle.hash_table.proofs.name_at.Tie as tie
 
-pub symbol-name-spec : {M : Type 1} → statement M
-symbol-name-spec =
+pub name-at-spec : {M : Type 1} → statement M
+name-at-spec =
     tie.close
     (tie.spec
     (search needs)
