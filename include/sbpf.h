@@ -68,6 +68,7 @@ enum {
     SBPF_NotASection = 46,
     SBPF_AddendNegative = 47, /* of a relocation of type 1 or 8 */
     SBPF_BadHashTable = 48, /* of sbpf_find_symbol alone */
+    SBPF_StringUnterminated = 49, /* as 4, where the section ends before the limit; its name: as 4's */
 };
 
 /* Words of an accepted parse. A header that was found by name is given by its offset in the

@@ -87,10 +87,11 @@ reasons! {
     46 NotASection,
     47 AddendNegative,
     48 BadHashTable,
+    49 StringUnterminated,
 }
 
 /// Why there is nothing, and what goes with it. The name that it speaks of is the part of the file
-/// from `name_start` on that `name` holds, of StringTooLong as many bytes as were looked at. What
+/// from `name_start` on that `name` holds, of StringTooLong and StringUnterminated as many bytes as were looked at. What
 /// is not used is 0 or empty.
 #[derive(Clone, Debug, PartialEq, Eq)]
 pub struct Refusal {
@@ -120,7 +121,12 @@ impl Refusal {
 
     fn has_name(&self) -> bool {
         use Reason::*;
-        let named = [StringTooLong, UnresolvedSymbol, WritableSectionNotSupported];
+        let named = [
+            StringTooLong,
+            StringUnterminated,
+            UnresolvedSymbol,
+            WritableSectionNotSupported,
+        ];
         named.contains(&self.reason) || !self.name.is_empty()
     }
 }

@@ -284,6 +284,7 @@ fn refusals_are_told_in_words() {
     let told = |number, words| Refusal::new(number, words, b"ab\xffc").to_string();
     assert_eq!(told(1, [0, 0, 0]), "1 InvalidFileHeader");
     assert_eq!(told(4, [0, 1, 2]), "4 StringTooLong: \"b\u{fffd}\"");
+    assert_eq!(told(49, [0, 1, 2]), "49 StringUnterminated: \"b\u{fffd}\"");
     assert_eq!(
         told(22, [0, 0, 0]),
         "22 UnresolvedSymbol at file offset 0: \"\""

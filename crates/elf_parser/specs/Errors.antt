@@ -3,7 +3,7 @@ use Prim.Native.Nat.{ℕ}
 use mathlib.Core.Path.{_≡_, refl}
 use native.Mathlib.Omega.{arith}
 use Rattle.elf_parser.specs.declared.error.ElfParserError.{ElfParserError}
-use Rattle.elf_parser.specs.declared.error.ElfParserError.the-variants.{InvalidFileHeader, InvalidProgramHeader, InvalidSectionHeader, StringTooLong, OutOfBounds, InvalidSize, Overlap, SectionNotInOrder, NoSectionNameStringTable, InvalidDynamicSectionTable, InvalidAlignment, NoStringTable, NoDynamicStringTable, NoSuchIndex, NotASection}
+use Rattle.elf_parser.specs.declared.error.ElfParserError.the-variants.{InvalidFileHeader, InvalidProgramHeader, InvalidSectionHeader, StringTooLong, OutOfBounds, InvalidSize, Overlap, SectionNotInOrder, NoSectionNameStringTable, InvalidDynamicSectionTable, InvalidAlignment, NoStringTable, NoDynamicStringTable, NoSuchIndex, NotASection, StringUnterminated}
 use Rattle.elf_parser.specs.declared.error.Report.{Report}
 use Rattle.elf_parser.specs.declared.error.Check.{Check}
 use Rattle.elf_parser.specs.declared.error.Check.the-variants.{Pass, Refused}
@@ -12,12 +12,16 @@ use Rattle.elf_parser.specs.declared.error.Check.the-variants.{Pass, Ref
 abbrev pub plain : ℕ → Report
 plain n = record { number = n; value = 0; start = 0; length = 0 }
 
+-- and one that speaks of a name
+abbrev pub named : ℕ → ℕ → ℕ → Report
+named n start k = record { number = n; value = 0; start = start; length = k }
+
 -- the numbers of the scope
 abbrev pub reportOf : ElfParserError → Report
 reportOf InvalidFileHeader = plain 1
 reportOf InvalidProgramHeader = plain 2
 reportOf InvalidSectionHeader = plain 3
-reportOf (StringTooLong start n) = record { number = 4; value = 0; start = start; length = n }
+reportOf (StringTooLong start n) = named 4 start n
 reportOf OutOfBounds = plain 5
 reportOf InvalidSize = plain 6
 reportOf Overlap = plain 7
@@ -29,6 +33,7 @@ reportOf NoStringTable = plain 12
 reportOf NoDynamicStringTable = plain 13
 reportOf NoSuchIndex = plain 45
 reportOf NotASection = plain 46
+reportOf (StringUnterminated start n) = named 49 start n
 
 -- one check after another: the first refusal counts
 infixr 3 _then_

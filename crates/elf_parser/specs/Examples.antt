@@ -6,7 +6,7 @@ use mathlib.Core.Path.{_≡_, refl}
 use lib.ListN.{replicate, set}
 use Rattle.ebpf.specs.Choice.{_if_else_}
 use Rattle.ebpf.specs.LittleEndian.{le, bytesOf}
-use Rattle.elf_parser.specs.declared.error.ElfParserError.the-variants.{InvalidFileHeader, StringTooLong, OutOfBounds, Overlap, SectionNotInOrder, NoSectionNameStringTable, InvalidDynamicSectionTable, InvalidAlignment, InvalidSize, NoSuchIndex, NotASection}
+use Rattle.elf_parser.specs.declared.error.ElfParserError.the-variants.{InvalidFileHeader, StringTooLong, StringUnterminated, OutOfBounds, Overlap, SectionNotInOrder, NoSectionNameStringTable, InvalidDynamicSectionTable, InvalidAlignment, InvalidSize, NoSuchIndex, NotASection}
 use Rattle.elf_parser.specs.declared.error.Check.the-variants.{Pass, Refused}
 use Rattle.elf_parser.specs.declared.types.Elf64Ehdr.{Elf64Ehdr}
 use Rattle.elf_parser.specs.declared.types.Elf64Shdr.{Elf64Shdr}
@@ -24,7 +24,7 @@ use Rattle.elf_parser.specs.declared.program_headers.Mapped.the-variants
 use Rattle.elf_parser.specs.declared.section_headers.Ranges.{Ranges}
 use Rattle.elf_parser.specs.FileHeader.{headerCheck, headerRight, headerFixed, tablesCheck}
 use Rattle.elf_parser.specs.SectionHeaders.{sectionCheck}
-use Rattle.elf_parser.specs.Strings.{stringIn, stringCheck, gives, terminated, beforeZero}
+use Rattle.elf_parser.specs.Strings.{stringIn, stringCheck, gives, terminated, noZero, beforeZero}
 use Rattle.elf_parser.specs.Records.{sliced, no-entries, symbolTableIn, relaOf, entryAt, fileRange, fileRangeOf, contentsPlace, sectionPlaceOf}
 use Rattle.elf_parser.specs.Parts.{bytesAt, partOf}
 use Rattle.elf_parser.specs.Types.{programHeader, sectionHeader, rela}
@@ -34,18 +34,27 @@ use Rattle.elf_parser.specs.Dynamic.{withTag, valuesFrom, dynamicValues,
 use Rattle.elf_parser.specs.Parse.{namedLayout, parsed, fileCheck}
 use Rattle.elf_parser.specs.Errors.{_then_}
 
--- a name table, the 40 bytes at 4
-strings : Elf64Shdr
-strings = record { «sh_name» = 0; «sh_type» = 3; «sh_flags» = 0; «sh_addr» = 0; «sh_offset» = 4; «sh_size» = 40 }
+-- a file without a zero byte, and a table of n bytes at 4
+abbrev long-names : List ℕ
+long-names = replicate 200 97
 
--- a name of no bytes: the table ends where it starts, and one further it is outside
-name-at-end : stringIn (replicate 60 0) strings 40 16 ≡ NoPlace (StringTooLong 44 0)
-unfolding stringIn stringCheck gives terminated beforeZero _if_else_ strings
+abbrev names-of : ℕ → Elf64Shdr
+names-of n = record { «sh_name» = 0; «sh_type» = 3; «sh_flags» = 0; «sh_addr» = 0; «sh_offset» = 4; «sh_size» = n }
+
+-- no zero byte from the fourth of a table on: it ends one byte before the 16th byte of the name, at it, and one behind; the same for 64
+cut-off :
+    stringIn long-names (names-of 18) 3 16 ∷ stringIn long-names (names-of 19) 3 16 ∷ stringIn long-names (names-of 20) 3 16
+    ∷ stringIn long-names (names-of 66) 3 64 ∷ stringIn long-names (names-of 67) 3 64 ∷ stringIn long-names (names-of 68) 3 64 ∷ []
+    ≡ NoPlace (StringUnterminated 7 15) ∷ NoPlace (StringTooLong 7 16) ∷ NoPlace (StringTooLong 7 16)
+    ∷ NoPlace (StringUnterminated 7 63) ∷ NoPlace (StringTooLong 7 64) ∷ NoPlace (StringTooLong 7 64) ∷ []
+unfolding stringIn stringCheck gives terminated noZero beforeZero _if_else_
+cut-off = refl
+
+-- a name that starts where the table ends is cut off with no bytes, and one further it is outside, for either limit
+name-at-end : stringIn (replicate 120 0) (names-of 40) 40 16 ∷ stringIn (replicate 120 0) (names-of 40) 41 16 ∷ stringIn (replicate 120 0) (names-of 40) 40 64 ∷ stringIn (replicate 120 0) (names-of 40) 41 64 ∷ []
+    ≡ NoPlace (StringUnterminated 44 0) ∷ NoPlace OutOfBounds ∷ NoPlace (StringUnterminated 44 0) ∷ NoPlace OutOfBounds ∷ []
+unfolding stringIn stringCheck gives terminated noZero beforeZero _if_else_
 name-at-end = refl
-
-name-past-end : stringIn (replicate 60 0) strings 41 16 ≡ NoPlace OutOfBounds
-unfolding stringIn stringCheck gives terminated beforeZero _if_else_ strings
-name-past-end = refl
 
 -- an empty section at the end of the file header does not overlap it, one inside the section headers does
 tables : Ranges

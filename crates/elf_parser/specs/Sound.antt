@@ -191,7 +191,7 @@ in-string-table s h offset most v = go (stringCheck (length s) (h .«sh_type») 
   where
     go : (d : Check)
         → stringCheck (length s) (h .«sh_type») (h .«sh_offset») (h .«sh_size») offset most ≡ d
-        → gives d (terminated (searchEnd (h .«sh_offset») (h .«sh_size») offset most - (h .«sh_offset» + offset)) s (h .«sh_offset» + offset)) ≡ At (v .start) (v .size)
+        → gives d (terminated (ltb (h .«sh_offset» + h .«sh_size») (h .«sh_offset» + offset + most)) (searchEnd (h .«sh_offset») (h .«sh_size») offset most - (h .«sh_offset» + offset)) s (h .«sh_offset» + offset)) ≡ At (v .start) (v .size)
         → h .«sh_type» ≡ SHT-STRTAB
     go Pass p q = eqb-true _ _ (not-false _ (not-first _ _ _ _ (apart _) p))
     go (Refused r) p q = absurd (let z : _≡_ {A = ℕ} 0 1 = cc in omega arith)

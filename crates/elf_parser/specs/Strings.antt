@@ -8,7 +8,8 @@ use lib.ListN.{length, getD}
 use lib.Dec.{ltb, eqb}
 use borrow.Author.Tests.{eq-eqb, ne-eqb, leb-false, ltb-true, ltb-false}
 use Rattle.ebpf.specs.Choice.{_if_else_, not-first, row-rest, pastWord}
-use Rattle.elf_parser.specs.declared.error.ElfParserError.the-variants.{OutOfBounds, InvalidSectionHeader, StringTooLong}
+use Rattle.elf_parser.specs.declared.error.ElfParserError.{ElfParserError}
+use Rattle.elf_parser.specs.declared.error.ElfParserError.the-variants.{OutOfBounds, InvalidSectionHeader, StringTooLong, StringUnterminated}
 use Rattle.elf_parser.specs.declared.error.Check.{Check}
 use Rattle.elf_parser.specs.declared.error.Check.the-variants.{Pass, Refused}
 use Rattle.elf_parser.specs.declared.parts.Place.{Place}
@@ -37,12 +38,18 @@ unfoldable pub beforeZero : ℕ → List ℕ → ℕ → ℕ
 beforeZero zero s at = 0
 beforeZero (suc n) s at = 0 if eqb (getD s at 0) 0 else suc (beforeZero n s (at + 1))
 
+-- no zero byte: `cut` says whether the section ends before the limit
+unfoldable pub noZero : Bool → ℕ → ℕ → ElfParserError
+noZero cut start k =
+    StringUnterminated start k if cut else
+    StringTooLong start k
+
 -- the n bytes from `start` on up to their first zero byte
-unfoldable pub terminated : ℕ → List ℕ → ℕ → Place
-terminated n s start =
+unfoldable pub terminated : Bool → ℕ → List ℕ → ℕ → Place
+terminated cut n s start =
     let k : ℕ = beforeZero n s start in
     At start k if ltb k n else
-    NoPlace (StringTooLong start k)
+    NoPlace (noZero cut start k)
 
 -- a check, and what it gives where it passes
 unfoldable pub gives : Check → Place → Place
@@ -53,7 +60,7 @@ gives (Refused r) p = NoPlace r
 unfoldable pub stringIn : List ℕ → Elf64Shdr → ℕ → ℕ → Place
 stringIn s h offset most =
     gives (stringCheck (length s) (h .«sh_type») (h .«sh_offset») (h .«sh_size») offset most)
-    (terminated (searchEnd (h .«sh_offset») (h .«sh_size») offset most - (h .«sh_offset» + offset)) s (h .«sh_offset» + offset))
+    (terminated (ltb (h .«sh_offset» + h .«sh_size») (h .«sh_offset» + offset + most)) (searchEnd (h .«sh_offset») (h .«sh_size») offset most - (h .«sh_offset» + offset)) s (h .«sh_offset» + offset))
 
 -- ---- laws
 
@@ -96,11 +103,11 @@ readable len sh-type sh-offset sh-size offset most e =
     }
 
 -- a name that was found lies in the file, with its zero byte
-pub terminated-within : (n : ℕ) (s : List ℕ) (from start k : ℕ) → terminated n s from ≡ At start k → start + k < from + n
+pub terminated-within : (cut : Bool) (n : ℕ) (s : List ℕ) (from start k : ℕ) → terminated cut n s from ≡ At start k → start + k < from + n
 unfolding terminated _if_else_
-terminated-within n s from start k e = go (ltb (beforeZero n s from) n) refl e
+terminated-within cut n s from start k e = go (ltb (beforeZero n s from) n) refl e
   where
-    go : (b : Bool) → ltb (beforeZero n s from) n ≡ b → (At from (beforeZero n s from) if b else NoPlace (StringTooLong from (beforeZero n s from))) ≡ At start k → start + k < from + n
+    go : (b : Bool) → ltb (beforeZero n s from) n ≡ b → (At from (beforeZero n s from) if b else NoPlace (noZero cut from (beforeZero n s from))) ≡ At start k → start + k < from + n
     go true h q =
         let p : from ≡ start = cc in
         let r : beforeZero n s from ≡ k = cc in
@@ -108,11 +115,11 @@ terminated-within n s from start k e = go (ltb (beforeZero n s from) n) refl e
     go false h q = absurd (no-place _ _ _ q)
 
 -- and has fewer bytes than were searched
-terminated-short : (n : ℕ) (s : List ℕ) (from start k : ℕ) → terminated n s from ≡ At start k → k < n
+terminated-short : (cut : Bool) (n : ℕ) (s : List ℕ) (from start k : ℕ) → terminated cut n s from ≡ At start k → k < n
 unfolding terminated _if_else_
-terminated-short n s from start k e = go (ltb (beforeZero n s from) n) refl e
+terminated-short cut n s from start k e = go (ltb (beforeZero n s from) n) refl e
   where
-    go : (b : Bool) → ltb (beforeZero n s from) n ≡ b → (At from (beforeZero n s from) if b else NoPlace (StringTooLong from (beforeZero n s from))) ≡ At start k → k < n
+    go : (b : Bool) → ltb (beforeZero n s from) n ≡ b → (At from (beforeZero n s from) if b else NoPlace (noZero cut from (beforeZero n s from))) ≡ At start k → k < n
     go true h q =
         let r : beforeZero n s from ≡ k = cc in
         omega (arith, ltb-true (beforeZero n s from) n h)
@@ -124,9 +131,9 @@ string-within s h offset most start k e = go (stringCheck (length s) (h .«sh_ty
   where
     go : (d : Check)
         → stringCheck (length s) (h .«sh_type») (h .«sh_offset») (h .«sh_size») offset most ≡ d
-        → gives d (terminated (searchEnd (h .«sh_offset») (h .«sh_size») offset most - (h .«sh_offset» + offset)) s (h .«sh_offset» + offset)) ≡ At start k
+        → gives d (terminated (ltb (h .«sh_offset» + h .«sh_size») (h .«sh_offset» + offset + most)) (searchEnd (h .«sh_offset») (h .«sh_size») offset most - (h .«sh_offset» + offset)) s (h .«sh_offset» + offset)) ≡ At start k
         → start + k < length s
-    go Pass p q = omega (arith, terminated-within _ _ _ _ _ q, readable _ _ _ _ _ _ p)
+    go Pass p q = omega (arith, terminated-within _ _ _ _ _ _ q, readable _ _ _ _ _ _ p)
     go (Refused r) p q = absurd (no-place _ _ _ q)
 
 pub string-short : (s : List ℕ) (h : Elf64Shdr) (offset most start k : ℕ) → stringIn s h offset most ≡ At start k → k < most
@@ -134,7 +141,7 @@ unfolding stringIn gives
 string-short s h offset most start k e = go (stringCheck (length s) (h .«sh_type») (h .«sh_offset») (h .«sh_size») offset most) e
   where
     go : (d : Check)
-        → gives d (terminated (searchEnd (h .«sh_offset») (h .«sh_size») offset most - (h .«sh_offset» + offset)) s (h .«sh_offset» + offset)) ≡ At start k
+        → gives d (terminated (ltb (h .«sh_offset» + h .«sh_size») (h .«sh_offset» + offset + most)) (searchEnd (h .«sh_offset») (h .«sh_size») offset most - (h .«sh_offset» + offset)) s (h .«sh_offset» + offset)) ≡ At start k
         → k < most
-    go Pass q = omega (arith, terminated-short _ _ _ _ _ q)
+    go Pass q = omega (arith, terminated-short _ _ _ _ _ _ q)
     go (Refused r) q = absurd (no-place _ _ _ q)

@@ -6,8 +6,8 @@ pub enum ElfParserError {
     InvalidFileHeader,
     InvalidProgramHeader,
     InvalidSectionHeader,
-    // No zero byte within the limit and the section: where the name starts in the file, and how
-    // many bytes were looked at.
+    // No zero byte within the limit: where the name starts in the file, and how many bytes were
+    // looked at.
     StringTooLong { start: usize, length: usize },
     OutOfBounds,
     InvalidSize,
@@ -20,6 +20,8 @@ pub enum ElfParserError {
     NoDynamicStringTable,
     NoSuchIndex,
     NotASection,
+    // The same where the section ends before the limit.
+    StringUnterminated { start: usize, length: usize },
 }
 
 // A refusal in numbers: its number, its value, and the place of the name that it speaks of.
@@ -47,6 +49,17 @@ fn plain(number: u32) -> Report
     }
 }
 
+fn named(number: u32, start: usize, length: usize) -> Report
+    ensures { λ r. ⌜ r ≡ record { number = number; value = 0; start = start; length = length } ⌝ }
+{
+    Report {
+        number,
+        value: 0,
+        start: start as u64,
+        length: length as u64,
+    }
+}
+
 pub fn report_of(e: ElfParserError) -> Report
     ensures { λ r. ⌜ r ≡ reportOf e ⌝ }
 {
@@ -54,12 +67,7 @@ pub fn report_of(e: ElfParserError) -> Report
         ElfParserError::InvalidFileHeader => plain(1),
         ElfParserError::InvalidProgramHeader => plain(2),
         ElfParserError::InvalidSectionHeader => plain(3),
-        ElfParserError::StringTooLong { start, length } => Report {
-            number: 4,
-            value: 0,
-            start: start as u64,
-            length: length as u64,
-        },
+        ElfParserError::StringTooLong { start, length } => named(4, start, length),
         ElfParserError::OutOfBounds => plain(5),
         ElfParserError::InvalidSize => plain(6),
         ElfParserError::Overlap => plain(7),
@@ -71,5 +79,6 @@ pub fn report_of(e: ElfParserError) -> Report
         ElfParserError::NoDynamicStringTable => plain(13),
         ElfParserError::NoSuchIndex => plain(45),
         ElfParserError::NotASection => plain(46),
+        ElfParserError::StringUnterminated { start, length } => named(49, start, length),
     }
 }

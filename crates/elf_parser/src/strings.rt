@@ -9,7 +9,7 @@ use crate::types::Elf64Shdr;
 ghost use mathlib.Core.Path.{_≡_};
 ghost use Prim.Native.Nat.{_-_, _≤_};
 ghost use lib.ListN.{length};
-ghost use Rattle.elf_parser.specs.Strings.{beforeZero, stringCheck, stringIn};
+ghost use Rattle.elf_parser.specs.Strings.{beforeZero, stringCheck, noZero, stringIn};
 
 // The checks before a name is looked for: the sums of the Rust, and the range that is searched.
 fn check_string(
@@ -61,6 +61,16 @@ fn before_zero(file: &[u8], start: usize, end: usize) -> usize
     end - start
 }
 
+// Why a name has no end: the section ends before the limit does, or the name is too long.
+fn no_zero(cut: bool, start: usize, length: usize) -> ElfParserError
+    ensures { λ r. ⌜ r ≡ noZero cut start length ⌝ }
+{
+    if cut {
+        return ElfParserError::StringUnterminated { start, length };
+    }
+    ElfParserError::StringTooLong { start, length }
+}
+
 // The name at `offset_in_section` of a string table, of fewer than `maximum_length` bytes.
 pub fn get_string_in_section(
     file: &[u8],
@@ -84,12 +94,14 @@ pub fn get_string_in_section(
         Check::Pass => {
             let from = sh_offset + offset_in_section as u64;
             let start = from as usize;
-            let end = lesser(sh_offset + sh_size, from + maximum_length as u64) as usize;
+            let section_end = sh_offset + sh_size;
+            let limit = from + maximum_length as u64;
+            let end = lesser(section_end, limit) as usize;
             let length = before_zero(file, start, end);
             if length < end - start {
                 Place::At { start, length }
             } else {
-                Place::Refused(ElfParserError::StringTooLong { start, length })
+                Place::Refused(no_zero(section_end < limit, start, length))
             }
         }
     }

@@ -11,7 +11,7 @@ use lib.Dec.{eqb, ltb}
 use borrow.Author.Tests.{ne-eqb, ltb-true, eqb-true}
 use Rattle.ebpf.specs.Choice.{_if_else_, and-left, and-right}
 use Rattle.elf_parser.specs.declared.error.ElfParserError.{ElfParserError}
-use Rattle.elf_parser.specs.declared.error.ElfParserError.the-variants.{InvalidFileHeader, InvalidProgramHeader, InvalidSectionHeader, StringTooLong, OutOfBounds, InvalidSize, Overlap, SectionNotInOrder, NoSectionNameStringTable, InvalidDynamicSectionTable, InvalidAlignment, NoStringTable, NoDynamicStringTable, NoSuchIndex, NotASection}
+use Rattle.elf_parser.specs.declared.error.ElfParserError.the-variants.{InvalidFileHeader, InvalidProgramHeader, InvalidSectionHeader, StringTooLong, OutOfBounds, InvalidSize, Overlap, SectionNotInOrder, NoSectionNameStringTable, InvalidDynamicSectionTable, InvalidAlignment, NoStringTable, NoDynamicStringTable, NoSuchIndex, NotASection, StringUnterminated}
 use Rattle.elf_parser.specs.SectionNames.{sameBytes}
 use Rattle.elf_parser.specs.Errors as parser
 use Rattle.loader.specs.declared.error.ElfError.{ElfError}
@@ -87,6 +87,7 @@ parse-named NoStringTable = named 12 refl
 parse-named NoDynamicStringTable = named 13 refl
 parse-named NoSuchIndex = named 45 refl
 parse-named NotASection = named 46 refl
+parse-named (StringUnterminated start n) = named 49 refl
 
 pub load-named : (e : ElfError) → 0 < length (refusalName (load.reportOf e .number))
 unfolding refusalName names nameIn bytes _if_else_

@@ -51,6 +51,7 @@ names =
     ∷ (46, "NotASection")
     ∷ (47, "AddendNegative")
     ∷ (48, "BadHashTable")
+    ∷ (49, "StringUnterminated")
     ∷ []
 
 -- the bytes of a text whose characters are one byte long

@@ -123,6 +123,7 @@ pub(crate) fn refusal_name(name: &mut [u8], number: u32) -> u32
         NotASection\0\
         AddendNegative\0\
         BadHashTable\0\
+        StringUnterminated\0\
         ";
     give_name(name, name_part(names, number))
 }

@@ -1,7 +1,7 @@
 -- The refusals of a load, in the scope's numbers.
 use Prim.Native.Nat.{ℕ}
 use Rattle.elf_parser.specs.declared.error.ElfParserError.{ElfParserError}
-use Rattle.elf_parser.specs.declared.error.ElfParserError.the-variants.{InvalidFileHeader, InvalidProgramHeader, InvalidSectionHeader, StringTooLong, OutOfBounds, InvalidSize, Overlap, SectionNotInOrder, NoSectionNameStringTable, InvalidDynamicSectionTable, InvalidAlignment, NoStringTable, NoDynamicStringTable, NoSuchIndex, NotASection}
+use Rattle.elf_parser.specs.declared.error.ElfParserError.the-variants.{InvalidFileHeader, InvalidProgramHeader, InvalidSectionHeader, StringTooLong, OutOfBounds, InvalidSize, Overlap, SectionNotInOrder, NoSectionNameStringTable, InvalidDynamicSectionTable, InvalidAlignment, NoStringTable, NoDynamicStringTable, NoSuchIndex, NotASection, StringUnterminated}
 use Rattle.elf_parser.specs.declared.error.Report.{Report}
 use Rattle.elf_parser.specs.Errors as parser
 use Rattle.loader.specs.declared.error.ElfError.{ElfError}
@@ -24,6 +24,7 @@ fromParser NoStringTable = FailedToParse NoStringTable
 fromParser NoDynamicStringTable = FailedToParse NoDynamicStringTable
 fromParser NoSuchIndex = FailedToParse NoSuchIndex
 fromParser NotASection = FailedToParse NotASection
+fromParser (StringUnterminated start n) = FailedToParse (StringUnterminated start n)
 
 -- number and value, no name
 abbrev pub valued : ℕ → ℕ → Report

@@ -18,7 +18,7 @@ use Rattle.elf_parser.specs.declared.types.Elf64Shdr.{Elf64Shdr}
 use Rattle.elf_parser.specs.Errors as parser
 use Rattle.elf_parser.specs.Records.{entryAt}
 use Rattle.elf_parser.specs.SectionHeaders.{sectionCheck}
-use Rattle.elf_parser.specs.Strings.{stringIn, stringCheck, gives, terminated, beforeZero}
+use Rattle.elf_parser.specs.Strings.{stringIn, stringCheck, gives, terminated, noZero, beforeZero}
 use Rattle.elf_parser.specs.Types.{rel, sym}
 use Rattle.program.specs.HashedLegacy.{legacyRow, legacyKey, isTaken}
 use Rattle.loader.specs.declared.deeds.Deed.{Deed}
@@ -129,5 +129,5 @@ worked :
     ∷ (30 ∷ 0 ∷ 0 ∷ 0 ∷ [])
     ∷ (7 ∷ 0 ∷ 0 ∷ 0 ∷ [])
     ∷ []
-unfolding murmur3 body stringIn stringCheck gives terminated beforeZero callDeed callAt insnAt slotAt callOf isLocalCall target inside rowFor legacyRow legacyKey isTaken relocationAt usedBefore usedHeader placeOf planAt plan6464 addressDeed halvesDeed wordDeed planRelative relativeText immediateAt programAddress within sectionCheck entryAt rel sym _if_else_ le bytesOf
+unfolding murmur3 body stringIn stringCheck gives terminated noZero beforeZero callDeed callAt insnAt slotAt callOf isLocalCall target inside rowFor legacyRow legacyKey isTaken relocationAt usedBefore usedHeader placeOf planAt plan6464 addressDeed halvesDeed wordDeed planRelative relativeText immediateAt programAddress within sectionCheck entryAt rel sym _if_else_ le bytesOf
 worked = refl

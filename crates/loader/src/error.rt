@@ -93,6 +93,10 @@ pub fn from_parser(e: ElfParserError) -> ElfError
         ElfParserError::NoDynamicStringTable => ElfError::FailedToParse(e),
         ElfParserError::NoSuchIndex => ElfError::FailedToParse(e),
         ElfParserError::NotASection => ElfError::FailedToParse(e),
+        ElfParserError::StringUnterminated {
+            start: _,
+            length: _,
+        } => ElfError::FailedToParse(e),
     }
 }
 

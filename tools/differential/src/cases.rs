@@ -118,7 +118,7 @@ impl Case {
     }
 
     /// The cases of a comparison: every other one has relocations that bring an addend, and of four in a row
-    /// the last two a hash table.
+    /// the last two a hash table; of four such rows the last has open names.
     pub fn compared(seed: u64, number: u64) -> Case {
         let beyond = Beyond {
             addends: match number % 2 {
@@ -126,6 +126,7 @@ impl Case {
                 _ => Addends::Drawn,
             },
             hash_table: number % 4 > 1,
+            open_names: number / 4 % 4 == 3,
         };
         Case::of_any_size(seed, number, beyond)
     }
@@ -144,6 +145,16 @@ impl Case {
     pub fn small(seed: u64, number: u64, addends: Addends) -> Case {
         let r = &mut Random::new(seed, number);
         Case::drawn(r, Style::Small, Beyond::addends(addends), mutate::damage)
+    }
+
+    /// A case whose file is small, and whose tables of names end in one without its zero byte.
+    pub fn open_names(seed: u64, number: u64) -> Case {
+        let r = &mut Random::new(seed, number);
+        let beyond = Beyond {
+            open_names: true,
+            ..Beyond::NOTHING
+        };
+        Case::drawn(r, Style::Small, beyond, mutate::damage)
     }
 
     /// A case whose file has more instructions than the constant table has keys.

@@ -4,7 +4,7 @@ use crate::{
     cases::Case,
     dynamic::{self, Linked},
     elf::{PROGRAM_START, STACK_START, SYMBOLS},
-    finding,
+    finding, model,
     outcome::{self, parser_refusal, Refused},
     port::{self, Answer, Columns, Question, WORDS},
     random::Random,
@@ -190,7 +190,6 @@ impl Comparer {
         file: &[u8],
     ) -> Result<(), String> {
         let room = case.room;
-        self.count("parse", number_of(&parsed));
         let full = port::parse(file, WORDS);
         let got = if room == WORDS {
             full.clone()
@@ -200,13 +199,17 @@ impl Comparer {
         let (elf, apart) = match parsed {
             Ok(read) => read,
             Err(err) => {
-                let refused = parser_refusal(err);
+                let mut refused = parser_refusal(err);
                 if dynamic::parse_number(file) != refused.number {
                     return Err(format!(
                         "the refusal read apart is {}\n  Rust: {refused:?}",
                         dynamic::parse_number(file)
                     ));
                 }
+                if refused.number == 4 {
+                    refused.number = outcome::unclosed(model::unclosed_name(file).1 < 16);
+                }
+                self.count("parse", refused.number);
                 refusal("parse", file, &got, &full, &refused, room)?;
                 // every question has the refusal of the parse
                 for question in [
@@ -243,6 +246,8 @@ impl Comparer {
                 );
             }
         };
+
+        self.count("parse", 0);
 
         // the layout
         let headers = elf.section_header_table();
@@ -331,18 +336,20 @@ impl Comparer {
                 headers[((at - words[6]) / 64) as usize].sh_size
             }
         };
-        for (question, header_at, what) in [
-            (Question::SectionName, words[8], "section name"),
-            (Question::SymbolName, words[10], "symbol name"),
+        for (question, header_at, most, what) in [
+            (Question::SectionName, words[8], 16, "section name"),
+            (Question::SymbolName, words[10], 64, "symbol name"),
             (
                 Question::DynamicSymbolName,
                 words[11],
+                64,
                 "dynamic symbol name",
             ),
         ] {
-            let size = sizes(header_at) as u32;
+            let section_size = sizes(header_at);
+            let size = section_size as u32;
             let mut offsets = case.asked.clone();
-            for back in [0, 1, 16, 17, 64, 65] {
+            for back in [0, 1, 15, 16, 17, 63, 64, 65] {
                 offsets.push(size.wrapping_sub(back));
             }
             offsets.push(size.wrapping_add(1));
@@ -372,7 +379,15 @@ impl Comparer {
                     Question::SymbolName => elf.symbol_name(offset),
                     _ => elf.dynamic_symbol_name(offset),
                 };
-                self.count(what, number_of(&name));
+                let name = name.map_err(|err| {
+                    let mut refused = parser_refusal(err);
+                    if refused.number == 4 {
+                        let cut = section_size < offset as u64 + most;
+                        refused.number = outcome::unclosed(cut);
+                    }
+                    refused
+                });
+                self.count(what, name.as_ref().map_or_else(|r| r.number, |_| 0));
                 let got = port::ask(question, file, offset, room);
                 let what = format!("{what} at {offset}");
                 match name {
@@ -385,12 +400,12 @@ impl Comparer {
                             room,
                         )?;
                     }
-                    Err(err) => refusal(
+                    Err(refused) => refusal(
                         &what,
                         file,
                         &got,
                         &port::ask(question, file, offset, WORDS),
-                        &parser_refusal(err),
+                        &refused,
                         room,
                     )?,
                 }

@@ -133,6 +133,14 @@ fn strings(r: &mut Random, names: &[&[u8]]) -> (Vec<u8>, Vec<u32>) {
     (bytes, at)
 }
 
+/// Ends a table in a name without its zero byte, and answers where that starts. Names are looked at up to `most` bytes.
+fn end_open(r: &mut Random, table: &mut Vec<u8>, most: u64) -> u32 {
+    let at = table.len() as u32;
+    let length = r.range(most - 2, most + 2) as usize;
+    table.resize(table.len() + length, b'o');
+    at
+}
+
 /// How big the files are.
 #[derive(Clone, Copy, Debug, PartialEq, Eq)]
 pub enum Style {
@@ -158,19 +166,22 @@ pub struct Beyond {
     pub addends: Addends,
     /// A hash table of the dynamic symbols.
     pub hash_table: bool,
+    /// Each table of names ends in a name without its zero byte, about as long as a name may be.
+    pub open_names: bool,
 }
 
 impl Beyond {
     pub fn addends(addends: Addends) -> Beyond {
         Beyond {
             addends,
-            hash_table: false,
+            ..Beyond::NOTHING
         }
     }
 
     pub const NOTHING: Beyond = Beyond {
         addends: Addends::No,
         hash_table: false,
+        open_names: false,
     };
 }
 
@@ -499,8 +510,11 @@ pub fn file(r: &mut Random, style: Style, beyond: Beyond) -> Made {
         let names: Vec<&[u8]> = (0..r.range(1, most_names + 1))
             .map(|_| symbol_name(r))
             .collect();
-        let (table, at) = strings(r, &names);
+        let (mut table, at) = strings(r, &names);
         dynamic_names = at;
+        if beyond.open_names {
+            dynamic_names.push(end_open(r, &mut table, 64));
+        }
         parts.push(section(
             b".dynamic",
             SHT_DYNAMIC,
@@ -559,8 +573,11 @@ pub fn file(r: &mut Random, style: Style, beyond: Beyond) -> Made {
         let names: Vec<&[u8]> = (0..r.range(1, most_names))
             .map(|_| symbol_name(r))
             .collect();
-        let (table, at) = strings(r, &names);
+        let (mut table, at) = strings(r, &names);
         label_names = at;
+        if beyond.open_names {
+            label_names.push(end_open(r, &mut table, 64));
+        }
         let kind = if r.odd(4) {
             r.pick(&[SHT_DYNSYM, SHT_PROGBITS])
         } else {
@@ -599,9 +616,16 @@ pub fn file(r: &mut Random, style: Style, beyond: Beyond) -> Made {
     }
     sections.append(&mut parts);
     let names: Vec<&[u8]> = sections.iter().map(|s| s.name).collect();
-    let (table, name_at) = strings(r, &names);
+    let (mut table, name_at) = strings(r, &names);
     for (s, at) in sections.iter_mut().zip(name_at) {
         s.name_at = at;
+    }
+    if beyond.open_names {
+        let at = end_open(r, &mut table, 16);
+        if r.one_in(4) {
+            let named = r.index(sections.len());
+            sections[named].name_at = at;
+        }
     }
     let shstrndx = sections
         .iter()

@@ -64,7 +64,9 @@ fn agree(file: &[u8], rust: &outcome::Refused, stop: &Stop) -> bool {
             String::from_utf8_lossy(bytes).as_bytes() == name
         }
     };
-    name && rust.number == stop.number && rust.value == stop.value
+    // the Rust does not tell a name that is cut off from one that is too long
+    let number = if stop.number == 49 { 4 } else { stop.number };
+    name && rust.number == number && rust.value == stop.value
 }
 
 /// Err where the model and the Rust disagree: then the model is wrong.

@@ -111,6 +111,7 @@ pub fn number_name(number: u32) -> &'static str {
         46 => "NotASection",
         47 => "AddendNegative",
         48 => "BadHashTable",
+        49 => "StringUnterminated",
         _ => "?",
     }
 }

@@ -146,7 +146,7 @@ impl Counts {
             .filter(|n| *n != 5)
             .chain(20..=34)
             .chain(40..=43)
-            .chain(47..=47)
+            .chain([47, 49])
             .filter(|n| !self.numbers.contains_key(n))
             .collect();
         if missing.is_empty() && self.text_aborts > 0 {

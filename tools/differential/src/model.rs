@@ -207,9 +207,9 @@ fn place_of(file: &[u8], part: &[u8]) -> u64 {
     (part.as_ptr() as usize - file.as_ptr() as usize) as u64
 }
 
-/// The place of the section name that a parse refuses with 4: of the first that is not closed
-/// within 16 bytes and its table.
-fn long_name(file: &[u8]) -> (u64, u64) {
+/// The place of the section name for which a parse gives up: of the first that is not closed within 16 bytes
+/// and its table. It has fewer than 16 bytes where the table ends before them.
+pub fn unclosed_name(file: &[u8]) -> (u64, u64) {
     let field = |at: u64, width: u64| read(file, at, width).unwrap();
     let (table, count) = (field(40, 8), field(60, 2));
     let names = table + 64 * field(62, 2);
@@ -256,7 +256,10 @@ fn replay_into(
     let refused = |number: u32| {
         let mut refused = stop(number, 0);
         match refused.number {
-            4 => (refused.start, refused.length) = long_name(file),
+            4 => {
+                (refused.start, refused.length) = unclosed_name(file);
+                refused.number = outcome::unclosed(refused.length < 16);
+            }
             5 => refused.number = 33,
             _ => {}
         }

@@ -130,6 +130,15 @@ pub fn parser_number(err: &ElfParserError) -> u32 {
     }
 }
 
+/// The number of the refusal that the Rust calls StringTooLong: of a name that its section cuts off, and of one
+/// that is too long.
+pub fn unclosed(cut: bool) -> u32 {
+    match cut {
+        true => 49,
+        false => 4,
+    }
+}
+
 /// The refusal with a number that one of the dynamic table's has.
 pub fn parser_error(number: u32) -> ElfParserError {
     match number {

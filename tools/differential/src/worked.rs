@@ -94,6 +94,11 @@ impl Told {
     /// As far as the Rust can tell it: no moves, names in place of their kinds and places.
     fn without_added(&self, file: &[u8]) -> String {
         match self {
+            // the Rust does not tell a name that is cut off from one that is too long
+            Told::Refused([49, value, start, length]) => {
+                Told::Refused([4, *value, *start, *length]).without_added(file)
+            }
+            Told::Refused([4, value, _, 0]) => format!("refused 4 {value} "),
             Told::Refused([number, value, _, 0]) => format!("refused {number} {value}"),
             Told::Refused([number, value, start, length]) => {
                 let name = &file[*start as usize..(start + length) as usize];
@@ -278,6 +283,8 @@ struct Small {
     symbols: Option<Symbols>,
     /// e_shstrndx; None: the section of names.
     names: Option<u16>,
+    /// The name of the section of names, which stands last and has no zero byte behind it.
+    last_name: Option<&'static str>,
 }
 
 /// The example of loadlist.
@@ -295,6 +302,7 @@ const PLAIN: Small = Small {
     label: None,
     symbols: None,
     names: None,
+    last_name: None,
 };
 
 /// The same with one slot.
@@ -390,13 +398,17 @@ impl Small {
             sections.push((".dynamic", 6, 2, dynamic, 8, contents));
             sections.push((".dynstr", 3, 2, 0, 1, symbols.names.to_vec()));
         }
-        sections.push((".shstrtab", 3, 0, 0, 1, Vec::new()));
+        let last_name = self.last_name.unwrap_or(".shstrtab");
+        sections.push((last_name, 3, 0, 0, 1, Vec::new()));
         let mut names = vec![0];
         let mut name_at = Vec::new();
         for (name, ..) in &sections {
             name_at.push(names.len() as u32);
             names.extend_from_slice(name.as_bytes());
             names.push(0);
+        }
+        if self.last_name.is_some() {
+            names.pop();
         }
         sections.last_mut().unwrap().5 = names;
 
@@ -591,6 +603,10 @@ fn examples() -> Vec<Example> {
         let empty = Some((name, 64));
         Small { empty, ..PLAIN }.case()
     };
+    let ending_in = |name| {
+        let last_name = Some(name);
+        Small { last_name, ..PLAIN }.case()
+    };
     let empty_at = |at| {
         let empty = Some((".empty", at));
         Small { empty, ..PLAIN }.case()
@@ -700,6 +716,27 @@ fn examples() -> Vec<Example> {
         example("loadlist, empty input", empty, refused(33, 0)),
         example("loadlist, its input", loadlist, accepted(2, 0)),
         example("the same, built here", PLAIN.case(), accepted(2, 0)),
+        // the name stands behind the header, the text and seven bytes
+        example(
+            "section name of 15 bytes, where its table ends",
+            ending_in(".fifteen_bytes."),
+            Told::Refused([49, 0, 87, 15]),
+        ),
+        example(
+            "section name of 16 bytes, where its table ends",
+            ending_in(".sixteen_bytes__"),
+            Told::Refused([4, 0, 87, 16]),
+        ),
+        example(
+            "section name of 17 bytes, where its table ends",
+            ending_in(".seventeen_bytes_"),
+            Told::Refused([4, 0, 87, 16]),
+        ),
+        example(
+            "section name at the end of its table",
+            ending_in(""),
+            Told::Refused([49, 0, 87, 0]),
+        ),
         example(
             "section name of 15 bytes",
             named(".fifteen_bytes."),

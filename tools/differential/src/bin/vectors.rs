@@ -122,6 +122,7 @@ fn case_of(style: &str, seed: u64, number: u64) -> Case {
         "large" => Case::large(seed, number),
         "faulty" | "faulty_addends" => Case::faulty(seed, number, addends),
         "end" | "end_addends" => Case::end(seed, number, addends),
+        "open_names" => Case::open_names(seed, number),
         "any" => Case::new(seed, number),
         _ => panic!("{style}: no way to draw a case"),
     }

@@ -34,8 +34,8 @@ returns-2 c =
 returns-3 : tie.Need-returns-3
 unfolding stringIn gives terminated _if_else_
 returns-3 c =
-    let e : c .before .before .before .before .before .check-string .result ≡ Pass = c .before .before .before .enum-told .given .1 in
-    simp (← c .before .before .before .before .before .check-string .ensures, e, ← c .before .before .lesser .ensures, ← c .before .before-zero .ensures, le-ltb _ _ (c .if1 .left))
+    let e : c .before .before .before .before .before .before .check-string .result ≡ Pass = c .before .before .before .before .enum-told .given .1 in
+    simp (← c .before .before .before .before .before .before .check-string .ensures, e, ← c .before .before .before .lesser .ensures, ← c .before .before .before-zero .ensures, le-ltb _ _ (c .before .if1 .left), c .no-zero .ensures)
 
 pub get-string-in-section-spec : {M : Type 1} → statement M
 get-string-in-section-spec =
@@ -50,6 +50,7 @@ get-string-in-section-spec =
     (search needs)
     (λ c κs. omega (arith, known (c .before), c .lesser .ensures))
     (λ c. omega (arith, known (c .before .before), c .before .lesser .ensures))
+    (search needs)
     returns
     returns-2
     returns-3)
