@@ -20,7 +20,7 @@ use Rattle.elf_parser.specs.Strings.{stringCheck, beforeZero, terminated, gives
 use Rattle.elf_parser.specs.Types.{fileHeader, programHeader, sectionHeader, sym, rel}
 use Rattle.program.specs.HashedLegacy.{legacyKey, keptSymbol, isTaken, legacyRow}
 use Rattle.program.specs.Rows.{rank, register, registered, unregister}
-use Rattle.program.specs.Search.{narrowed, below, countedFrom, binarySearch, isAmong}
+use Rattle.program.specs.Search.{narrowed, binarySearch, isAmong}
 use Rattle.loader.specs.Addresses.{machineAddr}
 use Rattle.loader.specs.Bytes.{put}
 use Rattle.loader.specs.Calls.{inside, target, isLocalCall, callOf, callAt, callDeed, slotTrace}
@@ -160,7 +160,7 @@ record Computed : Type 0 where
   name-key : nameKey ≡ 0x71e3_cf81
 
 computed : Computed
-unfolding _if_else_ indexKey keyIn slotAt insnAt le bytesOf body murmur3 firstWith segmentSlice sectionSlice orElse withTag valuesFrom sectionOffset orSection relocationsAt relocationsBy relocationsOf symbolsBy symbolsOf linking dynamicIn _then-reader_ headerFixed headerRight reader-headerCheck tablesCheck _into_ over nameBy firstCheck fileCheck namedLayout parsed bytesAt loadStep containsStep entryAt sliced symbolTableIn symbolTableOf fileRange sectionCheck leaves sectionStep sameBytes roleOf reader-placed named stringCheck beforeZero terminated reader-gives stringIn fileHeader programHeader sectionHeader sym rel legacyKey keptSymbol isTaken legacyRow rank register registered unregister narrowed below countedFrom binarySearch isAmong machineAddr put inside target isLocalCall callOf callAt callDeed slotTrace deedTrace entryDeed rowFor labelOf labelDeed labelSymbols labelTrace loadOf jobTrace readOnly loader-gives invalidBy endOf grown taken gatherStep fromStart canBorrow borrowed owned loader-placed placing copiedTo copyStep copiedFrom relocationAt headerAt firstFrom usedHeader usedBefore placeOf within programAddress immediateAt halvesDeed wordDeed addressDeed plan6464 relativeText relativeValue planRelative functionCall builtinCall callByName plan6432 planAt relocationTrace sectionAt startsWith unsupported outsideFile surveyStep surveyFrom andThen each settle sizeCheck ascends loader-headerCheck sectionsCheck textCheck jobOf _then_ validated prepared reached
+unfolding _if_else_ indexKey keyIn slotAt insnAt le bytesOf body murmur3 firstWith segmentSlice sectionSlice orElse withTag valuesFrom sectionOffset orSection relocationsAt relocationsBy relocationsOf symbolsBy symbolsOf linking dynamicIn _then-reader_ headerFixed headerRight reader-headerCheck tablesCheck _into_ over nameBy firstCheck fileCheck namedLayout parsed bytesAt loadStep containsStep entryAt sliced symbolTableIn symbolTableOf fileRange sectionCheck leaves sectionStep sameBytes roleOf reader-placed named stringCheck beforeZero terminated reader-gives stringIn fileHeader programHeader sectionHeader sym rel legacyKey keptSymbol isTaken legacyRow rank register registered unregister narrowed binarySearch isAmong machineAddr put inside target isLocalCall callOf callAt callDeed slotTrace deedTrace entryDeed rowFor labelOf labelDeed labelSymbols labelTrace loadOf jobTrace readOnly loader-gives invalidBy endOf grown taken gatherStep fromStart canBorrow borrowed owned loader-placed placing copiedTo copyStep copiedFrom relocationAt headerAt firstFrom usedHeader usedBefore placeOf within programAddress immediateAt halvesDeed wordDeed addressDeed plan6464 relativeText relativeValue planRelative functionCall builtinCall callByName plan6432 planAt relocationTrace sectionAt startsWith unsupported outsideFile surveyStep surveyFrom andThen each settle sizeCheck ascends loader-headerCheck sectionsCheck textCheck jobOf _then_ validated prepared reached
 computed =
     record {
       ready-2 = refl;

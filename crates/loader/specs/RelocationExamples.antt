@@ -13,7 +13,7 @@ use Rattle.elf_parser.specs.Strings.{stringIn, stringCheck, gives, terminated, 
 use Rattle.elf_parser.specs.Names.{nameBy}
 use Rattle.elf_parser.specs.SectionNames.{sameBytes}
 use Rattle.program.specs.declared.Row.{Row}
-use Rattle.program.specs.Search.{narrowed, below, countedFrom, binarySearch, isAmong}
+use Rattle.program.specs.Search.{narrowed, binarySearch, isAmong}
 use Rattle.program.specs.HashedLegacy.{legacyRow, legacyKey, keptSymbol, isTaken}
 use Rattle.elf_parser.specs.Records.{entryAt}
 use Rattle.loader.specs.declared.error.ElfError.the-variants.{InvalidVirtualAddress, UnknownRelocation, UnknownSymbol, UnresolvedSymbol, ValueOutOfBounds, AddendNegative}
@@ -223,7 +223,7 @@ callOfHash builtins reject at = builtinCall builtins reject 24 at 0 232 3 9
 
 built-ins : callOfHash (8 ∷ 10 ∷ []) true 4 ∷ callOfHash (8 ∷ 10 ∷ []) false 4 ∷ callOfHash (8 ∷ 9 ∷ []) true 4 ∷ callOfHash (8 ∷ 9 ∷ []) true 21 ∷ callOfHash [] false 21 ∷ []
     ≡ Refuse (UnresolvedSymbol 232 3 0) ∷ Key 4 9 ∷ Key 4 9 ∷ Refuse ValueOutOfBounds ∷ Refuse ValueOutOfBounds ∷ []
-unfolding builtinCall isAmong binarySearch countedFrom narrowed below _if_else_
+unfolding builtinCall isAmong binarySearch narrowed _if_else_
 built-ins = refl
 
 -- version 2: address 0x18 is the second header's; address 8 is in both, and the header used last maps it. Taken alone, the first maps it
@@ -275,7 +275,7 @@ type-10 : called 2 8 0 [] ∷ called 2 8 0x18 [] ∷ called 2 16 0 [] ∷ called
     ∷ Refuse (UnresolvedSymbol 232 0 0x110)
     ∷ Key 4 0
     ∷ []
-unfolding relocationAt headerAt firstFrom usedBefore usedHeader placeOf planAt plan6432 callByName functionCall builtinCall immediateAt within rowFor legacyRow legacyKey keptSymbol isTaken isAmong binarySearch countedFrom narrowed below nameBy stringIn stringCheck gives terminated beforeZero sameBytes body murmur3 _if_else_ le bytesOf entryAt rel sym programHeader sectionHeader
+unfolding relocationAt headerAt firstFrom usedBefore usedHeader placeOf planAt plan6432 callByName functionCall builtinCall immediateAt within rowFor legacyRow legacyKey keptSymbol isTaken isAmong binarySearch narrowed nameBy stringIn stringCheck gives terminated beforeZero sameBytes body murmur3 _if_else_ le bytesOf entryAt rel sym programHeader sectionHeader
 type-10 = refl
 
 -- labels: 2 and 0x12 are taken, value 0 too; 1 and 0x22 are passed over; a value at the text's end

@@ -20,7 +20,7 @@ use Rattle.elf_parser.specs.Strings.{stringCheck, beforeZero, terminated, gives
 use Rattle.elf_parser.specs.Types.{fileHeader, programHeader, sectionHeader, sym, rel}
 use Rattle.program.specs.HashedLegacy.{legacyKey, keptSymbol, isTaken, legacyRow}
 use Rattle.program.specs.Rows.{rank, register, registered, unregister}
-use Rattle.program.specs.Search.{narrowed, below, countedFrom, binarySearch, isAmong}
+use Rattle.program.specs.Search.{narrowed, binarySearch, isAmong}
 use Rattle.loader.specs.Addresses.{machineAddr}
 use Rattle.loader.specs.Bytes.{put}
 use Rattle.loader.specs.Calls.{inside, target, isLocalCall, callOf, callAt, callDeed, slotTrace}
@@ -65,7 +65,7 @@ load file = loaded all-on 4 file
 
 -- the two good files: the entry's row comes last and moves that of the call's target
 good : load version-2 ∷ load version-1 ∷ [] ≡ (0 ∷ 2 ∷ 0 ∷ 2 ∷ 1 ∷ []) ∷ (0 ∷ 1 ∷ 0 ∷ 2 ∷ 1 ∷ []) ∷ []
-unfolding _if_else_ indexKey keyIn slotAt insnAt le bytesOf body murmur3 firstWith segmentSlice sectionSlice orElse withTag valuesFrom sectionOffset orSection relocationsAt relocationsBy relocationsOf symbolsBy symbolsOf linking dynamicIn _then-reader_ headerFixed headerRight reader-headerCheck tablesCheck _into_ over nameBy firstCheck fileCheck namedLayout parsed bytesAt loadStep containsStep entryAt sliced symbolTableIn symbolTableOf fileRange sectionCheck leaves sectionStep sameBytes roleOf reader-placed named stringCheck beforeZero terminated reader-gives stringIn fileHeader programHeader sectionHeader sym rel legacyKey keptSymbol isTaken legacyRow rank register registered unregister narrowed below countedFrom binarySearch isAmong machineAddr put inside target isLocalCall callOf callAt callDeed slotTrace deedTrace entryDeed rowFor labelOf labelDeed labelSymbols labelTrace loadOf jobTrace readOnly loader-gives invalidBy endOf grown taken gatherStep fromStart canBorrow borrowed owned loader-placed placing copiedTo copyStep copiedFrom relocationAt headerAt firstFrom usedHeader usedBefore placeOf within programAddress immediateAt halvesDeed wordDeed addressDeed plan6464 relativeText relativeValue planRelative functionCall builtinCall callByName plan6432 planAt relocationTrace sectionAt startsWith unsupported outsideFile surveyStep surveyFrom andThen each settle sizeCheck ascends loader-headerCheck sectionsCheck textCheck jobOf _then_ validated prepared
+unfolding _if_else_ indexKey keyIn slotAt insnAt le bytesOf body murmur3 firstWith segmentSlice sectionSlice orElse withTag valuesFrom sectionOffset orSection relocationsAt relocationsBy relocationsOf symbolsBy symbolsOf linking dynamicIn _then-reader_ headerFixed headerRight reader-headerCheck tablesCheck _into_ over nameBy firstCheck fileCheck namedLayout parsed bytesAt loadStep containsStep entryAt sliced symbolTableIn symbolTableOf fileRange sectionCheck leaves sectionStep sameBytes roleOf reader-placed named stringCheck beforeZero terminated reader-gives stringIn fileHeader programHeader sectionHeader sym rel legacyKey keptSymbol isTaken legacyRow rank register registered unregister narrowed binarySearch isAmong machineAddr put inside target isLocalCall callOf callAt callDeed slotTrace deedTrace entryDeed rowFor labelOf labelDeed labelSymbols labelTrace loadOf jobTrace readOnly loader-gives invalidBy endOf grown taken gatherStep fromStart canBorrow borrowed owned loader-placed placing copiedTo copyStep copiedFrom relocationAt headerAt firstFrom usedHeader usedBefore placeOf within programAddress immediateAt halvesDeed wordDeed addressDeed plan6464 relativeText relativeValue planRelative functionCall builtinCall callByName plan6432 planAt relocationTrace sectionAt startsWith unsupported outsideFile surveyStep surveyFrom andThen each settle sizeCheck ascends loader-headerCheck sectionsCheck textCheck jobOf _then_ validated prepared
 good = refl
 
 -- ABI; machines 247 and 248; type; each version switched off, and version 2 without optimize
@@ -92,7 +92,7 @@ header :
     ∷ (34 ∷ 0 ∷ 0 ∷ 0 ∷ [])
     ∷ (0 ∷ 1 ∷ 0 ∷ 2 ∷ 1 ∷ [])
     ∷ []
-unfolding _if_else_ indexKey keyIn slotAt insnAt le bytesOf body murmur3 firstWith segmentSlice sectionSlice orElse withTag valuesFrom sectionOffset orSection relocationsAt relocationsBy relocationsOf symbolsBy symbolsOf linking dynamicIn _then-reader_ headerFixed headerRight reader-headerCheck tablesCheck _into_ over nameBy firstCheck fileCheck namedLayout parsed bytesAt loadStep containsStep entryAt sliced symbolTableIn symbolTableOf fileRange sectionCheck leaves sectionStep sameBytes roleOf reader-placed named stringCheck beforeZero terminated reader-gives stringIn fileHeader programHeader sectionHeader sym rel legacyKey keptSymbol isTaken legacyRow rank register registered unregister narrowed below countedFrom binarySearch isAmong machineAddr put inside target isLocalCall callOf callAt callDeed slotTrace deedTrace entryDeed rowFor labelOf labelDeed labelSymbols labelTrace loadOf jobTrace readOnly loader-gives invalidBy endOf grown taken gatherStep fromStart canBorrow borrowed owned loader-placed placing copiedTo copyStep copiedFrom relocationAt headerAt firstFrom usedHeader usedBefore placeOf within programAddress immediateAt halvesDeed wordDeed addressDeed plan6464 relativeText relativeValue planRelative functionCall builtinCall callByName plan6432 planAt relocationTrace sectionAt startsWith unsupported outsideFile surveyStep surveyFrom andThen each settle sizeCheck ascends loader-headerCheck sectionsCheck textCheck jobOf _then_ validated prepared
+unfolding _if_else_ indexKey keyIn slotAt insnAt le bytesOf body murmur3 firstWith segmentSlice sectionSlice orElse withTag valuesFrom sectionOffset orSection relocationsAt relocationsBy relocationsOf symbolsBy symbolsOf linking dynamicIn _then-reader_ headerFixed headerRight reader-headerCheck tablesCheck _into_ over nameBy firstCheck fileCheck namedLayout parsed bytesAt loadStep containsStep entryAt sliced symbolTableIn symbolTableOf fileRange sectionCheck leaves sectionStep sameBytes roleOf reader-placed named stringCheck beforeZero terminated reader-gives stringIn fileHeader programHeader sectionHeader sym rel legacyKey keptSymbol isTaken legacyRow rank register registered unregister narrowed binarySearch isAmong machineAddr put inside target isLocalCall callOf callAt callDeed slotTrace deedTrace entryDeed rowFor labelOf labelDeed labelSymbols labelTrace loadOf jobTrace readOnly loader-gives invalidBy endOf grown taken gatherStep fromStart canBorrow borrowed owned loader-placed placing copiedTo copyStep copiedFrom relocationAt headerAt firstFrom usedHeader usedBefore placeOf within programAddress immediateAt halvesDeed wordDeed addressDeed plan6464 relativeText relativeValue planRelative functionCall builtinCall callByName plan6432 planAt relocationTrace sectionAt startsWith unsupported outsideFile surveyStep surveyFrom andThen each settle sizeCheck ascends loader-headerCheck sectionsCheck textCheck jobOf _then_ validated prepared
 header = refl
 
 -- with so many program headers behind the sections' headers
@@ -109,7 +109,7 @@ segments :
     ∷ (2 ∷ 0 ∷ 0 ∷ 0 ∷ [])
     ∷ (0 ∷ 1 ∷ 0 ∷ 2 ∷ 1 ∷ [])
     ∷ []
-unfolding _if_else_ indexKey keyIn slotAt insnAt le bytesOf body murmur3 firstWith segmentSlice sectionSlice orElse withTag valuesFrom sectionOffset orSection relocationsAt relocationsBy relocationsOf symbolsBy symbolsOf linking dynamicIn _then-reader_ headerFixed headerRight reader-headerCheck tablesCheck _into_ over nameBy firstCheck fileCheck namedLayout parsed bytesAt loadStep containsStep entryAt sliced symbolTableIn symbolTableOf fileRange sectionCheck leaves sectionStep sameBytes roleOf reader-placed named stringCheck beforeZero terminated reader-gives stringIn fileHeader programHeader sectionHeader sym rel legacyKey keptSymbol isTaken legacyRow rank register registered unregister narrowed below countedFrom binarySearch isAmong machineAddr put inside target isLocalCall callOf callAt callDeed slotTrace deedTrace entryDeed rowFor labelOf labelDeed labelSymbols labelTrace loadOf jobTrace readOnly loader-gives invalidBy endOf grown taken gatherStep fromStart canBorrow borrowed owned loader-placed placing copiedTo copyStep copiedFrom relocationAt headerAt firstFrom usedHeader usedBefore placeOf within programAddress immediateAt halvesDeed wordDeed addressDeed plan6464 relativeText relativeValue planRelative functionCall builtinCall callByName plan6432 planAt relocationTrace sectionAt startsWith unsupported outsideFile surveyStep surveyFrom andThen each settle sizeCheck ascends loader-headerCheck sectionsCheck textCheck jobOf _then_ validated prepared
+unfolding _if_else_ indexKey keyIn slotAt insnAt le bytesOf body murmur3 firstWith segmentSlice sectionSlice orElse withTag valuesFrom sectionOffset orSection relocationsAt relocationsBy relocationsOf symbolsBy symbolsOf linking dynamicIn _then-reader_ headerFixed headerRight reader-headerCheck tablesCheck _into_ over nameBy firstCheck fileCheck namedLayout parsed bytesAt loadStep containsStep entryAt sliced symbolTableIn symbolTableOf fileRange sectionCheck leaves sectionStep sameBytes roleOf reader-placed named stringCheck beforeZero terminated reader-gives stringIn fileHeader programHeader sectionHeader sym rel legacyKey keptSymbol isTaken legacyRow rank register registered unregister narrowed binarySearch isAmong machineAddr put inside target isLocalCall callOf callAt callDeed slotTrace deedTrace entryDeed rowFor labelOf labelDeed labelSymbols labelTrace loadOf jobTrace readOnly loader-gives invalidBy endOf grown taken gatherStep fromStart canBorrow borrowed owned loader-placed placing copiedTo copyStep copiedFrom relocationAt headerAt firstFrom usedHeader usedBefore placeOf within programAddress immediateAt halvesDeed wordDeed addressDeed plan6464 relativeText relativeValue planRelative functionCall builtinCall callByName plan6432 planAt relocationTrace sectionAt startsWith unsupported outsideFile surveyStep surveyFrom andThen each settle sizeCheck ascends loader-headerCheck sectionsCheck textCheck jobOf _then_ validated prepared
 segments = refl
 
 -- these bytes over those from `at` on
@@ -139,7 +139,7 @@ sections :
     ∷ (0 ∷ 2 ∷ 0 ∷ 2 ∷ 1 ∷ [])
     ∷ (9 ∷ 0 ∷ 0 ∷ 0 ∷ [])
     ∷ []
-unfolding _if_else_ indexKey keyIn slotAt insnAt le bytesOf body murmur3 firstWith segmentSlice sectionSlice orElse withTag valuesFrom sectionOffset orSection relocationsAt relocationsBy relocationsOf symbolsBy symbolsOf linking dynamicIn _then-reader_ headerFixed headerRight reader-headerCheck tablesCheck _into_ over nameBy firstCheck fileCheck namedLayout parsed bytesAt loadStep containsStep entryAt sliced symbolTableIn symbolTableOf fileRange sectionCheck leaves sectionStep sameBytes roleOf reader-placed named stringCheck beforeZero terminated reader-gives stringIn fileHeader programHeader sectionHeader sym rel legacyKey keptSymbol isTaken legacyRow rank register registered unregister narrowed below countedFrom binarySearch isAmong machineAddr put inside target isLocalCall callOf callAt callDeed slotTrace deedTrace entryDeed rowFor labelOf labelDeed labelSymbols labelTrace loadOf jobTrace readOnly loader-gives invalidBy endOf grown taken gatherStep fromStart canBorrow borrowed owned loader-placed placing copiedTo copyStep copiedFrom relocationAt headerAt firstFrom usedHeader usedBefore placeOf within programAddress immediateAt halvesDeed wordDeed addressDeed plan6464 relativeText relativeValue planRelative functionCall builtinCall callByName plan6432 planAt relocationTrace sectionAt startsWith unsupported outsideFile surveyStep surveyFrom andThen each settle sizeCheck ascends loader-headerCheck sectionsCheck textCheck jobOf _then_ validated prepared
+unfolding _if_else_ indexKey keyIn slotAt insnAt le bytesOf body murmur3 firstWith segmentSlice sectionSlice orElse withTag valuesFrom sectionOffset orSection relocationsAt relocationsBy relocationsOf symbolsBy symbolsOf linking dynamicIn _then-reader_ headerFixed headerRight reader-headerCheck tablesCheck _into_ over nameBy firstCheck fileCheck namedLayout parsed bytesAt loadStep containsStep entryAt sliced symbolTableIn symbolTableOf fileRange sectionCheck leaves sectionStep sameBytes roleOf reader-placed named stringCheck beforeZero terminated reader-gives stringIn fileHeader programHeader sectionHeader sym rel legacyKey keptSymbol isTaken legacyRow rank register registered unregister narrowed binarySearch isAmong machineAddr put inside target isLocalCall callOf callAt callDeed slotTrace deedTrace entryDeed rowFor labelOf labelDeed labelSymbols labelTrace loadOf jobTrace readOnly loader-gives invalidBy endOf grown taken gatherStep fromStart canBorrow borrowed owned loader-placed placing copiedTo copyStep copiedFrom relocationAt headerAt firstFrom usedHeader usedBefore placeOf within programAddress immediateAt halvesDeed wordDeed addressDeed plan6464 relativeText relativeValue planRelative functionCall builtinCall callByName plan6432 planAt relocationTrace sectionAt startsWith unsupported outsideFile surveyStep surveyFrom andThen each settle sizeCheck ascends loader-headerCheck sectionsCheck textCheck jobOf _then_ validated prepared
 sections = refl
 
 -- the entry at the text's last slot, at its end, one byte before the text, and four bytes behind its start: 20 and 21
@@ -154,7 +154,7 @@ entry :
     ∷ (20 ∷ 0 ∷ 0 ∷ 0 ∷ [])
     ∷ (21 ∷ 0 ∷ 0 ∷ 0 ∷ [])
     ∷ []
-unfolding _if_else_ indexKey keyIn slotAt insnAt le bytesOf body murmur3 firstWith segmentSlice sectionSlice orElse withTag valuesFrom sectionOffset orSection relocationsAt relocationsBy relocationsOf symbolsBy symbolsOf linking dynamicIn _then-reader_ headerFixed headerRight reader-headerCheck tablesCheck _into_ over nameBy firstCheck fileCheck namedLayout parsed bytesAt loadStep containsStep entryAt sliced symbolTableIn symbolTableOf fileRange sectionCheck leaves sectionStep sameBytes roleOf reader-placed named stringCheck beforeZero terminated reader-gives stringIn fileHeader programHeader sectionHeader sym rel legacyKey keptSymbol isTaken legacyRow rank register registered unregister narrowed below countedFrom binarySearch isAmong machineAddr put inside target isLocalCall callOf callAt callDeed slotTrace deedTrace entryDeed rowFor labelOf labelDeed labelSymbols labelTrace loadOf jobTrace readOnly loader-gives invalidBy endOf grown taken gatherStep fromStart canBorrow borrowed owned loader-placed placing copiedTo copyStep copiedFrom relocationAt headerAt firstFrom usedHeader usedBefore placeOf within programAddress immediateAt halvesDeed wordDeed addressDeed plan6464 relativeText relativeValue planRelative functionCall builtinCall callByName plan6432 planAt relocationTrace sectionAt startsWith unsupported outsideFile surveyStep surveyFrom andThen each settle sizeCheck ascends loader-headerCheck sectionsCheck textCheck jobOf _then_ validated prepared
+unfolding _if_else_ indexKey keyIn slotAt insnAt le bytesOf body murmur3 firstWith segmentSlice sectionSlice orElse withTag valuesFrom sectionOffset orSection relocationsAt relocationsBy relocationsOf symbolsBy symbolsOf linking dynamicIn _then-reader_ headerFixed headerRight reader-headerCheck tablesCheck _into_ over nameBy firstCheck fileCheck namedLayout parsed bytesAt loadStep containsStep entryAt sliced symbolTableIn symbolTableOf fileRange sectionCheck leaves sectionStep sameBytes roleOf reader-placed named stringCheck beforeZero terminated reader-gives stringIn fileHeader programHeader sectionHeader sym rel legacyKey keptSymbol isTaken legacyRow rank register registered unregister narrowed binarySearch isAmong machineAddr put inside target isLocalCall callOf callAt callDeed slotTrace deedTrace entryDeed rowFor labelOf labelDeed labelSymbols labelTrace loadOf jobTrace readOnly loader-gives invalidBy endOf grown taken gatherStep fromStart canBorrow borrowed owned loader-placed placing copiedTo copyStep copiedFrom relocationAt headerAt firstFrom usedHeader usedBefore placeOf within programAddress immediateAt halvesDeed wordDeed addressDeed plan6464 relativeText relativeValue planRelative functionCall builtinCall callByName plan6432 planAt relocationTrace sectionAt startsWith unsupported outsideFile surveyStep surveyFrom andThen each settle sizeCheck ascends loader-headerCheck sectionsCheck textCheck jobOf _then_ validated prepared
 entry = refl
 
 -- version 2's text ends at 0x200000000, and eight bytes and one byte behind it; version 1's stands at its place in the file where broken files are rejected, and at most at the program's start
@@ -173,7 +173,7 @@ place :
     ∷ (0 ∷ 1 ∷ 0 ∷ 2 ∷ 1 ∷ [])
     ∷ (33 ∷ 0 ∷ 0 ∷ 0 ∷ [])
     ∷ []
-unfolding _if_else_ indexKey keyIn slotAt insnAt le bytesOf body murmur3 firstWith segmentSlice sectionSlice orElse withTag valuesFrom sectionOffset orSection relocationsAt relocationsBy relocationsOf symbolsBy symbolsOf linking dynamicIn _then-reader_ headerFixed headerRight reader-headerCheck tablesCheck _into_ over nameBy firstCheck fileCheck namedLayout parsed bytesAt loadStep containsStep entryAt sliced symbolTableIn symbolTableOf fileRange sectionCheck leaves sectionStep sameBytes roleOf reader-placed named stringCheck beforeZero terminated reader-gives stringIn fileHeader programHeader sectionHeader sym rel legacyKey keptSymbol isTaken legacyRow rank register registered unregister narrowed below countedFrom binarySearch isAmong machineAddr put inside target isLocalCall callOf callAt callDeed slotTrace deedTrace entryDeed rowFor labelOf labelDeed labelSymbols labelTrace loadOf jobTrace readOnly loader-gives invalidBy endOf grown taken gatherStep fromStart canBorrow borrowed owned loader-placed placing copiedTo copyStep copiedFrom relocationAt headerAt firstFrom usedHeader usedBefore placeOf within programAddress immediateAt halvesDeed wordDeed addressDeed plan6464 relativeText relativeValue planRelative functionCall builtinCall callByName plan6432 planAt relocationTrace sectionAt startsWith unsupported outsideFile surveyStep surveyFrom andThen each settle sizeCheck ascends loader-headerCheck sectionsCheck textCheck jobOf _then_ validated prepared
+unfolding _if_else_ indexKey keyIn slotAt insnAt le bytesOf body murmur3 firstWith segmentSlice sectionSlice orElse withTag valuesFrom sectionOffset orSection relocationsAt relocationsBy relocationsOf symbolsBy symbolsOf linking dynamicIn _then-reader_ headerFixed headerRight reader-headerCheck tablesCheck _into_ over nameBy firstCheck fileCheck namedLayout parsed bytesAt loadStep containsStep entryAt sliced symbolTableIn symbolTableOf fileRange sectionCheck leaves sectionStep sameBytes roleOf reader-placed named stringCheck beforeZero terminated reader-gives stringIn fileHeader programHeader sectionHeader sym rel legacyKey keptSymbol isTaken legacyRow rank register registered unregister narrowed binarySearch isAmong machineAddr put inside target isLocalCall callOf callAt callDeed slotTrace deedTrace entryDeed rowFor labelOf labelDeed labelSymbols labelTrace loadOf jobTrace readOnly loader-gives invalidBy endOf grown taken gatherStep fromStart canBorrow borrowed owned loader-placed placing copiedTo copyStep copiedFrom relocationAt headerAt firstFrom usedHeader usedBefore placeOf within programAddress immediateAt halvesDeed wordDeed addressDeed plan6464 relativeText relativeValue planRelative functionCall builtinCall callByName plan6432 planAt relocationTrace sectionAt startsWith unsupported outsideFile surveyStep surveyFrom andThen each settle sizeCheck ascends loader-headerCheck sectionsCheck textCheck jobOf _then_ validated prepared
 place = refl
 
 -- where the read-only bytes stand in the image, and how many they are
@@ -183,7 +183,7 @@ readOnlyAt (refuses e) = numbered (reportOf e)
 
 -- a .rodata counts among the read-only sections also where its header is of type 0; contents by index refuse such a header, a load does not
 rodata : readOnlyAt (loadOf (withRodata 1) [] all-on 368 368 4) ∷ readOnlyAt (loadOf (withRodata 0) [] all-on 368 368 4) ∷ [] ≡ (0 ∷ 64 ∷ 16 ∷ []) ∷ (0 ∷ 64 ∷ 16 ∷ []) ∷ []
-unfolding _if_else_ indexKey keyIn slotAt insnAt le bytesOf body murmur3 firstWith segmentSlice sectionSlice orElse withTag valuesFrom sectionOffset orSection relocationsAt relocationsBy relocationsOf symbolsBy symbolsOf linking dynamicIn _then-reader_ headerFixed headerRight reader-headerCheck tablesCheck _into_ over nameBy firstCheck fileCheck namedLayout parsed bytesAt loadStep containsStep entryAt sliced symbolTableIn symbolTableOf fileRange sectionCheck leaves sectionStep sameBytes roleOf reader-placed named stringCheck beforeZero terminated reader-gives stringIn fileHeader programHeader sectionHeader sym rel legacyKey keptSymbol isTaken legacyRow rank register registered unregister narrowed below countedFrom binarySearch isAmong machineAddr put inside target isLocalCall callOf callAt callDeed slotTrace deedTrace entryDeed rowFor labelOf labelDeed labelSymbols labelTrace loadOf jobTrace readOnly loader-gives invalidBy endOf grown taken gatherStep fromStart canBorrow borrowed owned loader-placed placing copiedTo copyStep copiedFrom relocationAt headerAt firstFrom usedHeader usedBefore placeOf within programAddress immediateAt halvesDeed wordDeed addressDeed plan6464 relativeText relativeValue planRelative functionCall builtinCall callByName plan6432 planAt relocationTrace sectionAt startsWith unsupported outsideFile surveyStep surveyFrom andThen each settle sizeCheck ascends loader-headerCheck sectionsCheck textCheck jobOf _then_ validated prepared
+unfolding _if_else_ indexKey keyIn slotAt insnAt le bytesOf body murmur3 firstWith segmentSlice sectionSlice orElse withTag valuesFrom sectionOffset orSection relocationsAt relocationsBy relocationsOf symbolsBy symbolsOf linking dynamicIn _then-reader_ headerFixed headerRight reader-headerCheck tablesCheck _into_ over nameBy firstCheck fileCheck namedLayout parsed bytesAt loadStep containsStep entryAt sliced symbolTableIn symbolTableOf fileRange sectionCheck leaves sectionStep sameBytes roleOf reader-placed named stringCheck beforeZero terminated reader-gives stringIn fileHeader programHeader sectionHeader sym rel legacyKey keptSymbol isTaken legacyRow rank register registered unregister narrowed binarySearch isAmong machineAddr put inside target isLocalCall callOf callAt callDeed slotTrace deedTrace entryDeed rowFor labelOf labelDeed labelSymbols labelTrace loadOf jobTrace readOnly loader-gives invalidBy endOf grown taken gatherStep fromStart canBorrow borrowed owned loader-placed placing copiedTo copyStep copiedFrom relocationAt headerAt firstFrom usedHeader usedBefore placeOf within programAddress immediateAt halvesDeed wordDeed addressDeed plan6464 relativeText relativeValue planRelative functionCall builtinCall callByName plan6432 planAt relocationTrace sectionAt startsWith unsupported outsideFile surveyStep surveyFrom andThen each settle sizeCheck ascends loader-headerCheck sectionsCheck textCheck jobOf _then_ validated prepared
 rodata = refl
 
 -- the call's target: the last slot, one behind it, its own slot, and one before the first
@@ -202,7 +202,7 @@ call-target :
     ∷ (0 ∷ 2 ∷ 0 ∷ 1 ∷ 0 ∷ [])
     ∷ (0 ∷ 1 ∷ 0 ∷ 2 ∷ 1 ∷ [])
     ∷ []
-unfolding _if_else_ indexKey keyIn slotAt insnAt le bytesOf body murmur3 firstWith segmentSlice sectionSlice orElse withTag valuesFrom sectionOffset orSection relocationsAt relocationsBy relocationsOf symbolsBy symbolsOf linking dynamicIn _then-reader_ headerFixed headerRight reader-headerCheck tablesCheck _into_ over nameBy firstCheck fileCheck namedLayout parsed bytesAt loadStep containsStep entryAt sliced symbolTableIn symbolTableOf fileRange sectionCheck leaves sectionStep sameBytes roleOf reader-placed named stringCheck beforeZero terminated reader-gives stringIn fileHeader programHeader sectionHeader sym rel legacyKey keptSymbol isTaken legacyRow rank register registered unregister narrowed below countedFrom binarySearch isAmong machineAddr put inside target isLocalCall callOf callAt callDeed slotTrace deedTrace entryDeed rowFor labelOf labelDeed labelSymbols labelTrace loadOf jobTrace readOnly loader-gives invalidBy endOf grown taken gatherStep fromStart canBorrow borrowed owned loader-placed placing copiedTo copyStep copiedFrom relocationAt headerAt firstFrom usedHeader usedBefore placeOf within programAddress immediateAt halvesDeed wordDeed addressDeed plan6464 relativeText relativeValue planRelative functionCall builtinCall callByName plan6432 planAt relocationTrace sectionAt startsWith unsupported outsideFile surveyStep surveyFrom andThen each settle sizeCheck ascends loader-headerCheck sectionsCheck textCheck jobOf _then_ validated prepared
+unfolding _if_else_ indexKey keyIn slotAt insnAt le bytesOf body murmur3 firstWith segmentSlice sectionSlice orElse withTag valuesFrom sectionOffset orSection relocationsAt relocationsBy relocationsOf symbolsBy symbolsOf linking dynamicIn _then-reader_ headerFixed headerRight reader-headerCheck tablesCheck _into_ over nameBy firstCheck fileCheck namedLayout parsed bytesAt loadStep containsStep entryAt sliced symbolTableIn symbolTableOf fileRange sectionCheck leaves sectionStep sameBytes roleOf reader-placed named stringCheck beforeZero terminated reader-gives stringIn fileHeader programHeader sectionHeader sym rel legacyKey keptSymbol isTaken legacyRow rank register registered unregister narrowed binarySearch isAmong machineAddr put inside target isLocalCall callOf callAt callDeed slotTrace deedTrace entryDeed rowFor labelOf labelDeed labelSymbols labelTrace loadOf jobTrace readOnly loader-gives invalidBy endOf grown taken gatherStep fromStart canBorrow borrowed owned loader-placed placing copiedTo copyStep copiedFrom relocationAt headerAt firstFrom usedHeader usedBefore placeOf within programAddress immediateAt halvesDeed wordDeed addressDeed plan6464 relativeText relativeValue planRelative functionCall builtinCall callByName plan6432 planAt relocationTrace sectionAt startsWith unsupported outsideFile surveyStep surveyFrom andThen each settle sizeCheck ascends loader-headerCheck sectionsCheck textCheck jobOf _then_ validated prepared
 call-target = refl
 
 -- too few rows for two keys: 43 with the rows; two symbols named entrypoint: 24 with the key; with one of them a table of one row is full, and the entry still fits
@@ -219,7 +219,7 @@ room :
     ∷ (24 ∷ 0x71e3_cf81 ∷ 0 ∷ 0 ∷ [])
     ∷ (0 ∷ 1 ∷ 0 ∷ 1 ∷ 0 ∷ [])
     ∷ []
-unfolding _if_else_ indexKey keyIn slotAt insnAt le bytesOf body murmur3 firstWith segmentSlice sectionSlice orElse withTag valuesFrom sectionOffset orSection relocationsAt relocationsBy relocationsOf symbolsBy symbolsOf linking dynamicIn _then-reader_ headerFixed headerRight reader-headerCheck tablesCheck _into_ over nameBy firstCheck fileCheck namedLayout parsed bytesAt loadStep containsStep entryAt sliced symbolTableIn symbolTableOf fileRange sectionCheck leaves sectionStep sameBytes roleOf reader-placed named stringCheck beforeZero terminated reader-gives stringIn fileHeader programHeader sectionHeader sym rel legacyKey keptSymbol isTaken legacyRow rank register registered unregister narrowed below countedFrom binarySearch isAmong machineAddr put inside target isLocalCall callOf callAt callDeed slotTrace deedTrace entryDeed rowFor labelOf labelDeed labelSymbols labelTrace loadOf jobTrace readOnly loader-gives invalidBy endOf grown taken gatherStep fromStart canBorrow borrowed owned loader-placed placing copiedTo copyStep copiedFrom relocationAt headerAt firstFrom usedHeader usedBefore placeOf within programAddress immediateAt halvesDeed wordDeed addressDeed plan6464 relativeText relativeValue planRelative functionCall builtinCall callByName plan6432 planAt relocationTrace sectionAt startsWith unsupported outsideFile surveyStep surveyFrom andThen each settle sizeCheck ascends loader-headerCheck sectionsCheck textCheck jobOf _then_ validated prepared
+unfolding _if_else_ indexKey keyIn slotAt insnAt le bytesOf body murmur3 firstWith segmentSlice sectionSlice orElse withTag valuesFrom sectionOffset orSection relocationsAt relocationsBy relocationsOf symbolsBy symbolsOf linking dynamicIn _then-reader_ headerFixed headerRight reader-headerCheck tablesCheck _into_ over nameBy firstCheck fileCheck namedLayout parsed bytesAt loadStep containsStep entryAt sliced symbolTableIn symbolTableOf fileRange sectionCheck leaves sectionStep sameBytes roleOf reader-placed named stringCheck beforeZero terminated reader-gives stringIn fileHeader programHeader sectionHeader sym rel legacyKey keptSymbol isTaken legacyRow rank register registered unregister narrowed binarySearch isAmong machineAddr put inside target isLocalCall callOf callAt callDeed slotTrace deedTrace entryDeed rowFor labelOf labelDeed labelSymbols labelTrace loadOf jobTrace readOnly loader-gives invalidBy endOf grown taken gatherStep fromStart canBorrow borrowed owned loader-placed placing copiedTo copyStep copiedFrom relocationAt headerAt firstFrom usedHeader usedBefore placeOf within programAddress immediateAt halvesDeed wordDeed addressDeed plan6464 relativeText relativeValue planRelative functionCall builtinCall callByName plan6432 planAt relocationTrace sectionAt startsWith unsupported outsideFile surveyStep surveyFrom andThen each settle sizeCheck ascends loader-headerCheck sectionsCheck textCheck jobOf _then_ validated prepared
 room = refl
 
 -- ---- sizes and built-ins: 16,777,216 bytes and one more, a buffer shorter than the file, keys that do not ascend

@@ -12,7 +12,7 @@ use lib.Seq.{length-take-le, take-length, getD-take, drop-cons}
 use lib.Dec.{ltb, leb, eqb}
 use borrow.Author.Tests.{lt-ltb, le-ltb, le-leb, lt-leb, eq-eqb, ne-eqb, eqb-false}
 use Rattle.ebpf.specs.Choice.{_if_else_, or-false}
-use Rattle.program.specs.Search.{below, Below, narrowed, countedFrom, binarySearch, isAmong, indexOf, oneOf, member, Over, Rising, place}
+use Rattle.program.specs.Search.{halved, Halved, narrowed, Left, leftOf, binarySearch, isAmong, indexOf, oneOf, member, Over, Rising, place}
 use Rattle.program.proofs.Cases.{by-lt, by-le, by-eq}
 
 -- ---- a number or 0, by a test
@@ -34,104 +34,114 @@ module _ (half a b : ℕ) (in-a : a < 2 ^ 32) (in-b : b < 2 ^ 32) where
 
 -- ---- the binary search, on any list
 
+-- the end
+narrow-ends : (k : ℕ) (xs : List ℕ) (base size : ℕ) → size ≤ 1 → narrowed size k xs base size ≡ base
+unfolding narrowed _if_else_
+narrow-ends k xs base zero l = refl
+narrow-ends k xs base (suc n) l = rw (le-ltb 1 (suc n) l) refl
+
 -- turns that are not needed change nothing
 spare : (m n k : ℕ) (xs : List ℕ) (base size : ℕ) → size ≤ m → size ≤ n → narrowed m k xs base size ≡ narrowed n k xs base size
 unfolding narrowed _if_else_
 spare zero zero k xs base size p q = refl
-spare zero (suc n) k xs base size p q = rw (le-ltb 8 size (omega arith)) refl
-spare (suc m) zero k xs base size p q = rw (le-ltb 8 size (omega arith)) refl
+spare zero (suc n) k xs base size p q = rw (le-ltb 1 size (omega arith)) refl
+spare (suc m) zero k xs base size p q = rw (le-ltb 1 size (omega arith)) refl
 spare (suc m) (suc n) k xs base size p q =
-    by-lt 8 size
-    (λ (b : Bool). _≡_ {A = ℕ} (narrowed m k xs (base + (size / 2 if leb (getD xs (base + size / 2) 0) k else 0)) (size - size / 2) if b else base)
-    (narrowed n k xs (base + (size / 2 if leb (getD xs (base + size / 2) 0) k else 0)) (size - size / 2) if b else base))
+    by-lt 1 size
+    (λ (b : Bool). _≡_ {A = ℕ} (narrowed m k xs (halved k xs base (size / 2)) (size - size / 2) if b else base) (narrowed n k xs (halved k xs base (size / 2)) (size - size / 2) if b else base))
     (λ l. spare m n k xs _ (size - size / 2) (omega arith) (omega arith))
     (λ _. refl)
 
--- a turn
-turn : (k : ℕ) (xs : List ℕ) (base size : ℕ) → 8 < size
-    → narrowed size k xs base size ≡ narrowed (size - size / 2) k xs (base + (size / 2 if leb (getD xs (base + size / 2) 0) k else 0)) (size - size / 2)
+halved-le : (k : ℕ) (xs : List ℕ) (base half : ℕ) → halved k xs base half ≤ base + half
+halved-le k xs base half = omega (arith, half-le half (getD xs (base + half) 0) k)
+
+module _ (k : ℕ) (xs : List ℕ) (base half : ℕ) where
+  pub halved-up : getD xs (base + half) 0 ≤ k → Halved k xs base half (base + half)
+  unfolding _if_else_
+  halved-up l = record { is = rw (le-leb (getD xs (base + half) 0) k l) refl; within = omega arith }
+
+  pub halved-down : k < getD xs (base + half) 0 → Halved k xs base half base
+  unfolding _if_else_
+  halved-down l = record { is = rw (lt-leb (getD xs (base + half) 0) k l) (omega arith); within = omega arith }
+
+-- a turn: over one number it changes nothing
+pub turn : (k : ℕ) (xs : List ℕ) (base size b : ℕ) → 0 < size → b ≡ halved k xs base (size / 2) → narrowed size k xs base size ≡ narrowed (size - size / 2) k xs b (size - size / 2)
 unfolding narrowed _if_else_
-turn k xs base zero l = absurd (not-suc-le-zero l)
-turn k xs base (suc n) l = rw (lt-ltb 8 (suc n) l) (spare n (suc n - suc n / 2) k xs _ (suc n - suc n / 2) (omega arith) (omega arith))
+turn k xs base zero b l e = absurd (not-suc-le-zero l)
+turn k xs base (suc n) b l e =
+    by-lt 1 (suc n)
+    (λ (t : Bool). _≡_ {A = ℕ} (narrowed n k xs (halved k xs base (suc n / 2)) (suc n - suc n / 2) if t else base) (narrowed (suc n - suc n / 2) k xs b (suc n - suc n / 2)))
+    (λ more. rw (← e) (spare n (suc n - suc n / 2) k xs b (suc n - suc n / 2) (omega arith) (omega arith)))
+    (λ one. let same : base ≡ b = omega (arith, e, half-le (suc n / 2) (getD xs (base + suc n / 2) 0) k) in same ∙ sym (narrow-ends k xs b (suc n - suc n / 2) (omega arith)))
 
--- the end
-pub narrow-ends : (k : ℕ) (xs : List ℕ) (base size : ℕ) → size ≤ 8 → narrowed size k xs base size ≡ base
+-- four turns over at most sixteen numbers
+module _ (k : ℕ) (xs : List ℕ) (base size b₁ b₂ b₃ r : ℕ) (some : 0 < size) (few : size ≤ 16) where
+  abbrev s₁ : ℕ
+  s₁ = size - size / 2
+
+  abbrev s₂ : ℕ
+  s₂ = s₁ - s₁ / 2
+
+  abbrev s₃ : ℕ
+  s₃ = s₂ - s₂ / 2
+
+  pub four-turns : Halved k xs base (size / 2) b₁ → Halved k xs b₁ (s₁ / 2) b₂ → Halved k xs b₂ (s₂ / 2) b₃ → Halved k xs b₃ (s₃ / 2) r → r ≡ narrowed size k xs base size
+  four-turns e₁ e₂ e₃ e₄ =
+      sym (turn k xs base size b₁ some (e₁ .is) ∙ turn k xs b₁ s₁ b₂ (omega arith) (e₂ .is) ∙ turn k xs b₂ s₂ b₃ (omega arith) (e₃ .is) ∙ turn k xs b₃ s₃ r (omega arith) (e₄ .is)
+      ∙ narrow-ends k xs r (s₃ - s₃ / 2) (omega arith))
+
+-- what is left behind a turn lies where it did
+pub stays : (k : ℕ) (xs : List ℕ) (base size b n : ℕ) → Halved k xs base (size / 2) b → base + size ≤ n → b + (size - size / 2) ≤ n
+stays k xs base size b n h l = omega (arith, h .within)
+
+-- the number that is left is one of them
+pub left-within : (turns k : ℕ) (xs : List ℕ) (base size n : ℕ) → 0 < size → base + size ≤ n → narrowed turns k xs base size < n
 unfolding narrowed _if_else_
-narrow-ends k xs base zero l = refl
-narrow-ends k xs base (suc n) l = rw (le-ltb 8 (suc n) l) refl
-
--- as the code halves the first n numbers of a slice
-module _ (ranks : List ℕ) (n k whole : ℕ) (base size : ℕ) (l : 8 < size) (h : base + size ≤ n) where
-  pub narrow-again : narrowed size k (take n ranks) base size ≡ whole
-      → narrowed (size - size / 2) k (take n ranks) (base + (size / 2 if leb (getD ranks (base + size / 2) 0) k else 0)) (size - size / 2) ≡ whole
-  narrow-again e = rw (getD-take n ranks (base + size / 2) 0 (omega arith)) at (sym (turn k (take n ranks) base size l)) ∙ e
-
-below-le : (m k : ℕ) (xs : List ℕ) (at : ℕ) → below m k xs at ≤ m
-unfolding below _if_else_
-below-le zero k xs at = zero-le
-below-le (suc m) k xs at =
-    by-lt (getD xs at 0) k (λ (b : Bool). (1 if b else 0) + below m k xs (at + 1) ≤ suc m)
-    (λ _. omega (arith, below-le m k xs (at + 1)))
-    (λ _. omega (arith, below-le m k xs (at + 1)))
-
--- numbers counted in two parts
-below-sum : (m n k : ℕ) (xs : List ℕ) (at : ℕ) → below (m + n) k xs at ≡ below m k xs at + below n k xs (at + m)
-unfolding below
-below-sum zero n k xs at = rw (zero-add n, zero-add (below n k xs (at + 0)), add-zero) refl
-below-sum (suc m) n k xs at =
-    let sum : suc m + n ≡ suc (m + n) = omega arith in
-    let move : at + 1 + m ≡ at + suc m = omega arith in
-    rw sum (rw (below-sum m n k xs (at + 1), move) (omega arith))
-
-pub below-both : (m n k : ℕ) (xs : List ℕ) (at a b : ℕ) → Below m k xs at a → Below n k xs (at + m) b → Below (m + n) k xs at (a + b)
-below-both m n k xs at a b f g = record { is = rw (f .is, g .is) (sym (below-sum m n k xs at)); small = omega (arith, f .small, g .small) }
-
-module _ (k : ℕ) (xs : List ℕ) (at : ℕ) where
-  pub below-yes : getD xs at 0 < k → Below 1 k xs at 1
-  unfolding below _if_else_
-  below-yes l = record { is = rw (lt-ltb (getD xs at 0) k l) refl; small = omega arith }
-
-  pub below-no : k ≤ getD xs at 0 → Below 1 k xs at 0
-  unfolding below _if_else_
-  below-no l = record { is = rw (le-ltb (getD xs at 0) k l) refl; small = zero-le }
-
--- one of n numbers counted
-pub below-next : (n k : ℕ) (xs : List ℕ) (at r : ℕ) → at < n → Below 1 k xs at r → below (n - at) k xs at ≡ r + below (n - (at + 1)) k xs (at + 1)
-below-next n k xs at r l one = let sum : n - at ≡ 1 + (n - (at + 1)) = omega arith in rw (sum, one .is) (below-sum 1 (n - (at + 1)) k xs at)
-
--- all are counted
-pub below-ends : (n k : ℕ) (xs : List ℕ) (at : ℕ) → n ≤ at → below (n - at) k xs at ≡ 0
-unfolding below
-below-ends n k xs at l = let none : n - at ≡ 0 = omega arith in rw none refl
+left-within zero k xs base size n some h = omega arith
+left-within (suc turns) k xs base size n some h =
+    by-lt 1 size
+    (λ (b : Bool). (narrowed turns k xs (halved k xs base (size / 2)) (size - size / 2) if b else base) < n)
+    (λ _. left-within turns k xs (halved k xs base (size / 2)) (size - size / 2) n (omega arith) (omega (arith, halved-le k xs base (size / 2))))
+    (λ _. omega arith)
 
 -- on any list the place is at most the length
 search-within : (k : ℕ) (xs : List ℕ) → binarySearch k xs ≤ length xs
-unfolding binarySearch countedFrom
-search-within k xs = omega (arith, below-le (min 8 (length xs)) k xs (countedFrom k xs))
+unfolding binarySearch _if_else_
+search-within k xs =
+    by-eq (length xs) 0 (λ (b : Bool). (0 if b else leftOf k xs + 1 if ltb (getD xs (leftOf k xs) 0) k else leftOf k xs) ≤ length xs)
+    (λ _. zero-le)
+    (λ some.
+    let in-list = left-within (length xs) k xs 0 (length xs) (length xs) (omega (arith, some)) (omega arith) in
+    by-lt (getD xs (leftOf k xs) 0) k (λ (b : Bool). (leftOf k xs + 1 if b else leftOf k xs) ≤ length xs) (λ _. omega (arith, in-list)) (λ _. omega (arith, in-list)))
 
 -- the first n numbers of a slice
 module _ (ks : List ℕ) (n k : ℕ) where
-  below-take : (m at : ℕ) → at + m ≤ n → below m k (take n ks) at ≡ below m k ks at
-  unfolding below
-  below-take zero at l = refl
-  below-take (suc m) at l = rw (getD-take n ks at 0 (omega arith), below-take m (at + 1) (omega arith)) refl
+  narrow-take : (turns base size : ℕ) → base + size ≤ n → narrowed turns k (take n ks) base size ≡ narrowed turns k ks base size
+  unfolding narrowed _if_else_
+  narrow-take zero base size h = refl
+  narrow-take (suc turns) base size h =
+      by-lt 1 size
+      (λ (b : Bool). _≡_ {A = ℕ} (narrowed turns k (take n ks) (halved k (take n ks) base (size / 2)) (size - size / 2) if b else base)
+      (narrowed turns k ks (halved k ks base (size / 2)) (size - size / 2) if b else base))
+      (λ l. rw (getD-take n ks (base + size / 2) 0 (omega arith)) (narrow-take turns (halved k ks base (size / 2)) (size - size / 2) (omega (arith, halved-le k ks base (size / 2)))))
+      (λ _. refl)
 
   module _ (within : n ≤ length ks) where
-    -- fewer than eight are counted
-    pub search-few : n < 8 → below n k ks 0 ≡ binarySearch k (take n ks)
-    unfolding binarySearch countedFrom
-    search-few l =
-        let none : n - 8 ≡ 0 = omega arith in
-        let all : min 8 n ≡ n = omega arith in
-        let start : min (narrowed n k (take n ks) 0 n) 0 ≡ 0 = omega arith in
-        rw (length-take-le n ks within, none, all, start) (omega (arith, below-take n 0 (omega arith)))
+    pub search-none : n ≡ 0 → 0 ≡ binarySearch k (take n ks)
+    unfolding binarySearch _if_else_
+    search-none none = rw (length-take-le n ks within, eq-eqb n 0 none) refl
 
-    -- eight are counted
-    pub search-many : (at : ℕ) → 8 ≤ n → at ≡ min (narrowed n k (take n ks) 0 n) (n - 8) → at + below 8 k ks at ≡ binarySearch k (take n ks)
-    unfolding binarySearch countedFrom
-    search-many at l e =
-        let eight : min 8 n ≡ 8 = omega arith in
-        rw (length-take-le n ks within, eight, ← e, below-take 8 at (omega arith)) refl
+    module _ (at : ℕ) (left : Left k ks n at) where
+      left-is : leftOf k (take n ks) ≡ at
+      left-is = rw (length-take-le n ks within) (narrow-take n 0 n (omega arith) ∙ sym (left .is))
+
+      pub search-next : getD ks at 0 < k → at + 1 ≡ binarySearch k (take n ks)
+      unfolding binarySearch _if_else_
+      search-next l = rw (left-is, length-take-le n ks within, ne-eqb n 0 (omega (arith, left .within)), getD-take n ks at 0 (left .within), lt-ltb (getD ks at 0) k l) refl
+
+      pub search-here : k ≤ getD ks at 0 → at ≡ binarySearch k (take n ks)
+      unfolding binarySearch _if_else_
+      search-here l = rw (left-is, length-take-le n ks within, ne-eqb n 0 (omega (arith, left .within)), getD-take n ks at 0 (left .within), le-ltb (getD ks at 0) k l) refl
 
     pub search-le : binarySearch k (take n ks) ≤ n
     search-le = omega (arith, search-within k (take n ks), length-take-le n ks within)
@@ -173,43 +183,33 @@ place-le k [] = zero-le
 place-le k (n ∷ ns) = by-lt n k (λ (b : Bool). (suc (place k ns) if b else 0) ≤ suc (length ns)) (λ _. suc-le-suc (place-le k ns)) (λ _. zero-le)
 
 module _ (k : ℕ) (xs : List ℕ) (r : Rising xs) where
-  -- k's place is among the numbers that are left
+  -- k's place is that of the number that is left, or the next
   covers : (turns base size : ℕ) → size ≤ turns → base + size ≤ length xs → base ≤ place k xs → place k xs ≤ base + size
-      → (narrowed turns k xs base size ≤ place k xs) × (place k xs ≤ narrowed turns k xs base size + 8)
+      → (narrowed turns k xs base size ≤ place k xs) × (place k xs ≤ narrowed turns k xs base size + 1)
   unfolding narrowed _if_else_
   covers zero base size f h p q = (p, omega arith)
   covers (suc n) base size f h p q =
-      by-lt 8 size
-      (λ (b : Bool). ((narrowed n k xs (base + (size / 2 if leb (getD xs (base + size / 2) 0) k else 0)) (size - size / 2) if b else base) ≤ place k xs)
-      × (place k xs ≤ (narrowed n k xs (base + (size / 2 if leb (getD xs (base + size / 2) 0) k else 0)) (size - size / 2) if b else base) + 8))
+      by-lt 1 size
+      (λ (b : Bool). ((narrowed n k xs (halved k xs base (size / 2)) (size - size / 2) if b else base) ≤ place k xs)
+      × (place k xs ≤ (narrowed n k xs (halved k xs base (size / 2)) (size - size / 2) if b else base) + 1))
       (λ l. by-le (getD xs (base + size / 2) 0) k
-      (λ (b : Bool). (narrowed n k xs (base + (size / 2 if b else 0)) (size - size / 2) ≤ place k xs) × (place k xs ≤ narrowed n k xs (base + (size / 2 if b else 0)) (size - size / 2) + 8))
+      (λ (b : Bool). (narrowed n k xs (base + (size / 2 if b else 0)) (size - size / 2) ≤ place k xs) × (place k xs ≤ narrowed n k xs (base + (size / 2 if b else 0)) (size - size / 2) + 1))
       (λ up. covers n (base + size / 2) (size - size / 2) (omega arith) (omega arith) (place-reaches k xs (base + size / 2) r (omega arith) up) (omega arith))
       (λ down. covers n (base + 0) (size - size / 2) (omega arith) (omega arith) (omega arith) (omega (arith, place-within k xs (base + size / 2) (omega arith) (omega arith)))))
       (λ l. (p, omega arith))
 
-  below-none : (m at : ℕ) → at + m ≤ length xs → place k xs ≤ at → below m k xs at ≡ 0
-  unfolding below _if_else_
-  below-none zero at h p = refl
-  below-none (suc m) at h p =
-      by-lt (getD xs at 0) k (λ (b : Bool). (1 if b else 0) + below m k xs (at + 1) ≡ 0)
-      (λ l. absurd (omega (arith, place-past k xs at r (omega arith) l)))
-      (λ _. omega (arith, below-none m (at + 1) (omega arith) (omega arith)))
-
-  below-place : (m at : ℕ) → at + m ≤ length xs → at ≤ place k xs → place k xs ≤ at + m → at + below m k xs at ≡ place k xs
-  unfolding below _if_else_
-  below-place zero at h p q = omega arith
-  below-place (suc m) at h p q =
-      by-lt (getD xs at 0) k (λ (b : Bool). at + ((1 if b else 0) + below m k xs (at + 1)) ≡ place k xs)
-      (λ l. omega (arith, below-place m (at + 1) (omega arith) (omega (arith, place-past k xs at r (omega arith) l)) (omega arith)))
-      (λ l. let past = place-within k xs at (omega arith) l in omega (arith, past, below-none m (at + 1) (omega arith) (omega (arith, past))))
-
   -- THE LAW of the search: on an ascending list it counts the numbers below k
   pub search-place : binarySearch k xs ≡ place k xs
-  unfolding binarySearch countedFrom
+  unfolding binarySearch _if_else_
   search-place =
-      let left = covers (length xs) 0 (length xs) (omega arith) (omega arith) zero-le (omega (arith, place-le k xs)) in
-      below-place (min 8 (length xs)) (countedFrom k xs) (omega arith) (omega (arith, left .0)) (omega (arith, left .1, place-le k xs))
+      by-eq (length xs) 0 (λ (b : Bool). (0 if b else leftOf k xs + 1 if ltb (getD xs (leftOf k xs) 0) k else leftOf k xs) ≡ place k xs)
+      (λ none. omega (arith, none, place-le k xs))
+      (λ some.
+      let in-list = left-within (length xs) k xs 0 (length xs) (length xs) (omega (arith, some)) (omega arith) in
+      let near = covers (length xs) 0 (length xs) (omega arith) (omega arith) zero-le (omega (arith, place-le k xs)) in
+      by-lt (getD xs (leftOf k xs) 0) k (λ (b : Bool). (leftOf k xs + 1 if b else leftOf k xs) ≡ place k xs)
+      (λ l. omega (arith, near .1, place-past k xs (leftOf k xs) r in-list l))
+      (λ l. omega (arith, near .0, place-within k xs (leftOf k xs) in-list l)))
 
 member-over : (k : ℕ) (xs : List ℕ) → Over k xs → member k xs ≡ false
 unfolding _if_else_

@@ -14,7 +14,7 @@ use Rattle.program.specs.declared.Registered.the-variants.{Inserted, Rep
 use Rattle.program.specs.declared.Removed.the-variants.{Gone, Absent}
 use Rattle.program.specs.declared.KeptName.{KeptName}
 use Rattle.program.specs.declared.FunctionName.the-variants.{Symbol, OfIndex, Entrypoint}
-use Rattle.program.specs.Search.{narrowed, below, countedFrom, binarySearch, isAmong}
+use Rattle.program.specs.Search.{narrowed, binarySearch, isAmong}
 use Rattle.program.specs.Rows.{rank}
 use Rattle.program.specs.Table.{Slices, slices, least, capacity, rowsOf, ranksOf, opened, closed, openedRow, openedAlike, closedRow, counted, placeIn, holds, registerAt, registeredAt, registerIn, registeredBy, registeredIn, registeredAlikeIn, unregisterAt, unregisteredAt, unregisterIn, unregisteredIn, lookupIn, foundAt, lookupAscendingIn, indexAt, indexAscendingIn}
 use Rattle.program.specs.HashedLegacy.{kept, keptSymbol, keptName, legacyKey, isTaken}
@@ -41,18 +41,18 @@ mixed = slices (5 ∷ 9 ∷ 5 ∷ []) (1 ∷ 2 ∷ 3 ∷ []) (3 ∷ 3 ∷ 3 ∷ 
 -- past the rows
 registrations : registerIn two 2 (row 20 2) ∷ registerIn two 2 (row 40 4) ∷ registerIn two 2 (row 30 3) ∷ registerIn two 2 (row 30 4) ∷ registerIn three 3 (row 40 4) ∷ registerIn three 9 (row 40 4) ∷ []
     ≡ Inserted 1 ∷ Inserted 0 ∷ Repeat ∷ Collision ∷ Full ∷ Full ∷ []
-unfolding registerIn registerAt counted placeIn holds binarySearch countedFrom narrowed below ranksOf capacity least rank _if_else_
+unfolding registerIn registerAt counted placeIn holds binarySearch narrowed ranksOf capacity least rank _if_else_
 registrations = refl
 
 -- a repeat under another name changes nothing
 registered : registeredIn two 2 (row 20 2) ∷ registeredIn two 2 (record { key = 30; index = 3; kind = 1; start = 64; length = 5 }) ∷ []
     ≡ three ∷ two ∷ []
-unfolding registeredBy registeredAt counted placeIn holds binarySearch countedFrom narrowed below ranksOf capacity least rank openedRow opened _if_else_
+unfolding registeredBy registeredAt counted placeIn holds binarySearch narrowed ranksOf capacity least rank openedRow opened _if_else_
 registered = refl
 
 -- the name at the last place: as before where the rows all have it, and another table where they do not
 alike : registeredAlikeIn two 2 (row 20 2) ∷ registeredAlikeIn two 2 (row 30 3) ∷ [] ≡ registeredIn two 2 (row 20 2) ∷ two ∷ []
-unfolding registeredBy registeredAt counted placeIn holds binarySearch countedFrom narrowed below ranksOf capacity least rank openedRow openedAlike opened _if_else_
+unfolding registeredBy registeredAt counted placeIn holds binarySearch narrowed ranksOf capacity least rank openedRow openedAlike opened _if_else_
 alike = refl
 
 abbrev named : Row
@@ -62,15 +62,15 @@ unlike : registeredAlikeIn two 2 named ∷ registeredIn two 2 named ∷ []
     ≡ slices (10 ∷ 20 ∷ 30 ∷ []) (1 ∷ 2 ∷ 3 ∷ 0 ∷ []) (3 ∷ 3 ∷ 1 ∷ 0 ∷ []) (0 ∷ 0 ∷ 64 ∷ []) (0 ∷ 0 ∷ 5 ∷ [])
     ∷ slices (10 ∷ 20 ∷ 30 ∷ []) (1 ∷ 2 ∷ 3 ∷ 0 ∷ []) (3 ∷ 1 ∷ 3 ∷ 0 ∷ []) (0 ∷ 64 ∷ 0 ∷ []) (0 ∷ 5 ∷ 0 ∷ [])
     ∷ []
-unfolding registeredBy registeredAt counted placeIn holds binarySearch countedFrom narrowed below ranksOf capacity least rank openedRow openedAlike opened _if_else_
+unfolding registeredBy registeredAt counted placeIn holds binarySearch narrowed ranksOf capacity least rank openedRow openedAlike opened _if_else_
 unlike = refl
 
 removals : unregisterIn two 2 10 ∷ unregisterIn two 2 30 ∷ unregisterIn two 2 20 ∷ [] ≡ Gone 1 ∷ Gone 0 ∷ Absent ∷ []
-unfolding unregisterIn unregisterAt counted placeIn holds binarySearch countedFrom narrowed below ranksOf capacity least rank _if_else_
+unfolding unregisterIn unregisterAt counted placeIn holds binarySearch narrowed ranksOf capacity least rank _if_else_
 removals = refl
 
 removed : unregisteredIn two 2 10 ∷ unregisteredIn two 2 20 ∷ [] ≡ one ∷ two ∷ []
-unfolding unregisteredIn unregisteredAt counted placeIn holds binarySearch countedFrom narrowed below ranksOf capacity least rank closedRow closed _if_else_
+unfolding unregisteredIn unregisteredAt counted placeIn holds binarySearch narrowed ranksOf capacity least rank closedRow closed _if_else_
 removed = refl
 
 -- the first of two rows with the key; a row that is not used; a count past the rows
@@ -81,7 +81,7 @@ lookups = refl
 -- a binary search in ascending rows: the first row, the last, one that is not used, and keys between the rows and behind them
 ascending-lookups : lookupAscendingIn three 3 10 ∷ lookupAscendingIn three 3 30 ∷ lookupAscendingIn three 2 30 ∷ lookupAscendingIn three 3 25 ∷ lookupAscendingIn three 9 40 ∷ []
     ≡ At (row 10 1) ∷ At (row 30 3) ∷ Nothing ∷ Nothing ∷ Nothing ∷ []
-unfolding lookupAscendingIn foundAt counted placeIn holds binarySearch countedFrom narrowed below ranksOf capacity least rank _if_else_
+unfolding lookupAscendingIn foundAt counted placeIn holds binarySearch narrowed ranksOf capacity least rank _if_else_
 ascending-lookups = refl
 
 -- in rows that fall it misses one that the scan finds
@@ -89,13 +89,13 @@ abbrev falling : Slices
 falling = slices (30 ∷ 20 ∷ 10 ∷ []) (3 ∷ 2 ∷ 1 ∷ []) (3 ∷ 3 ∷ 3 ∷ []) (0 ∷ 0 ∷ 0 ∷ []) (0 ∷ 0 ∷ 0 ∷ [])
 
 missed : lookupAscendingIn falling 3 30 ∷ lookupIn falling 3 30 ∷ [] ≡ Nothing ∷ At (row 30 3) ∷ []
-unfolding lookupAscendingIn foundAt lookupIn counted placeIn holds binarySearch countedFrom narrowed below rowsOf ranksOf capacity least rank _if_else_
+unfolding lookupAscendingIn foundAt lookupIn counted placeIn holds binarySearch narrowed rowsOf ranksOf capacity least rank _if_else_
 missed = refl
 
 -- the index alone: of a row, of a row that is not used, of a key between the rows, and by a column of indices that is too short
 index-lookups : indexAscendingIn (10 ∷ 20 ∷ 30 ∷ []) (1 ∷ 2 ∷ 3 ∷ []) 3 30 ∷ indexAscendingIn (10 ∷ 20 ∷ 30 ∷ []) (1 ∷ 2 ∷ 3 ∷ []) 2 30 ∷ indexAscendingIn (10 ∷ 20 ∷ 30 ∷ []) (1 ∷ 2 ∷ 3 ∷ []) 3 25 ∷ indexAscendingIn (10 ∷ 20 ∷ 30 ∷ []) (1 ∷ 2 ∷ []) 3 30 ∷ []
     ≡ AtIndex 3 ∷ NoIndex ∷ NoIndex ∷ NoIndex ∷ []
-unfolding indexAscendingIn indexAt binarySearch countedFrom narrowed below _if_else_
+unfolding indexAscendingIn indexAt binarySearch narrowed _if_else_
 index-lookups = refl
 
 -- the binary search in nineteen ascending numbers: the first, the last, one in the middle, and numbers below, between and behind them
@@ -103,7 +103,7 @@ abbrev nineteen : List ℕ
 nineteen = 10 ∷ 20 ∷ 30 ∷ 40 ∷ 50 ∷ 60 ∷ 70 ∷ 80 ∷ 90 ∷ 100 ∷ 110 ∷ 120 ∷ 130 ∷ 140 ∷ 150 ∷ 160 ∷ 170 ∷ 180 ∷ 190 ∷ []
 
 searches : binarySearch 10 nineteen ∷ binarySearch 190 nineteen ∷ binarySearch 100 nineteen ∷ binarySearch 5 nineteen ∷ binarySearch 105 nineteen ∷ binarySearch 200 nineteen ∷ [] ≡ 0 ∷ 18 ∷ 9 ∷ 0 ∷ 10 ∷ 19 ∷ []
-unfolding binarySearch countedFrom narrowed below _if_else_
+unfolding binarySearch narrowed _if_else_
 searches = refl
 
 -- a symbol's name, the name entrypoint, an empty name, a name of the index, the entry's own: with labels, and without
@@ -120,7 +120,7 @@ unlabelled = refl
 
 -- a built-in's key is taken in version 1 with the check on only; a key that is no built-in's never is
 taken : isTaken (5 ∷ 9 ∷ []) false true 9 ∷ isTaken (5 ∷ 9 ∷ []) false true 7 ∷ isTaken (5 ∷ 9 ∷ []) false false 9 ∷ isTaken (5 ∷ 9 ∷ []) true true 9 ∷ [] ≡ true ∷ false ∷ false ∷ false ∷ []
-unfolding isTaken isAmong binarySearch countedFrom narrowed below _if_else_
+unfolding isTaken isAmong binarySearch narrowed _if_else_
 taken = refl
 
 -- keys: in version 2 the index, in version 1 the index's hash, but for the name entrypoint

@@ -1,5 +1,5 @@
 -- Searches in a list of numbers. Each has an answer on any list; what it means on an ascending one is a law.
-use Prim.Native.Nat.{ℕ, zero, suc, _+_, _-_, _/_, _≤_, _<_, min}
+use Prim.Native.Nat.{ℕ, zero, suc, _+_, _-_, _/_, _≤_, _<_}
 use mathlib.Core.Path.{_≡_}
 use mathlib.Core.Bool.{Bool, true, false, _||_}
 use mathlib.Core.List.{List, [], _∷_}
@@ -7,30 +7,36 @@ use lib.ListN.{length, getD, take, drop}
 use lib.Dec.{ltb, leb, eqb}
 use Rattle.ebpf.specs.Choice.{_if_else_}
 
--- how many of the n numbers from `at` on are below k
-unfoldable pub below : ℕ → ℕ → List ℕ → ℕ → ℕ
-below zero k xs at = 0
-below (suc n) k xs at = (1 if ltb (getD xs at 0) k else 0) + below n k xs (at + 1)
+-- the place `half` numbers behind `base` where the number there is at most k, else `base` again
+abbrev pub halved : ℕ → List ℕ → ℕ → ℕ → ℕ
+halved k xs base half = base + (half if leb (getD xs (base + half) 0) k else 0)
 
--- r is that number; the bound, which follows, stands beside it for the proofs
-pub record Below (n k : ℕ) (xs : List ℕ) (at r : ℕ) : Type 0 where
-  pub is : r ≡ below n k xs at
-  pub small : r ≤ n
+-- r is that place; the bound, which follows, stands beside it for the proofs
+pub record Halved (k : ℕ) (xs : List ℕ) (base half r : ℕ) : Type 0 where
+  pub is : r ≡ halved k xs base half
+  pub within : r ≤ base + half
 
--- a binary search for k halves `size` numbers, from `base` on, while more than eight are left, in at most `turns` turns: where those start
+-- a binary search for k halves `size` numbers, from `base` on, until one is left, in at most `turns` turns: where that one stands
 unfoldable pub narrowed : ℕ → ℕ → List ℕ → ℕ → ℕ → ℕ
 narrowed zero k xs base size = base
-narrowed (suc turns) k xs base size =
-    narrowed turns k xs (base + (size / 2 if leb (getD xs (base + size / 2) 0) k else 0)) (size - size / 2) if ltb 8 size else base
+narrowed (suc turns) k xs base size = narrowed turns k xs (halved k xs base (size / 2)) (size - size / 2) if ltb 1 size else base
 
--- where the numbers start that it counts: those that are left, and at the end of the list the last eight
-unfoldable pub countedFrom : ℕ → List ℕ → ℕ
-countedFrom k xs = min (narrowed (length xs) k xs 0 (length xs)) (length xs - 8)
+-- r is where that one of the first n numbers stands, with its bound
+pub record Left (k : ℕ) (xs : List ℕ) (n r : ℕ) : Type 0 where
+  pub is : r ≡ narrowed n k xs 0 n
+  pub within : r < n
 
--- the binary search for k: the place behind the numbers below k, of the eight that it counts (a shorter list is counted whole). On an ascending list it is how
--- many numbers are below k (`search-place` in proofs/Searches.antt)
+-- of all numbers of a list
+abbrev pub leftOf : ℕ → List ℕ → ℕ
+leftOf k xs = narrowed (length xs) k xs 0 (length xs)
+
+-- the binary search for k: the place of the number that is left, or the next one where that number is below k; 0 in an empty list. On an ascending list it is
+-- how many numbers are below k (`search-place` in proofs/Searches.antt)
 unfoldable pub binarySearch : ℕ → List ℕ → ℕ
-binarySearch k xs = countedFrom k xs + below (min 8 (length xs)) k xs (countedFrom k xs)
+binarySearch k xs =
+    0 if eqb (length xs) 0 else
+    leftOf k xs + 1 if ltb (getD xs (leftOf k xs) 0) k else
+    leftOf k xs
 
 -- whether the binary search finds k: on an ascending list, whether k is in it (`among-member` in proofs/Searches.antt)
 unfoldable pub isAmong : ℕ → List ℕ → Bool

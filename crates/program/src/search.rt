@@ -1,14 +1,13 @@
 // Searching the first numbers of a slice.
-use crate::columns::smaller;
 ghost use mathlib.Core.Path.{_≡_};
-ghost use Prim.Native.Nat.{_+_, _≤_};
+ghost use Prim.Native.Nat.{_+_, _≤_, _<_};
 ghost use lib.Dec.{leb};
 ghost use lib.ListN.{length, take};
 ghost use Rattle.ebpf.specs.Choice.{_if_else_};
-ghost use Rattle.program.specs.Search.{binarySearch, narrowed, below, Below, indexOf, oneOf, PassesTo};
+ghost use Rattle.program.specs.Search.{binarySearch, Halved, Left, narrowed, indexOf, oneOf, PassesTo};
 
-// `half` where a is at most b, else 0. Worked out, since a branch would be guessed wrong every second
-// time.
+// `half` where a is at most b, else 0. Worked out, since in a loop a test becomes a branch, which is
+// guessed wrong every second time.
 fn half_where(half: usize, a: u32, b: u32) -> usize
     ensures { λ r. ⌜ r ≡ (half if leb a b else 0) ⌝ }
 {
@@ -16,80 +15,65 @@ fn half_where(half: usize, a: u32, b: u32) -> usize
     half * one
 }
 
-// Halves the numbers until at most eight are left: where those start.
-fn narrow(ranks: &[u32], n: usize, key: u32) -> usize
-    requires { ⌜ n ≤ length (now ranks) ⌝ }
-    ensures { λ r. ⌜ r ≡ narrowed n key (take n (now (ranks .entry))) 0 n ⌝ }
+// A turn of the search outside a loop, where a test becomes no branch.
+fn halve(ranks: &[u32], base: usize, half: usize, key: u32) -> usize
+    requires { ⌜ base + half < length (now ranks) ⌝ }
+    ensures { λ r. ⌜ Halved key (now (ranks .entry)) base half r ⌝ }
 {
-    let mut base = 0;
-    let mut size = n;
-    while 8 < size {
-        let half = size / 2;
-        base += half_where(half, ranks[base + half], key);
-        size -= half;
+    let at = base + half;
+    if ranks[at] <= key {
+        return at;
     }
     base
 }
 
-// How many of one, two, four and eight numbers from `at` on are below `key`. There is no branch between
-// them, so that the processor does it at once.
-fn below_one(ranks: &[u32], at: usize, key: u32) -> usize
-    requires { ⌜ at + 1 ≤ length (now ranks) ⌝ }
-    ensures { λ r. ⌜ Below 1 key (now (ranks .entry)) at r ⌝ }
+// Halves at most sixteen numbers, from `base` on, until one is left: four turns, of which some may find
+// one number already.
+fn narrow_few(ranks: &[u32], base: usize, size: usize, key: u32) -> usize
+    requires { ⌜ (0 < size) × (size ≤ 16) × (base + size ≤ length (now ranks)) ⌝ }
+    ensures { λ r. ⌜ r ≡ narrowed size key (now (ranks .entry)) base size ⌝ }
 {
-    if ranks[at] < key {
-        return 1;
+    let half1 = size / 2;
+    let size1 = size - half1;
+    let base1 = halve(ranks, base, half1, key);
+    let half2 = size1 / 2;
+    let size2 = size1 - half2;
+    let base2 = halve(ranks, base1, half2, key);
+    let half3 = size2 / 2;
+    let size3 = size2 - half3;
+    let base3 = halve(ranks, base2, half3, key);
+    halve(ranks, base3, size3 / 2, key)
+}
+
+// Halves the first n numbers until one is left: where that one stands.
+fn narrow(ranks: &[u32], n: usize, key: u32) -> usize
+    requires { ⌜ (0 < n) × (n ≤ length (now ranks)) ⌝ }
+    ensures { λ r. ⌜ Left key (now (ranks .entry)) n r ⌝ }
+{
+    let mut base = 0;
+    let mut size = n;
+    while 16 < size {
+        let half = size / 2;
+        base += half_where(half, ranks[base + half], key);
+        size -= half;
     }
-    0
-}
-
-fn below_two(ranks: &[u32], at: usize, key: u32) -> usize
-    requires { ⌜ at + 2 ≤ length (now ranks) ⌝ }
-    ensures { λ r. ⌜ Below 2 key (now (ranks .entry)) at r ⌝ }
-{
-    below_one(ranks, at, key) + below_one(ranks, at + 1, key)
-}
-
-fn below_four(ranks: &[u32], at: usize, key: u32) -> usize
-    requires { ⌜ at + 4 ≤ length (now ranks) ⌝ }
-    ensures { λ r. ⌜ Below 4 key (now (ranks .entry)) at r ⌝ }
-{
-    below_two(ranks, at, key) + below_two(ranks, at + 2, key)
-}
-
-fn below_eight(ranks: &[u32], at: usize, key: u32) -> usize
-    requires { ⌜ at + 8 ≤ length (now ranks) ⌝ }
-    ensures { λ r. ⌜ Below 8 key (now (ranks .entry)) at r ⌝ }
-{
-    below_four(ranks, at, key) + below_four(ranks, at + 4, key)
-}
-
-// How many of the first n numbers are below `key`.
-fn below_all(ranks: &[u32], n: usize, key: u32) -> usize
-    requires { ⌜ n ≤ length (now ranks) ⌝ }
-    ensures { λ r. ⌜ r ≡ below n key (now (ranks .entry)) 0 ⌝ }
-{
-    let mut count = 0;
-    let mut at = 0;
-    while at < n {
-        count += below_one(ranks, at, key);
-        at += 1;
-    }
-    count
+    narrow_few(ranks, base, size, key)
 }
 
 // The binary search: the place of `key` among the first `n` numbers. Where they ascend, it is how many
-// are below `key`; on any others it is at most `n`. The last eight are counted and not halved, for
-// that is quicker.
+// are below `key`; on any others it is at most `n`.
 pub(crate) fn binary_search(ranks: &[u32], n: usize, key: u32) -> usize
     requires { ⌜ n ≤ length (now ranks) ⌝ }
     ensures { λ r. ⌜ r ≡ binarySearch key (take n (now (ranks .entry))) ⌝ }
 {
-    if n < 8 {
-        return below_all(ranks, n, key);
+    if n == 0 {
+        return 0;
     }
-    let at = smaller(narrow(ranks, n, key), n - 8);
-    at + below_eight(ranks, at, key)
+    let at = narrow(ranks, n, key);
+    if ranks[at] < key {
+        return at + 1;
+    }
+    at
 }
 
 // Whether one of the eight numbers from `at` on is `key`. All are compared, without a branch between
