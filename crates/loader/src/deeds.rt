@@ -217,3 +217,39 @@ pub(crate) fn perform(
         }
     }
 }
+
+// The same for a relocation's deed. Most ask nothing of the table: then the bytes are written, and the
+// table is not handed on, which would take longer than all the rest.
+pub(crate) fn perform_relocation(
+    image: &mut [u8],
+    keys: &mut [u32],
+    indices: &mut [u32],
+    kinds: &mut [u32],
+    starts: &mut [u32],
+    lengths: &mut [u32],
+    rows: u64,
+    used: usize,
+    moves: u64,
+    deed: Deed,
+) -> Outcome
+    requires { ⌜ DeedFits (length (now image)) deed × Begins 1 (tableOf keys indices kinds starts lengths) rows used moves ⌝ }
+    ensures { λ r. ⌜ PartSettles (deedTrace deed (now (image .entry))) image keys indices kinds starts lengths 1 used moves r ⌝ }
+{
+    let entry = entry_of(deed);
+    if let Entry::Nothing = entry {
+        write(image, deed);
+        return Outcome::Holds(used, moves);
+    }
+    perform(
+        image,
+        keys,
+        indices,
+        kinds,
+        starts,
+        lengths,
+        rows,
+        used,
+        moves,
+        deed,
+    )
+}

@@ -1,6 +1,6 @@
 // The relocations of a file, applied to the image one after another.
 use crate::deeds::Outcome;
-use crate::deeds::perform;
+use crate::deeds::perform_relocation;
 use crate::relocations::Used;
 use crate::relocations::plan_relocation;
 use crate::relocations::relocation_at;
@@ -53,7 +53,7 @@ pub(crate) fn apply_relocations(
             r.r_info,
             addend,
         );
-        match perform(
+        match perform_relocation(
             image,
             keys,
             indices,

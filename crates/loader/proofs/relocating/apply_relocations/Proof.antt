@@ -25,7 +25,7 @@ Inv-loop image₀ keys₀ indices₀ kinds₀ starts₀ lengths₀ file builtins
 abbrev μ-loop : tie.MeasureT-loop
 μ-loop image₀ keys₀ indices₀ kinds₀ starts₀ lengths₀ file builtins table job rows held moved layout version2 count header₀ used₀ moves₀ i₀ image keys indices kinds starts lengths header used moves i = count - i
 
-abbrev lp : tie.After-perform Inv-loop μ-loop → tie.At-loop Inv-loop μ-loop
+abbrev lp : tie.After-perform-relocation Inv-loop μ-loop → tie.At-loop Inv-loop μ-loop
 lp p = p .before .before .before .before .before .before .before .before .before .before .before .before
 
 abbrev st : tie.At-loop Inv-loop μ-loop → tie.Start Inv-loop μ-loop
@@ -37,31 +37,31 @@ T₀ s = slices (s .args .keys .now) (s .args .indices .now) (s .args .kinds .no
 abbrev T : tie.At-loop Inv-loop μ-loop → Slices
 T l = slices (l .loop .keys) (l .loop .indices) (l .loop .kinds) (l .loop .starts) (l .loop .lengths)
 
-abbrev im′ : tie.After-perform Inv-loop μ-loop → List ℕ
-im′ p = p .perform .last .0
+abbrev im′ : tie.After-perform-relocation Inv-loop μ-loop → List ℕ
+im′ p = p .perform-relocation .last .0
 
-abbrev U : tie.After-perform Inv-loop μ-loop → Slices
-U p = let l = p .perform .last in slices (l .1 .0) (l .1 .1 .0) (l .1 .1 .1 .0) (l .1 .1 .1 .1 .0) (l .1 .1 .1 .1 .1 .0)
+abbrev U : tie.After-perform-relocation Inv-loop μ-loop → Slices
+U p = let l = p .perform-relocation .last in slices (l .1 .0) (l .1 .1 .0) (l .1 .1 .1 .0) (l .1 .1 .1 .1 .0) (l .1 .1 .1 .1 .1 .0)
 
 -- the turn, once its answer is known
-abbrev Did : tie.After-perform Inv-loop μ-loop → Outcome → Type 0
+abbrev Did : tie.After-perform-relocation Inv-loop μ-loop → Outcome → Type 0
 Did p a =
     let l = lp p in
     let s = st l in
     Settles (relocationTrace (now (s .args .file)) (now (s .args .builtins)) (s .args .job) (l .loop .i) (l .loop .image)) (im′ p) (T l) (U p) 1 (l .loop .used) (l .loop .moves) a
 
-did : (p : tie.After-perform Inv-loop μ-loop) (b : Outcome) → p .perform .result ≡ b → Did p b
+did : (p : tie.After-perform-relocation Inv-loop μ-loop) (b : Outcome) → p .perform-relocation .result ≡ b → Did p b
 did p b e =
     let l = lp p in
     let s = st l in
     let a = s .args in
-    subst (Did p) e (relocation-settles (now (a .file)) (now (a .builtins)) (a .job) (l .loop .i) (l .loop .header) (p .before .before .before .before .before .before .before .before .before .used-header .result) (p .before .before .before .before .before .before .before .before .before .before .relocation-at .result) (l .loop .inv .1) (p .before .before .before .before .before .before .before .before .before .before .relocation-at .ensures) (p .before .before .before .before .before .before .before .before .before .used-header .ensures) (l .loop .image) (im′ p) (T l) (U p) (l .loop .used) (l .loop .moves) _ (p .before .before .before .before .before .before .before .plan-relocation .ensures) (p .perform .ensures))
+    subst (Did p) e (relocation-settles (now (a .file)) (now (a .builtins)) (a .job) (l .loop .i) (l .loop .header) (p .before .before .before .before .before .before .before .before .before .used-header .result) (p .before .before .before .before .before .before .before .before .before .before .relocation-at .result) (l .loop .inv .1) (p .before .before .before .before .before .before .before .before .before .before .relocation-at .ensures) (p .before .before .before .before .before .before .before .before .before .used-header .ensures) (l .loop .image) (im′ p) (T l) (U p) (l .loop .used) (l .loop .moves) _ (p .before .before .before .before .before .before .before .plan-relocation .ensures) (p .perform-relocation .ensures))
 
-lens : (p : tie.After-perform Inv-loop μ-loop) → SameLens (T (lp p)) (U p)
-lens p = let k = p .perform .kept in record { keys-as = k .1 .0; indices-as = k .1 .1 .0; kinds-as = k .1 .1 .1 .0; starts-as = k .1 .1 .1 .1 .0; lengths-as = k .1 .1 .1 .1 .1 .0 }
+lens : (p : tie.After-perform-relocation Inv-loop μ-loop) → SameLens (T (lp p)) (U p)
+lens p = let k = p .perform-relocation .kept in record { keys-as = k .1 .0; indices-as = k .1 .1 .0; kinds-as = k .1 .1 .1 .0; starts-as = k .1 .1 .1 .1 .0; lengths-as = k .1 .1 .1 .1 .1 .0 }
 
 -- since the start
-all-lens : (p : tie.After-perform Inv-loop μ-loop) → SameLens (T₀ (st (lp p))) (U p)
+all-lens : (p : tie.After-perform-relocation Inv-loop μ-loop) → SameLens (T₀ (st (lp p))) (U p)
 all-lens p = same-trans (T₀ (st (lp p))) (T (lp p)) (U p) (lp p .loop .inv .0 .same) (lens p)
 
 cast-count : tie.Need-cast-count Inv-loop μ-loop
@@ -79,8 +79,8 @@ used-header-requires c κs = c .before .before .before .before .before .before .
 plan-relocation-requires : tie.Need-plan-relocation-requires Inv-loop μ-loop
 plan-relocation-requires c κs = let s = c .before .before .before .before .before .before .before .before .before .before .before .before .before .before .before .before .before .before .before in (s .pre .0, s .pre .1)
 
-perform-requires : tie.Need-perform-requires Inv-loop μ-loop
-perform-requires c κs =
+perform-relocation-requires : tie.Need-perform-relocation-requires Inv-loop μ-loop
+perform-relocation-requires c κs =
     let l = c .before .before .before .before .before .before .before .before .before .before .before in
     let s = st l in
     let a = s .args in (
@@ -109,7 +109,7 @@ loop-again c =
     let l = lp p in
     let s = st l in
     let a = s .args in
-    (going-on (relocationTrace (now (a .file)) (now (a .builtins)) (a .job)) (relocationCount (a .job)) (a .image .now) (l .loop .image) (T₀ s) (T l) (a .rows) (a .held) (a .moved) (l .loop .used) (l .loop .moves) (l .loop .i) (s .pre .3) (l .loop .inv .0) (p .before .before .before .before .before .before .before .before .before .before .before .loop-test .taken) (im′ p) (U p) _ _ (lens p) (p .perform .kept .0) (did p (Holds (c .before .u .given .0 .0) (c .before .u .given .0 .1 .0)) (c .before .u .given .1)), header-next (now (a .file)) (now (a .builtins)) (a .job) (l .loop .i) (l .loop .header) (p .before .before .before .before .before .before .before .before .before .used-header .result) (p .before .before .before .before .before .before .before .before .before .before .relocation-at .result) (l .loop .inv .1) (p .before .before .before .before .before .before .before .before .before .before .relocation-at .ensures) (p .before .before .before .before .before .before .before .before .before .used-header .ensures))
+    (going-on (relocationTrace (now (a .file)) (now (a .builtins)) (a .job)) (relocationCount (a .job)) (a .image .now) (l .loop .image) (T₀ s) (T l) (a .rows) (a .held) (a .moved) (l .loop .used) (l .loop .moves) (l .loop .i) (s .pre .3) (l .loop .inv .0) (p .before .before .before .before .before .before .before .before .before .before .before .loop-test .taken) (im′ p) (U p) _ _ (lens p) (p .perform-relocation .kept .0) (did p (Holds (c .before .u .given .0 .0) (c .before .u .given .0 .1 .0)) (c .before .u .given .1)), header-next (now (a .file)) (now (a .builtins)) (a .job) (l .loop .i) (l .loop .header) (p .before .before .before .before .before .before .before .before .before .used-header .result) (p .before .before .before .before .before .before .before .before .before .before .relocation-at .result) (l .loop .inv .1) (p .before .before .before .before .before .before .before .before .before .before .relocation-at .ensures) (p .before .before .before .before .before .before .before .before .before .used-header .ensures))
 
 returns-2 : tie.Need-returns-2 Inv-loop μ-loop
 returns-2 c =
@@ -130,9 +130,9 @@ apply-relocations-spec =
     (search needs)
     used-header-requires
     plan-relocation-requires
-    perform-requires
+    perform-relocation-requires
     (search needs)
-    (λ c. let p = c .before .before .before .before .before .before .before .before .before .before .before .before .before .before .before in p .perform .kept .0 ∙ lp p .loop .inv .0 .image-as)
+    (λ c. let p = c .before .before .before .before .before .before .before .before .before .before .before .before .before .before .before in p .perform-relocation .kept .0 ∙ lp p .loop .inv .0 .image-as)
     (λ c. all-lens (c .before .before .before .before .before .before .before .before .before .before .before .before .before .before .before) .keys-as)
     (λ c. all-lens (c .before .before .before .before .before .before .before .before .before .before .before .before .before .before .before) .indices-as)
     (λ c. all-lens (c .before .before .before .before .before .before .before .before .before .before .before .before .before .before .before) .kinds-as)
