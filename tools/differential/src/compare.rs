@@ -586,20 +586,18 @@ impl Comparer {
     }
 }
 
-/// Where the binary search comes to, whatever the numbers are: they are halved while more than eight
-/// are left, and of those, the last eight at the latest, it counts the ones below the key.
+/// Where the binary search comes to, whatever the numbers are: they are halved until one is left, and it is that
+/// one's place, or the next where that one is below the key.
 fn binary_search(keys: &[u32], key: u32) -> usize {
     let (mut base, mut size) = (0, keys.len());
-    while 8 < size {
+    while 1 < size {
         let half = size / 2;
         if keys[base + half] <= key {
             base += half;
         }
         size -= half;
     }
-    let start = base.min(keys.len().saturating_sub(8));
-    let counted = keys[start..].iter().take(8);
-    start + counted.filter(|k| **k < key).count()
+    base + (size == 1 && keys[base] < key) as usize
 }
 
 /// Makes a file that differs smaller, as long as it differs: shorter first, then more zeros.
