@@ -60,12 +60,13 @@ pub fn without(file: &[u8]) -> Placed {
     if has_headers(file) {
         let (segments, sections) = headers(file);
         for at in segments {
-            if get(file, at, 4) == PT_DYNAMIC {
+            // one that overlaps the file header is refused with it, and that must stay as it is
+            if at >= 64 && get(file, at, 4) == PT_DYNAMIC {
                 put(&mut bytes, at, PT_NOTE, 4);
             }
         }
         for at in sections {
-            if get(file, at + 4, 4) == SHT_DYNAMIC {
+            if at >= 64 && get(file, at + 4, 4) == SHT_DYNAMIC {
                 put(&mut bytes, at + 4, SHT_PROGBITS, 4);
             }
         }
