@@ -31,8 +31,8 @@ fn main() {
     show(b"sol_log_");
     let table = ebpf::key_table();
     show_index(&table, 0);
-    show_index(&table, 1023);
-    show_index(&table, 1024);
+    show_index(&table, 255);
+    show_index(&table, 256);
     show_index(&table, 4294967295);
     show_index(&table, 4294967296);
     show_index(&table, 18446744073709551615);

@@ -393,6 +393,8 @@ pub fn file(r: &mut Random, style: Style, beyond: Beyond) -> Made {
     let slots = match style {
         _ if r.odd(12) => r.range(0, 1),
         Style::Small => r.range(1, 8),
+        // around the constant table's 256 keys, and around the 1,024 targets that a load remembers
+        Style::Large if r.one_in(2) => r.range(200, 400),
         Style::Large => r.range(900, 1500),
         _ if r.one_in(12) => r.range(16, 40),
         _ => r.range(2, 12),

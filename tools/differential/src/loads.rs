@@ -102,7 +102,7 @@ impl Counts {
         let used = e.words[6] as usize;
         for k in 0..used {
             self.kinds[e.table[2][k] as usize] += 1;
-            self.far_rows += (e.table[1][k] >= 1024) as u64;
+            self.far_rows += (e.table[1][k] >= 256) as u64;
         }
         self.most_rows = self.most_rows.max(used as u64);
         self.just_fits += (case.rows() == used) as u64;
@@ -138,7 +138,7 @@ impl Counts {
             self.relocated, self.just_fits, self.text_aborts
         );
         println!(
-            "rows: {} without name, {} named by the file, {} entries, {} made from the index; {} of an index from 1,024; at most {} in a table; the longest file accepted has {} bytes",
+            "rows: {} without name, {} named by the file, {} entries, {} made from the index; {} of an index from 256; at most {} in a table; the longest file accepted has {} bytes",
             self.kinds[0], self.kinds[1], self.kinds[2], self.kinds[3], self.far_rows, self.most_rows, self.longest_accepted
         );
         // every number that a load can give
