@@ -193,6 +193,14 @@ uint32_t sbpf_lookup_ascending(const uint32_t *keys, size_t keys_len, const uint
 uint64_t sbpf_index_ascending(const uint32_t *keys, size_t keys_len, const uint32_t *indices,
                               size_t indices_len, uint64_t used, uint32_t key);
 
+/* The number of that row, counted from 0, by the column of keys alone, as many rows as it has;
+ * SBPF_NO_ROW where there is none. Use this one where more than the index is wanted of a row that a
+ * load has left: the row's index, and its name's kind, start and length, stand in the caller's own
+ * columns at that number, and nothing is copied. A number that is given is below `used` and below
+ * the column's length. On a table of unknown origin use sbpf_lookup, as above. */
+#define SBPF_NO_ROW SBPF_NO_INDEX
+uint64_t sbpf_row_ascending(const uint32_t *keys, size_t keys_len, uint64_t used, uint32_t key);
+
 /* Loads a file of at most 16,777,216 bytes (else 40). Lent are: the image and the read-only
  * buffer, each at least as long as the file (else 41); and the table, five columns with as many
  * rows as the shortest has (43 where the functions do not fit). The built-ins are keys that

@@ -14,6 +14,9 @@ use std::ops::Range;
 const WORDS: usize = 24;
 const ROW_WORDS: usize = 9;
 
+/// The word where there is no index and no row.
+const NONE: u64 = u64::MAX;
+
 /// The exported functions, in the order of include/sbpf.h and with its arguments: a slice is a
 /// pointer and its length in elements. Nothing checks them against crates/exports/src/lib.rt.
 mod c {
@@ -108,6 +111,7 @@ mod c {
             used: u64,
             key: u32,
         ) -> u64;
+        pub fn sbpf_row_ascending(keys: *const u32, keys_len: usize, used: u64, key: u32) -> u64;
         pub fn sbpf_load(
             file: *const u8,
             file_len: usize,
@@ -334,7 +338,16 @@ pub fn index_ascending(table: Table, used: usize, key: u32) -> Option<u32> {
             key,
         )
     };
-    (index != u64::MAX).then_some(index as u32)
+    (index != NONE).then_some(index as u32)
+}
+
+/// The number of that row, by the column of keys: where more than the index is wanted, it is read at
+/// that number in the columns, with nothing copied.
+pub fn row_ascending(table: Table, used: usize, key: u32) -> Option<usize> {
+    // SAFETY: as said above; nothing is written.
+    let row =
+        unsafe { c::sbpf_row_ascending(table.keys.as_ptr(), table.keys.len(), used as u64, key) };
+    (row != NONE).then_some(row as usize)
 }
 
 #[rustfmt::skip]

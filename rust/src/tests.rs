@@ -81,6 +81,9 @@ fn the_example_is_accepted() {
     assert_eq!(lookup_ascending(lent.table(), a.used, 1), None);
     assert_eq!(index_ascending(lent.table(), a.used, 0), Some(entry.index));
     assert_eq!(index_ascending(lent.table(), a.used, 1), None);
+    assert_eq!(row_ascending(lent.table(), a.used, 0), Some(0));
+    assert_eq!(row_ascending(lent.table(), a.used, 1), None);
+    assert_eq!(row_ascending(lent.table(), 0, 0), None);
     assert_eq!(lookup(lent.table(), a.used, 1), None);
     assert_eq!(lookup(lent.table(), 0, 0), None);
     assert_eq!(lent.read_only(&a), Some(&EXAMPLE[64..80]));
@@ -114,6 +117,15 @@ fn a_call_holds_the_key_that_finds_its_target() {
         assert_eq!(
             index_ascending(lent.table(), a.used, key),
             row.map(|r| r.index)
+        );
+        assert_eq!(
+            row_ascending(lent.table(), a.used, key).map(|i| Row {
+                index: lent.indices[i],
+                kind: lent.kinds[i],
+                start: lent.starts[i],
+                length: lent.lengths[i],
+            }),
+            row
         );
         row.map(|row| (row.index, row.kind))
     };

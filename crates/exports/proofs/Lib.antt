@@ -3,3 +3,4 @@ mod Writing
 mod Giving
 mod Naming
 mod Named
+mod Told

@@ -21,6 +21,8 @@ use Rattle.hash_table.specs.declared.FoundSymbol.{FoundSymbol}
 use Rattle.hash_table.specs.declared.FoundSymbol.the-variants.{At as SymbolAt, Nothing as NoSymbol, BadHashTable}
 use Rattle.program.specs.declared.Found.{Found}
 use Rattle.program.specs.declared.Found.the-variants.{At, Nothing}
+use Rattle.program.specs.declared.FoundRow.{FoundRow}
+use Rattle.program.specs.declared.FoundRow.the-variants.{At as AtRow, Nothing as NoRow}
 use Rattle.program.specs.declared.FoundIndex.{FoundIndex}
 use Rattle.program.specs.declared.FoundIndex.the-variants.{At as AtIndex, Nothing as NoIndex}
 use Rattle.program.specs.Table.{Lent}
@@ -125,10 +127,18 @@ symbolAnswer (SymbolAt index) = accepted (1 ∷ index ∷ [])
 symbolAnswer NoSymbol = accepted (0 ∷ [])
 symbolAnswer BadHashTable = answerWith 48 (0 ∷ [])
 
--- an index as a word, and where there is none the largest word, which is no index
+-- the word where there is none: the largest, which is no index and no row's number (`row-told` in proofs/Told.antt)
+abbrev pub noneWord : ℕ
+noneWord = 2 ^ 64 - 1
+
+-- an index as a word, and the number of a row
 abbrev pub indexWord : FoundIndex → ℕ
 indexWord (AtIndex index) = index
-indexWord NoIndex = 2 ^ 64 - 1
+indexWord NoIndex = noneWord
+
+abbrev pub rowWord : FoundRow → ℕ
+rowWord (AtRow row) = row
+rowWord NoRow = noneWord
 
 -- ---- a load
 

@@ -9,11 +9,12 @@ use elf_parser::report_of;
 use hash_table::FoundSymbol;
 use program::Found;
 use program::FoundIndex;
+use program::FoundRow;
 ghost use mathlib.Core.Path.{_≡_};
 ghost use mathlib.Core.List.{_∷_, _++_};
 ghost use Prim.Native.Nat.{_≤_};
 ghost use lib.ListN.{length, getD, drop};
-ghost use Rattle.exports.specs.Answers.{written, Gives, answerWith, reported, refused, laidOut, parseAnswer, placeAnswer, tableAnswer, symbolAnswer, rowAnswer, indexWord, nineWords, clearedFrom};
+ghost use Rattle.exports.specs.Answers.{written, Gives, answerWith, reported, refused, laidOut, parseAnswer, placeAnswer, tableAnswer, symbolAnswer, rowAnswer, indexWord, rowWord, nineWords, clearedFrom};
 
 // A number, 0 where nothing was refused, and what goes with it.
 pub struct Answer {
@@ -132,13 +133,26 @@ pub(crate) fn symbol_answer(f: FoundSymbol) -> Answer
     }
 }
 
-// The index that is found, or the word that says that there is none.
+// The word that says that there is none.
+const NONE: u64 = 18446744073709551615;
+
+// The index that is found, or that word.
 pub(crate) fn index_word(f: FoundIndex) -> u64
     ensures { λ r. ⌜ r ≡ indexWord f ⌝ }
 {
     match f {
         FoundIndex::At(index) => index as u64,
-        FoundIndex::Nothing => 18446744073709551615,
+        FoundIndex::Nothing => NONE,
+    }
+}
+
+// The same of the number of a row.
+pub(crate) fn row_word(f: FoundRow) -> u64
+    ensures { λ r. ⌜ r ≡ rowWord f ⌝ }
+{
+    match f {
+        FoundRow::At(row) => row as u64,
+        FoundRow::Nothing => NONE,
     }
 }
 

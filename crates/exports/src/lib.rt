@@ -1,11 +1,12 @@
 // The C interface, over numbers and lent slices: a slice is a pointer and a length. Each answer but a
-// hash, a name and an index is 24 words, the number first, as `specs/Answers.antt` says; the number is the
-// result too.
+// hash, a name, an index and a row's number is 24 words, the number first, as `specs/Answers.antt` says; the
+// number is the result too.
 // A lent slice of fewer words takes the first of them, one of more has zeros behind them.
 use answers::give;
 use answers::give_row;
 use answers::index_word;
 use answers::parse_answer;
+use answers::row_word;
 use asked::dynamic_symbol_name_answer;
 use asked::find_symbol_answer;
 use asked::section_name_answer;
@@ -23,15 +24,16 @@ use names::refusal_name;
 use program::index_ascending;
 use program::lookup_ascending;
 use program::lookup_by_key;
+use program::row_ascending;
 ghost use mathlib.Core.Path.{_≡_};
 ghost use Rattle.ebpf.specs.Murmur3.{murmur3};
 ghost use Rattle.elf_parser.specs.Names.{sectionName, symbolName, dynamicSymbolName};
 ghost use Rattle.elf_parser.specs.Parse.{parsed};
 ghost use Rattle.elf_parser.specs.Records.{sectionPlaceOf, symbolTableOf};
 ghost use Rattle.hash_table.specs.Find.{findSymbol};
-ghost use Rattle.program.specs.Table.{lookupIn, lookupAscendingIn, indexAscendingIn, tableBefore};
+ghost use Rattle.program.specs.Table.{lookupIn, lookupAscendingIn, rowAscendingIn, indexAscendingIn, tableBefore};
 ghost use Rattle.loader.specs.GetBytes.{textPlace};
-ghost use Rattle.exports.specs.Answers.{Gives, GivesAsked, GivesLoad, textAnswer, parseAnswer, placeAnswer, tableAnswer, symbolAnswer, rowAnswer, indexWord};
+ghost use Rattle.exports.specs.Answers.{Gives, GivesAsked, GivesLoad, textAnswer, parseAnswer, placeAnswer, tableAnswer, symbolAnswer, rowAnswer, indexWord, rowWord};
 ghost use Rattle.exports.specs.Names.{Named, refusalName};
 
 mod answers;
@@ -163,6 +165,15 @@ pub extern "C" fn sbpf_index_ascending(keys: &[u32], indices: &[u32], used: u64,
     ensures { λ r. ⌜ r ≡ indexWord (indexAscendingIn (now (keys .entry)) (now (indices .entry)) used key) ⌝ }
 {
     index_word(index_ascending(keys, indices, used as usize, key))
+}
+
+// The number of that row, by the column of keys alone; the largest word where there is none. At most
+// as many rows count as the column has numbers.
+#[no_mangle]
+pub extern "C" fn sbpf_row_ascending(keys: &[u32], used: u64, key: u32) -> u64
+    ensures { λ r. ⌜ r ≡ rowWord (rowAscendingIn (now (keys .entry)) used key) ⌝ }
+{
+    row_word(row_ascending(keys, used as usize, key))
 }
 
 // A load, as `loader::load`, with the settings by their bits.

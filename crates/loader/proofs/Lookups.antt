@@ -1,11 +1,11 @@
--- After a load both lookups answer the same, and demand 3 holds by either. Assumes nothing.
+-- After a load the lookups answer the same, and demand 3 holds by either. Assumes nothing.
 use Prim.Native.Nat.{ℕ}
 use mathlib.Core.List.{List}
 use mathlib.Core.Path.{_≡_, sym, ap, subst, fun-ext, _∙_}
 use denote.Ref.{now}
 use Rattle.program.specs.declared.Found.{Found}
-use Rattle.program.specs.Table.{Slices, Lent, tableAfter, lookupIn, lookupAscendingIn, indexAscendingIn, indexOfFound, Ready as IsTable}
-use Rattle.program.proofs.Tables.{lookups-agree, index-agrees}
+use Rattle.program.specs.Table.{Slices, Lent, tableAfter, lookupIn, lookupAscendingIn, rowAscendingIn, rowOfFound, indexAscendingIn, indexOfFound, Ready as IsTable}
+use Rattle.program.proofs.Tables.{lookups-agree, row-agrees, index-agrees}
 use Rattle.loader.specs.declared.answer.Accepted.{Accepted}
 use Rattle.loader.specs.declared.answer.Load.{Load}
 use Rattle.loader.specs.declared.answer.Load.the-variants.{Accepted as Accepts, Refused as Refuses}
@@ -23,6 +23,15 @@ pub agree-after : (file builtins : Lent) (c : Config) (image ro keys indices kin
     → (key : ℕ)
     → lookupAscendingIn (tableAfter keys indices kinds starts lengths) (x .used) key ≡ lookupIn (tableAfter keys indices kinds starts lengths) (x .used) key
 agree-after file builtins c image ro keys indices kinds starts lengths x l key = lookups-agree (tableAfter keys indices kinds starts lengths) (x .used) (l .ascending) key
+
+-- and the number of the row alone, by the column of keys, is that of the same row
+pub row-after : (file builtins : Lent) (c : Config) (image ro keys indices kinds starts lengths : Lent) (x : Accepted)
+    → Loads file builtins c image ro keys indices kinds starts lengths (Accepts x)
+    → (key : ℕ)
+    → lookupIn (tableAfter keys indices kinds starts lengths) (x .used) key ≡ rowOfFound (tableAfter keys indices kinds starts lengths) (rowAscendingIn (now (keys .exit)) (x .used) key)
+row-after file builtins c image ro keys indices kinds starts lengths x l key =
+    sym (agree-after file builtins c image ro keys indices kinds starts lengths x l key)
+    ∙ row-agrees (tableAfter keys indices kinds starts lengths) (x .used) (l .ascending) key
 
 -- and the index alone, by the columns of keys and indices, is that of the row
 pub index-after : (file builtins : Lent) (c : Config) (image ro keys indices kinds starts lengths : Lent) (x : Accepted)

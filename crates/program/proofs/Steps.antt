@@ -1,4 +1,4 @@
--- What each way out of a registration, `unregister_function`, `lookup_by_key`, `lookup_ascending` and `index_ascending` answers and leaves, in the words of the contract: one
+-- What each way out of a registration, `unregister_function`, `lookup_by_key`, `lookup_ascending` and `row_ascending` answers and leaves, in the words of the contract: one
 -- law for each return, whatever the slices hold. Assumes nothing.
 use mathlib.Core.Path.{_≡_, refl, sym, ap, _∙_}
 use mathlib.Core.Bool.{Bool, true, false}
@@ -14,13 +14,14 @@ use denote.Enum.Declared.{tagOf}
 use Rattle.ebpf.specs.Choice.{_if_else_}
 use Rattle.program.specs.declared.Row.{Row}
 use Rattle.program.specs.declared.Found.the-variants.{At, Nothing}
-use Rattle.program.specs.declared.FoundIndex.the-variants.{At as AtIndex, Nothing as NoIndex}
+use Rattle.program.specs.declared.FoundRow.{FoundRow}
+use Rattle.program.specs.declared.FoundRow.the-variants.{At as AtRow, Nothing as NoRow}
 use Rattle.program.specs.declared.Registered.{Registered}
 use Rattle.program.specs.declared.Registered.the-variants.{Inserted, Repeat, Collision, Full}
 use Rattle.program.specs.declared.Removed.the-variants.{Gone, Absent}
 use Rattle.program.specs.Search.{binarySearch, indexOf}
 use Rattle.program.specs.Rows.{rank}
-use Rattle.program.specs.Table.{Slices, capacity, Least, Within, rowAt, rowsOf, ranksOf, Opening, closedRow, counted, placeIn, holds, registerAt, registeredAt, registerIn, registeredBy, unregisterAt, unregisteredAt, unregisterIn, unregisteredIn, RegistersBy, Unregisters, lookupIn, foundAt, lookupAscendingIn, indexAt, indexAscendingIn}
+use Rattle.program.specs.Table.{Slices, capacity, Least, Within, rowAt, rowsOf, ranksOf, Opening, closedRow, counted, placeIn, holds, registerAt, registeredAt, registerIn, registeredBy, unregisterAt, unregisteredAt, unregisterIn, unregisteredIn, RegistersBy, Unregisters, lookupIn, foundAt, lookupAscendingIn, numberAt, rowAscendingIn}
 use Rattle.program.proofs.Registered.{the-type}
 use Rattle.program.proofs.Cases.{by-lt, by-le, by-eq, zero-one}
 use Rattle.program.proofs.Searches.{search-le}
@@ -111,23 +112,43 @@ module _ (t : Slices) (used rows n : ℕ) (c : Counts t used rows n) (k at : ℕ
   unfolding foundAt _if_else_
   finds-row l e = sym (looks ∙ rw (here t n at k l e) refl)
 
--- an index's, by two columns
-module _ (keys indices : List ℕ) (used m n k at : ℕ) (shorter : m ≡ min (length keys) (length indices)) (counts : n ≡ min used m) (is : at ≡ binarySearch k (take n keys)) where
-  looks-index : indexAscendingIn keys indices used k ≡ indexAt keys indices n at k
-  unfolding indexAscendingIn
-  looks-index = rw (is, counts, shorter) refl
+-- a row's number, by the keys alone
+module _ (keys : List ℕ) (used n k at : ℕ) (counts : n ≡ min used (length keys)) (is : at ≡ binarySearch k (take n keys)) where
+  looks-number : rowAscendingIn keys used k ≡ numberAt keys n at k
+  unfolding rowAscendingIn
+  looks-number = rw (is, counts) refl
 
-  pub index-past : n ≤ at → NoIndex ≡ indexAscendingIn keys indices used k
-  unfolding indexAt _if_else_
-  index-past l = sym (looks-index ∙ rw (le-leb n at l) refl)
+  pub row-past : n ≤ at → NoRow ≡ rowAscendingIn keys used k
+  unfolding numberAt _if_else_
+  row-past l = sym (looks-number ∙ rw (le-leb n at l) refl)
 
-  pub index-other : at < n → (getD keys at 0 ≡ k → ⊥) → NoIndex ≡ indexAscendingIn keys indices used k
-  unfolding indexAt _if_else_
-  index-other l h = sym (looks-index ∙ rw (lt-leb n at l, ne-eqb (getD keys at 0) k h) refl)
+  pub row-other : at < n → (getD keys at 0 ≡ k → ⊥) → NoRow ≡ rowAscendingIn keys used k
+  unfolding numberAt _if_else_
+  row-other l h = sym (looks-number ∙ rw (lt-leb n at l, ne-eqb (getD keys at 0) k h) refl)
 
-  pub index-here : at < n → getD keys at 0 ≡ k → AtIndex (getD indices at 0) ≡ indexAscendingIn keys indices used k
-  unfolding indexAt _if_else_
-  index-here l e = sym (looks-index ∙ rw (lt-leb n at l, eq-eqb (getD keys at 0) k e) refl)
+  pub row-here : at < n → getD keys at 0 ≡ k → AtRow at ≡ rowAscendingIn keys used k
+  unfolding numberAt _if_else_
+  row-here l e = sym (looks-number ∙ rw (lt-leb n at l, eq-eqb (getD keys at 0) k e) refl)
+
+-- it is below the rows that count
+number-below : (keys : List ℕ) (n at k i : ℕ) → numberAt keys n at k ≡ AtRow i → i < n
+unfolding numberAt _if_else_
+number-below keys n at k i =
+    by-le n at (λ (b : Bool). (NoRow if b else AtRow at if eqb (getD keys at 0) k else NoRow) ≡ AtRow i → i < n)
+    (λ _ e. absurd (zero-one (cc)))
+    (λ l. by-eq (getD keys at 0) k (λ (b : Bool). (AtRow at if b else NoRow) ≡ AtRow i → i < n)
+    (λ _ e. let same : at ≡ i = cc in omega arith)
+    (λ _ e. absurd (zero-one (cc))))
+
+pub row-below : (keys : List ℕ) (used k i : ℕ) → rowAscendingIn keys used k ≡ AtRow i → i < min used (length keys)
+unfolding rowAscendingIn
+row-below keys used k i = number-below keys (min used (length keys)) (binarySearch k (take (min used (length keys)) keys)) k i
+
+-- so it is in the column of keys, and in one of m numbers where at most m rows count
+pub row-inside : (keys : List ℕ) (used n m k i : ℕ) (r : FoundRow) → n ≡ min used m → r ≡ rowAscendingIn keys n k → r ≡ AtRow i → (i < length keys) × (i < m)
+row-inside keys used n m k i r counts is e =
+    let l = row-below keys n k i (sym is ∙ e) in
+    (omega arith, omega arith)
 
 -- a registration's answer at that place
 module _ (t : Slices) (used rows n : ℕ) (c : Counts t used rows n) (row : Row) (at : ℕ) (is : at ≡ binarySearch (rank row) (take n (t .keys))) where

@@ -11,14 +11,15 @@ use borrow.Author.Tests.{lt-ltb, le-ltb, eq-eqb, ne-eqb}
 use Rattle.ebpf.specs.Choice.{_if_else_}
 use Rattle.program.specs.declared.Row.{Row}
 use Rattle.program.specs.declared.Found.the-variants.{At, Nothing}
-use Rattle.program.specs.declared.FoundIndex.the-variants.{At as AtIndex, Nothing as NoIndex}
+use Rattle.program.specs.declared.FoundRow.{FoundRow}
+use Rattle.program.specs.declared.FoundRow.the-variants.{At as AtRow, Nothing as NoRow}
 use Rattle.program.specs.declared.Registered.{Registered}
 use Rattle.program.specs.declared.Registered.the-variants.{Inserted, Repeat, Collision, Full}
 use Rattle.program.specs.declared.Removed.{Removed}
 use Rattle.program.specs.declared.Removed.the-variants.{Gone, Absent}
 use Rattle.program.specs.Search.{binarySearch}
 use Rattle.program.specs.Rows.{rank, Ascending, find, remove, register, registered, unregister}
-use Rattle.program.specs.Table.{Slices, least, capacity, column, lay, rowAt, rowsOf, openedRow, closedRow, counted, placeIn, registerIn, registeredBy, registeredIn, unregisterAt, unregisteredAt, unregisterIn, unregisteredIn, Registers, Unregisters, lookupIn, foundAt, lookupAscendingIn, indexAt, indexAscendingIn, indexOfFound, ranksOf, holds, Ready, Registration, Removal}
+use Rattle.program.specs.Table.{Slices, least, capacity, column, lay, rowAt, rowsOf, openedRow, closedRow, counted, placeIn, registerIn, registeredBy, registeredIn, unregisterAt, unregisteredAt, unregisterIn, unregisteredIn, Registers, Unregisters, lookupIn, foundAt, lookupAscendingIn, numberAt, rowAscendingIn, rowOfFound, indexOfRow, indexAscendingIn, indexOfFound, ranksOf, holds, Ready, Registration, Removal}
 use Rattle.program.proofs.Cases.{by-le, by-eq}
 use Rattle.program.proofs.Searches.{search-place}
 use Rattle.program.proofs.Laying.{zero-row, within-room, length-column, length-rows, ranks-rows, row-at, rows-lay, capacity-lay, opened-lay, closed-lay}
@@ -112,14 +113,29 @@ unfolding unregisterAt unregisteredAt _if_else_
 by-unregisteredAt P t n at k none one =
     by-holds t n at k (λ (b : Bool). P (closedRow at n t if b else t) (Gone (n - at - 1) if b else Absent)) one none
 
--- the index of a row that is found at a place
-same-index : (t : Slices) (n at k : ℕ) → indexAt (t .keys) (t .indices) n at k ≡ indexOfFound (foundAt t n at k)
-unfolding indexAt foundAt holds rank _if_else_
-same-index t n at k =
+-- ---- a row's number, whatever the slices hold
+
+-- the row that is found at a place
+same-row : (t : Slices) (n at k : ℕ) → foundAt t n at k ≡ rowOfFound t (numberAt (t .keys) n at k)
+unfolding numberAt foundAt holds rank _if_else_
+same-row t n at k =
     by-le n at
-    (λ (b : Bool). (NoIndex if b else AtIndex (getD (t .indices) at 0) if eqb (getD (t .keys) at 0) k else NoIndex) ≡ indexOfFound (At (rowAt t at) if (eqb (getD (t .keys) at 0) k if ltb at n else false) else Nothing))
+    (λ (b : Bool). (At (rowAt t at) if (eqb (getD (t .keys) at 0) k if ltb at n else false) else Nothing) ≡ rowOfFound t (NoRow if b else AtRow at if eqb (getD (t .keys) at 0) k else NoRow))
     (λ l. rw (le-ltb at n l) refl)
-    (λ l. rw (lt-ltb at n l) (by-eq (getD (t .keys) at 0) k (λ (b : Bool). (AtIndex (getD (t .indices) at 0) if b else NoIndex) ≡ indexOfFound (At (rowAt t at) if b else Nothing)) (λ _. refl) (λ _. refl)))
+    (λ l. rw (lt-ltb at n l) (by-eq (getD (t .keys) at 0) k (λ (b : Bool). (At (rowAt t at) if b else Nothing) ≡ rowOfFound t (AtRow at if b else NoRow)) (λ _. refl) (λ _. refl)))
+
+-- by the keys of the rows that count, the number is that of the row that the search finds
+pub row-counted : (t : Slices) (used k : ℕ) → lookupAscendingIn t used k ≡ rowOfFound t (rowAscendingIn (t .keys) (counted t used) k)
+unfolding lookupAscendingIn rowAscendingIn placeIn ranksOf counted capacity least
+row-counted t used k =
+    let n = min used (least (length (t .keys)) (length (t .indices)) (length (t .kinds)) (length (t .starts)) (length (t .lengths))) in
+    let all : min n (length (t .keys)) ≡ n = omega arith in
+    rw all (same-row t n (binarySearch k (take n (t .keys))) k)
+
+-- the index of a row is that in the column of indices at its number
+index-at : (t : Slices) (r : FoundRow) → indexOfRow (t .indices) r ≡ indexOfFound (rowOfFound t r)
+index-at t (AtRow n) = refl
+index-at t NoRow = refl
 
 -- ---- a table
 
@@ -183,13 +199,16 @@ module _ (t : Slices) (used : ℕ) (ready : Ready t used) where
       (λ l e. sym (found k (placeIn t used k) is l e))
       (λ h. sym (missing k (placeIn t used k) is h)))
 
-  -- and by two columns alone the index is the same
+  -- and by the keys alone the number is that of the same row
+  pub row-agrees : (k : ℕ) → lookupAscendingIn t used k ≡ rowOfFound t (rowAscendingIn (t .keys) used k)
+  row-agrees k = row-counted t used k ∙ rw counted-ready refl
+
+  -- and by two columns alone the index is its
   pub index-agrees : (k : ℕ) → indexAscendingIn (t .keys) (t .indices) used k ≡ indexOfFound (lookupAscendingIn t used k)
-  unfolding indexAscendingIn lookupAscendingIn placeIn ranksOf
+  unfolding indexAscendingIn
   index-agrees k =
-      let w = within-room used t (ready .room) in
-      let all : min used (min (length (t .keys)) (length (t .indices))) ≡ used = omega (arith, w .in-keys, w .in-indices) in
-      rw (all, counted-ready) (same-index t used (binarySearch k (take used (t .keys))) k)
+      let all : min used (length (t .indices)) ≡ used = omega (arith, within-room used t (ready .room) .in-indices) in
+      rw (all, row-agrees k) (index-at t (rowAscendingIn (t .keys) used k))
 
   module _ (row : Row) (at : ℕ) (is : at ≡ placeOf (rank row) (rowsOf t used)) where
     repeats : at < used → rank (rowAt t at) ≡ rank row → rowAt t at .index ≡ row .index → Registration t t used row Repeat

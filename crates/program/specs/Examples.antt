@@ -9,6 +9,7 @@ use Rattle.ebpf.specs.LittleEndian.{bytesOf}
 use Rattle.ebpf.specs.Murmur3.{body, murmur3}
 use Rattle.program.specs.declared.Row.{Row}
 use Rattle.program.specs.declared.Found.the-variants.{At, Nothing}
+use Rattle.program.specs.declared.FoundRow.the-variants.{At as AtRow, Nothing as NoRow}
 use Rattle.program.specs.declared.FoundIndex.the-variants.{At as AtIndex, Nothing as NoIndex}
 use Rattle.program.specs.declared.Registered.the-variants.{Inserted, Repeat, Collision, Full}
 use Rattle.program.specs.declared.Removed.the-variants.{Gone, Absent}
@@ -16,7 +17,7 @@ use Rattle.program.specs.declared.KeptName.{KeptName}
 use Rattle.program.specs.declared.FunctionName.the-variants.{Symbol, OfIndex, Entrypoint}
 use Rattle.program.specs.Search.{narrowed, binarySearch, isAmong}
 use Rattle.program.specs.Rows.{rank}
-use Rattle.program.specs.Table.{Slices, slices, least, capacity, rowsOf, ranksOf, opened, closed, openedRow, openedAlike, closedRow, counted, placeIn, holds, registerAt, registeredAt, registerIn, registeredBy, registeredIn, registeredAlikeIn, unregisterAt, unregisteredAt, unregisterIn, unregisteredIn, lookupIn, foundAt, lookupAscendingIn, indexAt, indexAscendingIn}
+use Rattle.program.specs.Table.{Slices, slices, least, capacity, rowsOf, ranksOf, opened, closed, openedRow, openedAlike, closedRow, counted, placeIn, holds, registerAt, registeredAt, registerIn, registeredBy, registeredIn, registeredAlikeIn, unregisterAt, unregisteredAt, unregisterIn, unregisteredIn, lookupIn, foundAt, lookupAscendingIn, numberAt, rowAscendingIn, indexAscendingIn}
 use Rattle.program.specs.HashedLegacy.{kept, keptSymbol, keptName, legacyKey, isTaken}
 
 -- a row with a name that is made from the index
@@ -92,10 +93,21 @@ missed : lookupAscendingIn falling 3 30 ∷ lookupIn falling 3 30 ∷ [] ≡ Not
 unfolding lookupAscendingIn foundAt lookupIn counted placeIn holds binarySearch narrowed rowsOf ranksOf capacity least rank _if_else_
 missed = refl
 
+-- the row's number alone: of the first row, of the last, of a key between the rows, of a row that is not used, by a count past the column, and by no rows
+row-lookups : rowAscendingIn (10 ∷ 20 ∷ 30 ∷ []) 3 10 ∷ rowAscendingIn (10 ∷ 20 ∷ 30 ∷ []) 3 30 ∷ rowAscendingIn (10 ∷ 20 ∷ 30 ∷ []) 3 25 ∷ rowAscendingIn (10 ∷ 20 ∷ 30 ∷ []) 2 30 ∷ rowAscendingIn (10 ∷ 20 ∷ 30 ∷ []) 9 30 ∷ rowAscendingIn (10 ∷ 20 ∷ 30 ∷ []) 0 10 ∷ []
+    ≡ AtRow 0 ∷ AtRow 2 ∷ NoRow ∷ NoRow ∷ AtRow 2 ∷ NoRow ∷ []
+unfolding rowAscendingIn numberAt binarySearch narrowed _if_else_
+row-lookups = refl
+
+-- in keys that fall it misses rows that are there; of two equal keys it gives one
+row-misses : rowAscendingIn (30 ∷ 20 ∷ 10 ∷ []) 3 30 ∷ rowAscendingIn (30 ∷ 20 ∷ 10 ∷ []) 3 20 ∷ rowAscendingIn (5 ∷ 9 ∷ 5 ∷ []) 3 5 ∷ [] ≡ NoRow ∷ NoRow ∷ AtRow 0 ∷ []
+unfolding rowAscendingIn numberAt binarySearch narrowed _if_else_
+row-misses = refl
+
 -- the index alone: of a row, of a row that is not used, of a key between the rows, and by a column of indices that is too short
 index-lookups : indexAscendingIn (10 ∷ 20 ∷ 30 ∷ []) (1 ∷ 2 ∷ 3 ∷ []) 3 30 ∷ indexAscendingIn (10 ∷ 20 ∷ 30 ∷ []) (1 ∷ 2 ∷ 3 ∷ []) 2 30 ∷ indexAscendingIn (10 ∷ 20 ∷ 30 ∷ []) (1 ∷ 2 ∷ 3 ∷ []) 3 25 ∷ indexAscendingIn (10 ∷ 20 ∷ 30 ∷ []) (1 ∷ 2 ∷ []) 3 30 ∷ []
     ≡ AtIndex 3 ∷ NoIndex ∷ NoIndex ∷ NoIndex ∷ []
-unfolding indexAscendingIn indexAt binarySearch narrowed _if_else_
+unfolding indexAscendingIn rowAscendingIn numberAt binarySearch narrowed _if_else_
 index-lookups = refl
 
 -- the binary search in nineteen ascending numbers: the first, the last, one in the middle, and numbers below, between and behind them

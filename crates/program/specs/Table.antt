@@ -13,6 +13,8 @@ use Rattle.program.specs.Rows.{rank, Ascending, find, register, register
 use Rattle.program.specs.declared.Row.{Row}
 use Rattle.program.specs.declared.Found.{Found}
 use Rattle.program.specs.declared.Found.the-variants.{At, Nothing}
+use Rattle.program.specs.declared.FoundRow.{FoundRow}
+use Rattle.program.specs.declared.FoundRow.the-variants.{At as AtRow, Nothing as NoRow}
 use Rattle.program.specs.declared.FoundIndex.{FoundIndex}
 use Rattle.program.specs.declared.FoundIndex.the-variants.{At as AtIndex, Nothing as NoIndex}
 use Rattle.program.specs.declared.Registered.{Registered}
@@ -226,15 +228,28 @@ foundAt t n at k = At (rowAt t at) if holds t n at k else Nothing
 unfoldable pub lookupAscendingIn : Slices → ℕ → ℕ → Found
 lookupAscendingIn t used k = foundAt t (counted t used) (placeIn t (counted t used) k) k
 
+-- the row's number alone, by the column of keys; as many rows count as it has numbers. On every table it is the number of the row that
+-- `lookupAscendingIn` gives (`row-agrees` in proofs/Tables.antt)
+unfoldable pub numberAt : List ℕ → ℕ → ℕ → ℕ → FoundRow
+numberAt keys n at k = NoRow if leb n at else AtRow at if eqb (getD keys at 0) k else NoRow
+
+unfoldable pub rowAscendingIn : List ℕ → ℕ → ℕ → FoundRow
+rowAscendingIn keys used k =
+    let n = min used (length keys) in
+    numberAt keys n (binarySearch k (take n keys)) k
+
+abbrev pub rowOfFound : Slices → FoundRow → Found
+rowOfFound t (AtRow n) = At (rowAt t n)
+rowOfFound t NoRow = Nothing
+
 -- the index alone, by the columns of keys and indices; as many rows count as the shorter has numbers. On every table it is the index of the row that
 -- `lookupAscendingIn` gives (`index-agrees` in proofs/Tables.antt)
-unfoldable pub indexAt : List ℕ → List ℕ → ℕ → ℕ → ℕ → FoundIndex
-indexAt keys indices n at k = NoIndex if leb n at else AtIndex (getD indices at 0) if eqb (getD keys at 0) k else NoIndex
+abbrev pub indexOfRow : List ℕ → FoundRow → FoundIndex
+indexOfRow indices (AtRow n) = AtIndex (getD indices n 0)
+indexOfRow indices NoRow = NoIndex
 
 unfoldable pub indexAscendingIn : List ℕ → List ℕ → ℕ → ℕ → FoundIndex
-indexAscendingIn keys indices used k =
-    let n = min used (min (length keys) (length indices)) in
-    indexAt keys indices n (binarySearch k (take n keys)) k
+indexAscendingIn keys indices used k = indexOfRow indices (rowAscendingIn keys (min used (length indices)) k)
 
 abbrev pub indexOfFound : Found → FoundIndex
 indexOfFound (At r) = AtIndex (r .index)

@@ -2,7 +2,7 @@
 // by key, with zeros behind the used rows; it has as many rows as the shortest slice has numbers.
 ghost use mathlib.Core.Path.{_≡_};
 ghost use Prim.Native.Nat.{_+_};
-ghost use Rattle.program.specs.Table.{registerIn, lookupIn, lookupAscendingIn, indexAscendingIn, Registers, RegistersAlike, Unregisters, tableBefore, tableAfter, Within, rowAt, tableOf};
+ghost use Rattle.program.specs.Table.{registerIn, lookupIn, lookupAscendingIn, rowAscendingIn, indexAscendingIn, Registers, RegistersAlike, Unregisters, tableBefore, tableAfter, Within, rowAt, tableOf};
 
 mod columns;
 mod hashed_legacy;
@@ -39,6 +39,12 @@ pub struct Row {
 
 pub enum Found {
     At(Row),
+    Nothing,
+}
+
+// The number of a row that is found.
+pub enum FoundRow {
+    At(usize),
     Nothing,
 }
 
@@ -303,19 +309,32 @@ pub fn lookup_ascending(
     Found::At(row_at(keys, indices, kinds, starts, lengths, at))
 }
 
-// The index under a key, as `lookup_ascending` finds it, by the columns of keys and indices alone: what
-// a call needs, with less to hand over. As many rows count as the shorter column has numbers.
-pub fn index_ascending(keys: &[u32], indices: &[u32], used: usize, key: u32) -> FoundIndex
-    ensures { λ r. ⌜ r ≡ indexAscendingIn (now (keys .entry)) (now (indices .entry)) used key ⌝ }
+// The number of the row under a key, as `lookup_ascending` finds it, by the column of keys alone: the
+// caller reads what it needs of that row in its own columns. As many rows count as the column has
+// numbers.
+pub fn row_ascending(keys: &[u32], used: usize, key: u32) -> FoundRow
+    ensures { λ r. ⌜ r ≡ rowAscendingIn (now (keys .entry)) used key ⌝ }
 {
-    let n = columns::smaller(used, columns::smaller(keys.len(), indices.len()));
+    let n = columns::smaller(used, keys.len());
     let at = search::binary_search(keys, n, key);
     if n <= at {
-        return FoundIndex::Nothing;
+        return FoundRow::Nothing;
     }
     let held = keys[at];
     if held != key {
-        return FoundIndex::Nothing;
+        return FoundRow::Nothing;
     }
-    FoundIndex::At(indices[at])
+    FoundRow::At(at)
+}
+
+// The index of that row, by the columns of keys and indices alone: what a call needs, with less to hand
+// over. As many rows count as the shorter column has numbers.
+pub fn index_ascending(keys: &[u32], indices: &[u32], used: usize, key: u32) -> FoundIndex
+    ensures { λ r. ⌜ r ≡ indexAscendingIn (now (keys .entry)) (now (indices .entry)) used key ⌝ }
+{
+    let n = columns::smaller(used, indices.len());
+    match row_ascending(keys, n, key) {
+        FoundRow::At(row) => FoundIndex::At(indices[row]),
+        FoundRow::Nothing => FoundIndex::Nothing,
+    }
 }
