@@ -571,15 +571,26 @@ impl Comparer {
             searched,
             room,
         )?;
-        // the index alone, by two columns
-        let rows = t[0].len().min(t[1].len()).min(used.min(1 << 20) as usize);
-        let at = binary_search(&t[0][..rows], key);
-        let index = (at < rows && t[0][at] == key).then(|| t[1][at]);
+        // the index alone, by two columns, and the row's number, by the keys
+        let row_among = |rows: usize| {
+            let rows = rows.min(used.min(1 << 20) as usize);
+            let at = binary_search(&t[0][..rows], key);
+            (at < rows && t[0][at] == key).then_some(at)
+        };
+        let index = row_among(t[0].len().min(t[1].len())).map(|at| t[1][at]);
         self.count("index_ascending", index.is_some() as u32);
         let port = port::index(&t, used, key);
         if port != index {
             return Err(format!(
                 "index of {key} in {used} rows of {t:?}\n  port {port:?}\n  here {index:?}"
+            ));
+        }
+        let row = row_among(t[0].len());
+        self.count("row_ascending", row.is_some() as u32);
+        let port = port::row(&t, used, key);
+        if port != row {
+            return Err(format!(
+                "row of {key} in {used} rows of {t:?}\n  port {port:?}\n  here {row:?}"
             ));
         }
         Ok(())

@@ -21,6 +21,15 @@ use std::{collections::BTreeMap, env, fs, process::exit, time::Instant};
 
 const MOST_DIFFERENCES: usize = 5;
 
+/// What answers that there is something, or that there is nothing.
+const FINDS: [&str; 5] = [
+    "lookup",
+    "lookup_ascending",
+    "index_ascending",
+    "row_ascending",
+    "symbol by name",
+];
+
 /// What is asked.
 #[derive(Clone, Copy)]
 struct Ask {
@@ -112,8 +121,8 @@ fn compare(ask: Ask, cases: u64, seed: u64, first: u64) {
             last = what;
         }
         let name = match (*what, number) {
-            ("lookup" | "lookup_ascending" | "index_ascending" | "symbol by name", 0) => "none",
-            ("lookup" | "lookup_ascending" | "index_ascending" | "symbol by name", 1) => "found",
+            (what, 0) if FINDS.contains(&what) => "none",
+            (what, 1) if FINDS.contains(&what) => "found",
             (_, 0) => "",
             _ => number_name(*number),
         };

@@ -76,6 +76,7 @@ proved! { port:
         used: u64,
         key: u32,
     ) -> u64;
+    fn sbpf_row_ascending(keys: *const u32, keys_len: usize, used: u64, key: u32) -> u64;
 }
 
 proved! { load:
@@ -235,6 +236,13 @@ pub fn index(t: &Columns, used: u64, key: u32) -> Option<u32> {
         )
     };
     (index != u64::MAX).then_some(index as u32)
+}
+
+/// The row's number alone, by the search over the keys.
+pub fn row(t: &Columns, used: u64, key: u32) -> Option<usize> {
+    let keys = &t[0];
+    let row = unsafe { sbpf_row_ascending(keys.as_ptr(), keys.len(), used, key) };
+    (row != u64::MAX).then_some(row as usize)
 }
 
 /// `table` are the five columns, in the order of `Columns`.

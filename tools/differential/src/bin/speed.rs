@@ -1,6 +1,6 @@
 //! speed [ROUNDS], speed lookups [ROUNDS]: the second compares lookups by key, a hit and a miss, with the
-//! Rust's `lookup_by_key` on a registry of the same keys: by the scan, by the binary search, and of the
-//! index alone, through the C interface, the first two with the nine words lent that a row has. The first: the Rust's `Executable::load` and the port's on the same files, in one process,
+//! Rust's `lookup_by_key` on a registry of the same keys: by the scan, by the binary search, of the
+//! index alone, and by the row's number, at which the caller reads the index in its own column, through the C interface, the first two with the nine words lent that a row has. The first: the Rust's `Executable::load` and the port's on the same files, in one process,
 //! in turn. Time of the Rust: one load and its release (allocation is part of it, as it is where it
 //! is used). Time of the port: one load into buffers that the load before has left (it clears them
 //! itself), with eight rows more than there are functions. Copy: the file's bytes into a buffer.
@@ -46,8 +46,8 @@ fn main() {
         .next()
         .map_or(41, |a| a.parse().expect("a number of rounds"));
     if lookups {
-        println!("| Keys asked | Rows | Key | Rust ns | Scan/Rust | Search ns | Search/Rust (quartiles) | Index ns | Index/Rust (quartiles) |");
-        println!("|---|---|---|---|---|---|---|---|---|");
+        println!("| Keys asked | Rows | Key | Rust ns | Scan/Rust | Search ns | Search/Rust (quartiles) | Index ns | Index/Rust (quartiles) | Number ns | Number/Rust (quartiles) |");
+        println!("|---|---|---|---|---|---|---|---|---|---|---|");
         for asked in [FEW, MANY] {
             for rows in [10, 200, 1_000, 5_000, 100_000] {
                 for hit in [true, false] {
@@ -206,6 +206,8 @@ fn lookup_row(count: usize, rows: usize, hit: bool, rounds: usize) {
         assert_eq!(row(true), there);
         assert!(i >= few.len() || row(false) == there);
         assert_eq!(port::index(&table, used, *key).map(u64::from), there);
+        let number = port::row(&table, used, *key);
+        assert_eq!(number.map(|i| table[1][i] as u64), there);
     }
 
     let rust_once = |asked: &[u32]| {
@@ -225,15 +227,23 @@ fn lookup_row(count: usize, rows: usize, hit: bool, rounds: usize) {
             black_box(port::index(&table, used, black_box(*key)));
         }
     };
+    let number_once = |asked: &[u32]| {
+        for key in asked {
+            let number = port::row(&table, used, black_box(*key));
+            black_box(number.map(|i| table[1][i]));
+        }
+    };
     /// Nanoseconds for each key.
     fn each(asked: &[u32], call: impl Fn(&[u32])) -> f64 {
         time(1, || call(asked)) * 1e3 / asked.len() as f64
     }
-    let (mut rust, mut scan, mut search, mut index) = (vec![], vec![], vec![], vec![]);
+    let (mut rust, mut scan, mut search) = (vec![], vec![], vec![]);
+    let (mut index, mut number) = (vec![], vec![]);
     for _ in 0..rounds {
         rust.push(each(&asked, rust_once));
         search.push(each(&asked, |asked| lookup_once(true, asked)));
         index.push(each(&asked, index_once));
+        number.push(each(&asked, number_once));
         scan.push(each(few, |asked| lookup_once(false, asked)));
     }
     let ratio = |times: &[f64]| {
@@ -242,7 +252,7 @@ fn lookup_row(count: usize, rows: usize, hit: bool, rounds: usize) {
     };
     let middle = |times: &[f64]| quartiles(times.to_vec())[1];
     println!(
-        "| {count} | {rows} | {} | {:.1} | {:.1} | {:.1} | {} | {:.1} | {} |",
+        "| {count} | {rows} | {} | {:.1} | {:.1} | {:.1} | {} | {:.1} | {} | {:.1} | {} |",
         if hit { "there" } else { "absent" },
         middle(&rust),
         middle(&scan) / middle(&rust),
@@ -250,5 +260,7 @@ fn lookup_row(count: usize, rows: usize, hit: bool, rounds: usize) {
         ratio(&search),
         middle(&index),
         ratio(&index),
+        middle(&number),
+        ratio(&number),
     );
 }
