@@ -4,8 +4,9 @@
  * A slice is a pointer and a length in elements; the pointer is not null, also where the length
  * is 0, and lent slices do not overlap. The functions demand nothing else, always return, and
  * write nothing but the slices that are lent to them without `const`: a load its image, its
- * read-only buffer, its five columns and its answer, every other function its answer or its name
- * alone. What they answer is said, for every input, in crates/exports/specs.
+ * read-only buffer, its five columns and its answer, sbpf_who_wrote_all its numbers and its answer,
+ * every other function its answer or its name alone. What they answer is said, for every input, in
+ * crates/exports/specs.
  *
  * An answer is SBPF_WORDS words. The first is a number, which is also the result: 0, or why
  * there is nothing. A refusal has its value, and the start and the length of the name that it
@@ -107,6 +108,16 @@ enum {
     SBPF_TEXT_START,
     SBPF_TEXT_LENGTH
 };
+
+/* Words of who wrote a byte: a kind of writer, below, and the number of the call's slot or of the
+ * relocation, 0 for the file. Behind the words of a load they stand further on. */
+enum { SBPF_WRITER = 4, SBPF_WRITER_NUMBER };
+enum { SBPF_LOAD_WRITER = 15, SBPF_LOAD_WRITER_NUMBER };
+
+/* Kinds of writers. Slots are the whole 8-byte pieces of the text, counted from 0. Relocations are
+ * counted from 0 in the order in which they are applied, those that bring an addend behind all the
+ * others. */
+enum { SBPF_BY_FILE, SBPF_BY_CALL, SBPF_BY_RELOCATION };
 
 /* Settings of a load, by bits; others are not looked at. */
 enum {
@@ -215,6 +226,45 @@ uint32_t sbpf_load(const uint8_t *file, size_t file_len, const uint32_t *builtin
                    uint32_t *indices, size_t indices_len, uint32_t *kinds, size_t kinds_len,
                    uint32_t *starts, size_t starts_len, uint32_t *lengths, size_t lengths_len,
                    uint64_t *answer, size_t answer_len);
+
+/* Who wrote a byte of the image that a load of this file has made: the file, the call in a slot or a
+ * relocation, whichever wrote it last, even where the value came out the same. A byte whose writer is
+ * the file has the file's value. `offset` is one in the image; 45 where it is not below the file's
+ * length. `loaded` are the words that sbpf_load gave for this file, at least up to SBPF_TEXT_LENGTH;
+ * the image is not looked at. Where they are a refusal, the answer is that refusal.
+ *
+ * Use this one for a few bytes: it parses the file each time and goes through all relocations. Use
+ * sbpf_who_wrote_all for a whole image.
+ *
+ * Of words that no load of this file gave nothing is demanded either. In this order it is then: 40 for
+ * a file of more than 16,777,216 bytes; 33 where the text is not inside the file; the refusal of a
+ * parse, as a load has it (5 is 33); 2 in version 2 with ten or more program headers; else what calls
+ * and relocations name with the text there. Words that are missing count as 0. */
+uint32_t sbpf_who_wrote(const uint8_t *file, size_t file_len, const uint64_t *loaded,
+                        size_t loaded_len, uint64_t offset, uint64_t *answer, size_t answer_len);
+
+/* The same of every byte, in one pass: the number at a byte's offset is 0 for the file, i + 1 for the
+ * call in slot i, SBPF_RELOCATION_CODE + j for relocation j. Behind the file's bytes they are zeros.
+ * What the numbers hold before does not matter. 41, after the refusals above, where they are fewer
+ * than the file's bytes; 41 may also be the load's own. A refusal leaves only zeros. */
+#define SBPF_RELOCATION_CODE 0x80000000u
+uint32_t sbpf_who_wrote_all(const uint8_t *file, size_t file_len, const uint64_t *loaded,
+                            size_t loaded_len, uint32_t *numbers, size_t numbers_len,
+                            uint64_t *answer, size_t answer_len);
+
+/* A load and the question at once: all that sbpf_load does, and behind the words of its answer
+ * SBPF_LOAD_WRITER and SBPF_LOAD_WRITER_NUMBER. A load that is refused answers its refusal and leaves
+ * zeros, as sbpf_load. 45 comes only after an accepted load and leaves its outputs as they are: image,
+ * read-only buffer and columns hold the load's content, and behind the number 45 stand the words of
+ * the accepted load; the writer's two are 0. To lend such words to the two functions above, set
+ * SBPF_NUMBER to 0 first: they take words with another number for a refusal. */
+uint32_t sbpf_load_who_wrote(const uint8_t *file, size_t file_len, const uint32_t *builtins,
+                             size_t builtins_len, uint32_t settings, uint8_t *image,
+                             size_t image_len, uint8_t *ro, size_t ro_len, uint32_t *keys,
+                             size_t keys_len, uint32_t *indices, size_t indices_len,
+                             uint32_t *kinds, size_t kinds_len, uint32_t *starts,
+                             size_t starts_len, uint32_t *lengths, size_t lengths_len,
+                             uint64_t offset, uint64_t *answer, size_t answer_len);
 
 /* Where the text stands among the read-only bytes of a load, or 44. `lent` is the length of the
  * image, or, where the bytes were copied, of the read-only buffer, and the place is one in it; the

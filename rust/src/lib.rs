@@ -135,6 +135,49 @@ mod c {
             answer: *mut u64,
             answer_len: usize,
         ) -> u32;
+        pub fn sbpf_who_wrote(
+            file: *const u8,
+            file_len: usize,
+            loaded: *const u64,
+            loaded_len: usize,
+            offset: u64,
+            answer: *mut u64,
+            answer_len: usize,
+        ) -> u32;
+        pub fn sbpf_who_wrote_all(
+            file: *const u8,
+            file_len: usize,
+            loaded: *const u64,
+            loaded_len: usize,
+            numbers: *mut u32,
+            numbers_len: usize,
+            answer: *mut u64,
+            answer_len: usize,
+        ) -> u32;
+        pub fn sbpf_load_who_wrote(
+            file: *const u8,
+            file_len: usize,
+            builtins: *const u32,
+            builtins_len: usize,
+            settings: u32,
+            image: *mut u8,
+            image_len: usize,
+            ro: *mut u8,
+            ro_len: usize,
+            keys: *mut u32,
+            keys_len: usize,
+            indices: *mut u32,
+            indices_len: usize,
+            kinds: *mut u32,
+            kinds_len: usize,
+            starts: *mut u32,
+            starts_len: usize,
+            lengths: *mut u32,
+            lengths_len: usize,
+            offset: u64,
+            answer: *mut u64,
+            answer_len: usize,
+        ) -> u32;
         pub fn sbpf_text_place(
             lent: u64,
             ro_offset: u64,
@@ -494,6 +537,50 @@ pub struct Accepted {
     pub text_length: usize,
 }
 
+/// How many words of a load's answer are used, and where the writer's two stand behind them.
+const LOAD_WORDS: usize = 15;
+const LOAD_WRITER: usize = LOAD_WORDS;
+
+impl Accepted {
+    /// From the words of a load's answer.
+    fn of(a: &[u64; WORDS]) -> Accepted {
+        Accepted {
+            version: a[4] as u32,
+            entry: a[5] as u32,
+            used: a[6] as usize,
+            moves: a[7],
+            ro_copied: a[8] == 1,
+            ro_offset: a[9],
+            ro_start: a[10] as usize,
+            ro_length: a[11] as usize,
+            text_addr: a[12],
+            text_start: a[13] as usize,
+            text_length: a[14] as usize,
+        }
+    }
+
+    /// The words again.
+    fn words(&self) -> [u64; LOAD_WORDS] {
+        [
+            0,
+            0,
+            0,
+            0,
+            self.version as u64,
+            self.entry as u64,
+            self.used as u64,
+            self.moves,
+            self.ro_copied as u64,
+            self.ro_offset,
+            self.ro_start as u64,
+            self.ro_length as u64,
+            self.text_addr,
+            self.text_start as u64,
+            self.text_length as u64,
+        ]
+    }
+}
+
 /// Loads a file of at most 16,777,216 bytes (else 40). The built-ins are keys that strictly ascend
 /// (else 42).
 pub fn load(
@@ -528,19 +615,133 @@ pub fn load(
             n,
         )
     })?;
-    Ok(Accepted {
-        version: a[4] as u32,
-        entry: a[5] as u32,
-        used: a[6] as usize,
-        moves: a[7],
-        ro_copied: a[8] == 1,
-        ro_offset: a[9],
-        ro_start: a[10] as usize,
-        ro_length: a[11] as usize,
-        text_addr: a[12],
-        text_start: a[13] as usize,
-        text_length: a[14] as usize,
-    })
+    Ok(Accepted::of(&a))
+}
+
+/// Who wrote a byte of an accepted load's image: the file, the call in a slot of the text, or a
+/// relocation, counted from 0 as they are applied, those that bring an addend behind the others.
+#[derive(Clone, Copy, Debug, PartialEq, Eq)]
+pub enum Writer {
+    File,
+    Call(u32),
+    Relocation(u32),
+}
+
+/// The number of relocation 0 among those that `who_wrote_all` fills in.
+const RELOCATION_CODE: u32 = 0x8000_0000;
+
+impl Writer {
+    /// By the two words of an answer.
+    fn by(kind: u64, number: u64) -> Writer {
+        match kind {
+            0 => Writer::File,
+            1 => Writer::Call(number as u32),
+            _ => Writer::Relocation(number as u32),
+        }
+    }
+
+    /// By a number that `who_wrote_all` filled in.
+    pub fn of_number(number: u32) -> Writer {
+        match number {
+            0 => Writer::File,
+            n if n < RELOCATION_CODE => Writer::Call(n - 1),
+            n => Writer::Relocation(n - RELOCATION_CODE),
+        }
+    }
+}
+
+/// Who wrote a byte of the image that the load of this file which answered `a` has made: whichever wrote
+/// it last, even where the value came out the same. 45 where `offset` is not below the file's length.
+/// For a few bytes: each time the file is parsed. Of an answer that no load of this file gave it is told
+/// what include/sbpf.h says.
+pub fn who_wrote(file: &[u8], a: &Accepted, offset: usize) -> Result<Writer, Refusal> {
+    let loaded = a.words();
+    // SAFETY: as said above.
+    let a = answered(file, |words, n| unsafe {
+        c::sbpf_who_wrote(
+            file.as_ptr(),
+            file.len(),
+            loaded.as_ptr(),
+            loaded.len(),
+            offset as u64,
+            words,
+            n,
+        )
+    })?;
+    Ok(Writer::by(a[4], a[5]))
+}
+
+/// The same of every byte of the file, in one pass: `Writer::of_number` of the number at the byte's offset.
+/// Behind the file's bytes the numbers are zeros. 41 where they are fewer than the file's bytes; a refusal
+/// leaves only zeros.
+pub fn who_wrote_all(file: &[u8], a: &Accepted, numbers: &mut [u32]) -> Result<(), Refusal> {
+    let loaded = a.words();
+    // SAFETY: as said above.
+    answered(file, |words, n| unsafe {
+        c::sbpf_who_wrote_all(
+            file.as_ptr(),
+            file.len(),
+            loaded.as_ptr(),
+            loaded.len(),
+            numbers.as_mut_ptr(),
+            numbers.len(),
+            words,
+            n,
+        )
+    })?;
+    Ok(())
+}
+
+/// The refusal of the question about a byte, which no load is refused with.
+const NO_SUCH_INDEX: u32 = 45;
+
+/// A load, as `load`, and who wrote a byte of its image. The writer is 45 where `offset` is not below the
+/// file's length; what was lent then holds the accepted load's content all the same.
+pub fn load_who_wrote(
+    file: &[u8],
+    builtins: &[u32],
+    settings: Settings,
+    lent: &mut Lent,
+    offset: usize,
+) -> Result<(Accepted, Result<Writer, Refusal>), Refusal> {
+    let mut a = [0; WORDS];
+    // SAFETY: as said above.
+    let number = unsafe {
+        c::sbpf_load_who_wrote(
+            file.as_ptr(),
+            file.len(),
+            builtins.as_ptr(),
+            builtins.len(),
+            settings.bits(),
+            lent.image.as_mut_ptr(),
+            lent.image.len(),
+            lent.ro.as_mut_ptr(),
+            lent.ro.len(),
+            lent.keys.as_mut_ptr(),
+            lent.keys.len(),
+            lent.indices.as_mut_ptr(),
+            lent.indices.len(),
+            lent.kinds.as_mut_ptr(),
+            lent.kinds.len(),
+            lent.starts.as_mut_ptr(),
+            lent.starts.len(),
+            lent.lengths.as_mut_ptr(),
+            lent.lengths.len(),
+            offset as u64,
+            a.as_mut_ptr(),
+            a.len(),
+        )
+    };
+    let accepted = Accepted::of(&a);
+    let refusal = || Refusal::new(number, [a[1], a[2], a[3]], file);
+    match number {
+        0 => {
+            let writer = Writer::by(a[LOAD_WRITER], a[LOAD_WRITER + 1]);
+            Ok((accepted, Ok(writer)))
+        }
+        NO_SUCH_INDEX => Ok((accepted, Err(refusal()))),
+        _ => Err(refusal()),
+    }
 }
 
 /// Where the text of a load stands in the bytes that hold the read-only ones, which are `lent`

@@ -220,6 +220,145 @@ fn relocations_bring_addends() {
     assert!(held.all_zero());
 }
 
+/// The bytes from one offset up to another, and who wrote them.
+type Run = (Range<usize>, Writer);
+
+/// The bytes of a file that others than the file wrote, in runs.
+fn runs(file: &[u8], a: &Accepted) -> Vec<Run> {
+    // numbers that hold no zeros, two more than there are bytes
+    let mut numbers = vec![0xa5a5_a5a5; file.len() + 2];
+    assert_eq!(who_wrote_all(file, a, &mut numbers), Ok(()));
+    assert_eq!(numbers[file.len()..], [0, 0]);
+    let mut runs: Vec<Run> = Vec::new();
+    for (at, number) in numbers[..file.len()].iter().enumerate() {
+        let writer = Writer::of_number(*number);
+        assert_eq!(who_wrote(file, a, at), Ok(writer));
+        match runs.last_mut() {
+            Some((run, by)) if *by == writer => run.end = at + 1,
+            _ => runs.push((at..at + 1, writer)),
+        }
+    }
+    runs.retain(|(_, writer)| *writer != Writer::File);
+    runs
+}
+
+/// An accepted file, and its image.
+fn accepted(file: &[u8]) -> (Accepted, Vec<u8>) {
+    let mut held = Held::new(file.len(), 8);
+    let a = load(file, &[], Settings::ALL_ON, &mut held.lend()).expect("the file is accepted");
+    let [image, _] = held.bytes;
+    (a, image)
+}
+
+#[test]
+fn calls_and_relocations_wrote_their_bytes() {
+    use Writer::{Call, File, Relocation};
+    let file = include_bytes!("../../examples/functions.so");
+    let (a, image) = accepted(file);
+    // the text starts at 0xb0; relocation 0 is of type 1 at 0xb0, relocation 1 of type 10 at 0xc8, where the
+    // immediate is -1; the slots 2, 4, 6 and 9 are local calls
+    let by = vec![
+        (0xb4..0xb8, Relocation(0)),
+        (0xbc..0xc0, Relocation(0)),
+        (0xc4..0xc8, Call(2)),
+        (0xcc..0xd0, Relocation(1)),
+        (0xd4..0xd8, Call(4)),
+        (0xe4..0xe8, Call(6)),
+        (0xfc..0x100, Call(9)),
+    ];
+    assert_eq!(runs(file, &a), by);
+    // what no run has is the file's
+    let written = |at: &usize| by.iter().any(|(run, _)| run.contains(at));
+    for at in (0..file.len()).filter(|at| !written(at)) {
+        assert_eq!((who_wrote(file, &a, at), image[at]), (Ok(File), file[at]));
+    }
+    // from the file's length on there is no byte
+    for at in [file.len(), file.len() + 7, usize::MAX] {
+        assert_eq!(who_wrote(file, &a, at), Err(refusal(45, 0)));
+    }
+}
+
+#[test]
+fn the_last_writer_counts() {
+    use Writer::Relocation;
+    let file = include_bytes!("../../examples/addends.so");
+    let (a, image) = accepted(file);
+    // relocation 0, of type 8, writes the eight bytes from 0xf8 on; relocation 2, of type 1 at 0xf0, the halves
+    // at 0xf4 and 0xfc: there it writes the 1 that stands there already
+    let by = vec![
+        (0xb4..0xb8, Relocation(1)),
+        (0xbc..0xc0, Relocation(1)),
+        (0xc4..0xc8, Relocation(3)),
+        (0xf4..0xf8, Relocation(2)),
+        (0xf8..0xfc, Relocation(0)),
+        (0xfc..0x100, Relocation(2)),
+    ];
+    assert_eq!(runs(file, &a), by);
+    assert_eq!(image[0xfc..0x100], [1, 0, 0, 0]);
+}
+
+#[test]
+fn who_wrote_refuses() {
+    let file = include_bytes!("../../examples/functions.so");
+    let (a, _) = accepted(file);
+    // a number too few
+    let mut numbers = vec![0xa5a5_a5a5; file.len() - 1];
+    assert_eq!(who_wrote_all(file, &a, &mut numbers), Err(refusal(41, 0)));
+    assert!(numbers.iter().all(|n| *n == 0));
+    // answers that no load of the file gave: its text elsewhere, and of another file
+    let outside = Accepted {
+        text_start: file.len() - a.text_length + 1,
+        ..a
+    };
+    for (file, a, number) in [
+        (&file[..], outside, 33),
+        (&[0; 600], a, 1),
+        (&[0; 60], a, 33),
+    ] {
+        let mut numbers = vec![0xa5a5_a5a5; file.len()];
+        assert_eq!(who_wrote(file, &a, 0), Err(refusal(number, 0)));
+        assert_eq!(
+            who_wrote_all(file, &a, &mut numbers),
+            Err(refusal(number, 0))
+        );
+        assert!(numbers.iter().all(|n| *n == 0));
+    }
+}
+
+#[test]
+fn a_load_tells_who_wrote_a_byte() {
+    let file = include_bytes!("../../examples/functions.so");
+    let mut plain = Held::new(file.len() + 3, 8);
+    let a = load(file, &[], Settings::ALL_ON, &mut plain.lend()).expect("the file is accepted");
+    let mut held = Held::new(file.len() + 3, 8);
+    let mut ask = |at| {
+        let answer = load_who_wrote(file, &[], Settings::ALL_ON, &mut held.lend(), at);
+        // whatever comes of the question, the load leaves what it leaves alone
+        assert_eq!(held.bytes, plain.bytes);
+        assert_eq!(held.columns, plain.columns);
+        answer
+    };
+    assert_eq!(ask(0xb3), Ok((a, Ok(Writer::File))));
+    assert_eq!(ask(0xb4), Ok((a, Ok(Writer::Relocation(0)))));
+    assert_eq!(ask(0xcf), Ok((a, Ok(Writer::Relocation(1)))));
+    assert_eq!(ask(0xff), Ok((a, Ok(Writer::Call(9)))));
+    // the image that is lent is longer than the file
+    assert_eq!(ask(file.len()), Ok((a, Err(refusal(45, 0)))));
+
+    // a load that is refused, whatever byte is asked for
+    let unresolved = include_bytes!("../../examples/unresolved.so");
+    for at in [0, unresolved.len()] {
+        let mut held = Held::new(unresolved.len(), 8);
+        let refused = load_who_wrote(unresolved, &[], Settings::ALL_ON, &mut held.lend(), at);
+        let refused = refused.expect_err("the file is refused");
+        assert_eq!(
+            (refused.number(), &refused.name[..]),
+            (22, &b"crane_alarm"[..])
+        );
+        assert!(held.all_zero());
+    }
+}
+
 /// The names of the numbers 0 to 255, as the library gives them.
 fn names() -> Vec<(u32, String)> {
     let named = |n| refusal_name(n).map(|name| (n, name));

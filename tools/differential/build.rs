@@ -4,13 +4,13 @@
 //!
 //! What the library has is read from its symbols, so that one source builds with each state of
 //! it: cfg `port` says that there is a library, `load` that it has `sbpf_load`, `text_place` that
-//! it has `sbpf_text_place`. A command that needs what is not there says so and stops.
+//! it has `sbpf_text_place`, `writers` that it has `sbpf_load_who_wrote`. A command that needs what is not there says so and stops.
 use std::{env, fs, path::PathBuf};
 
 fn main() {
     println!("cargo:rerun-if-env-changed=EXPORTS_LIB");
     println!("cargo:rerun-if-changed=build.rs");
-    println!("cargo:rustc-check-cfg=cfg(port, load, text_place)");
+    println!("cargo:rustc-check-cfg=cfg(port, load, text_place, writers)");
     if env::var_os("EXPORTS_LIB").is_some_and(|folder| folder == "none") {
         return;
     }
@@ -31,7 +31,11 @@ fn main() {
     println!("cargo:rustc-link-lib=static=exports");
     println!("cargo:rustc-cfg=port");
     let bytes = fs::read(&archive).expect("a library that can be read");
-    for (symbol, cfg) in [("sbpf_load", "load"), ("sbpf_text_place", "text_place")] {
+    for (symbol, cfg) in [
+        ("sbpf_load", "load"),
+        ("sbpf_text_place", "text_place"),
+        ("sbpf_load_who_wrote", "writers"),
+    ] {
         // the whole name, as symbol tables hold it: with a zero byte behind, and nothing of a
         // longer name before
         let name = format!("{symbol}\0");

@@ -4,3 +4,4 @@ mod Giving
 mod Naming
 mod Named
 mod Told
+mod GivingBoth

@@ -25,7 +25,7 @@ unfoldable pub past : List (ℕ × String) → ℕ
 past [] = 0
 past ((k, text) ∷ rows) = max (suc k) (past rows)
 
-no-name : (rows : List (ℕ × String)) (n : ℕ) → past rows ≤ n → nameIn rows n ≡ []
+pub no-name : (rows : List (ℕ × String)) (n : ℕ) → past rows ≤ n → nameIn rows n ≡ []
 unfolding past nameIn _if_else_
 no-name [] n h = refl
 no-name ((k, text) ∷ rows) n h = simp (ne-eqb k n (λ e. omega arith)) (no-name rows n (omega arith))

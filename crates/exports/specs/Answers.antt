@@ -161,11 +161,14 @@ abbrev pub numberOf : Bool → ℕ
 numberOf true = 1
 numberOf false = 0
 
--- an accepted load: its numbers, in the order of `Accepted`
-abbrev pub acceptedAnswer : Accepted → Answer
-acceptedAnswer a =
-    accepted
-    (a .version
+-- an accepted load: its numbers, in the order of `Accepted`, with a number before them and two words behind them
+abbrev pub loadedWith : ℕ → Accepted → ℕ → ℕ → Answer
+loadedWith number a last behind =
+    answerWith number
+    (0
+    ∷ 0
+    ∷ 0
+    ∷ a .version
     ∷ a .entry
     ∷ a .used
     ∷ a .moves
@@ -176,10 +179,12 @@ acceptedAnswer a =
     ∷ a .«text_addr»
     ∷ a .«text_start»
     ∷ a .«text_length»
+    ∷ last
+    ∷ behind
     ∷ [])
 
 abbrev pub loadAnswer : Load → Answer
-loadAnswer (Accepts a) = acceptedAnswer a
+loadAnswer (Accepts a) = loadedWith 0 a 0 0
 loadAnswer (Refuses e) = reported (load.reportOf e)
 
 -- WHAT `sbpf_load` PROMISES: what `load` promises, with demands 1 and 3, and its answer in words

@@ -1,3 +1,4 @@
 pub mod Answers
+pub mod Wrote
 pub mod Names
 pub mod Examples

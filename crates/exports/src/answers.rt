@@ -23,7 +23,7 @@ pub struct Answer {
 }
 
 // The word at a place, 0 past the last.
-fn word_in(words: &[u64], i: usize) -> u64
+pub(crate) fn word_in(words: &[u64], i: usize) -> u64
     ensures { λ r. ⌜ r ≡ getD (now (words .entry)) i 0 ⌝ }
 {
     if i < words.len() {

@@ -25,6 +25,10 @@ use program::index_ascending;
 use program::lookup_ascending;
 use program::lookup_by_key;
 use program::row_ascending;
+use writers::load_who_wrote;
+use wrote::load_wrote_answer;
+use wrote::numbers_answer;
+use wrote::who_wrote_answer;
 ghost use mathlib.Core.Path.{_≡_};
 ghost use Rattle.ebpf.specs.Murmur3.{murmur3};
 ghost use Rattle.elf_parser.specs.Names.{sectionName, symbolName, dynamicSymbolName};
@@ -34,12 +38,14 @@ ghost use Rattle.hash_table.specs.Find.{findSymbol};
 ghost use Rattle.program.specs.Table.{lookupIn, lookupAscendingIn, rowAscendingIn, indexAscendingIn, tableBefore};
 ghost use Rattle.loader.specs.GetBytes.{textPlace};
 ghost use Rattle.exports.specs.Answers.{Gives, GivesAsked, GivesLoad, textAnswer, parseAnswer, placeAnswer, tableAnswer, symbolAnswer, rowAnswer, indexWord, rowWord};
+ghost use Rattle.exports.specs.Wrote.{whoWroteAnswer, GivesNumbers, GivesLoadWrote};
 ghost use Rattle.exports.specs.Names.{Named, refusalName};
 
 mod answers;
 mod asked;
 mod loading;
 mod names;
+mod wrote;
 
 // The hash of a name.
 #[no_mangle]
@@ -206,6 +212,71 @@ pub extern "C" fn sbpf_load(
         lengths,
     );
     give(answer, load_answer(a))
+}
+
+// Who wrote a byte of the image that a load of this file made, by the words of that load's answer: 0,
+// and in the words 4 and 5 the kind of the writer and its number; the load's own refusal; or 45.
+#[no_mangle]
+pub extern "C" fn sbpf_who_wrote(
+    file: &[u8],
+    loaded: &[u64],
+    offset: u64,
+    answer: &mut [u64],
+) -> u32
+    ensures { λ r. ⌜ Gives (whoWroteAnswer (now (file .entry)) (now (loaded .entry)) offset) answer r ⌝ }
+{
+    give(answer, who_wrote_answer(file, loaded, offset))
+}
+
+// Who wrote each byte, one number a byte of the file.
+#[no_mangle]
+pub extern "C" fn sbpf_who_wrote_all(
+    file: &[u8],
+    loaded: &[u64],
+    numbers: &mut [u32],
+    answer: &mut [u64],
+) -> u32
+    ensures { λ r. ⌜ GivesNumbers file loaded numbers answer r ⌝ }
+{
+    let a = numbers_answer(numbers, file, loaded);
+    give(answer, a)
+}
+
+// A load, as `sbpf_load`, and who wrote a byte of its image: the words of the load's answer, and behind
+// them the writer's two.
+#[no_mangle]
+pub extern "C" fn sbpf_load_who_wrote(
+    file: &[u8],
+    builtins: &[u32],
+    settings: u32,
+    image: &mut [u8],
+    ro: &mut [u8],
+    keys: &mut [u32],
+    indices: &mut [u32],
+    kinds: &mut [u32],
+    starts: &mut [u32],
+    lengths: &mut [u32],
+    offset: u64,
+    answer: &mut [u64],
+) -> u32
+    ensures { λ r. ⌜ GivesLoadWrote file builtins settings image ro keys indices kinds starts lengths offset answer r ⌝ }
+{
+    let a = load_who_wrote(
+        file,
+        builtins,
+        config_of(settings),
+        image,
+        ro,
+        keys,
+        indices,
+        kinds,
+        starts,
+        lengths,
+        offset,
+    );
+    let load = a.load;
+    let wrote = a.wrote;
+    give(answer, load_wrote_answer(load, wrote))
 }
 
 // Where the text stands among the read-only bytes of a load: by how many bytes are lent that hold

@@ -9,7 +9,7 @@ use loader::PartPlace;
 use loader::report_of;
 ghost use mathlib.Core.Path.{_≡_};
 ghost use Prim.Native.Nat.{_<_};
-ghost use Rattle.exports.specs.Answers.{bitOf, configOf, numberOf, acceptedAnswer, loadAnswer, textAnswer};
+ghost use Rattle.exports.specs.Answers.{bitOf, configOf, numberOf, loadedWith, loadAnswer, textAnswer};
 
 // Whether the bit of that value, a power of two, is set.
 fn bit(settings: u32, value: u32) -> bool
@@ -42,8 +42,9 @@ fn number_of(b: bool) -> u64
     0
 }
 
-fn accepted_answer(a: Accepted) -> Answer
-    ensures { λ r. ⌜ r ≡ acceptedAnswer a ⌝ }
+// The words of an accepted load, with a number before them and two words behind them.
+pub(crate) fn loaded_with(number: u32, a: Accepted, last: u64, behind: u64) -> Answer
+    ensures { λ r. ⌜ r ≡ loadedWith number a last behind ⌝ }
 {
     let copied = number_of(a.ro_copied);
     let words = [
@@ -61,15 +62,17 @@ fn accepted_answer(a: Accepted) -> Answer
         a.text_addr,
         a.text_start as u64,
         a.text_length as u64,
+        last,
+        behind,
     ];
-    answer_with(0, &words)
+    answer_with(number, &words)
 }
 
 pub(crate) fn load_answer(a: Load) -> Answer
     ensures { λ r. ⌜ r ≡ loadAnswer a ⌝ }
 {
     match a {
-        Load::Accepted(a) => accepted_answer(a),
+        Load::Accepted(a) => loaded_with(0, a, 0, 0),
         Load::Refused(e) => reported(report_of(e)),
     }
 }

@@ -27,16 +27,16 @@ use Rattle.loader.specs.declared.read_only.Placing.{Placing}
 use Rattle.loader.specs.declared.read_only.Placing.the-variants.{Borrowed, Owned, Refused}
 use Rattle.loader.specs.declared.validate.Job.{Job}
 use Rattle.loader.specs.Functions.{rowFor, symbolFunction, indexOf}
-use Rattle.loader.specs.Deeds.{written, deedTrace}
+use Rattle.loader.specs.Deeds.{written, isIn, writes, deedTrace}
 use Rattle.loader.specs.Calls.{callAt, textOf, slotCount, immediate, callRow, callBy, callDeed, slotTrace, callsTrace}
 use Rattle.loader.specs.Relocations.{relocationCount, placeAt, relocationDeed, relocationTrace, relocationsTrace}
 use Rattle.loader.specs.Labels.{labelRow, namedLabel, labelOf, labelBy, labelDeed, labelSymbols, labelTrace, labelsTrace}
 use Rattle.loader.specs.Entry.{entryDeed, forgetTrace, entryTrace}
 use Rattle.loader.specs.Parts.{writingTrace, namingTrace, placedTrace, jobTrace}
 use Rattle.loader.specs.Contracts.{InFile}
-use Rattle.loader.specs.Demand.{CallsTo, isIn, infoOf, addendOf, Unnamed, keyOf, Bytes}
+use Rattle.loader.specs.Demand.{CallsTo, infoOf, addendOf, Unnamed, keyOf, Bytes}
 use Rattle.loader.proofs.Ends.{Ends, ends-then, ends-each}
-use Rattle.loader.proofs.Kept.{not-in, in-places, le-put, le-same, writes, written-other, deed-ends, step-ends, step-length, deeds-length, deeds-other, deeds-nothing}
+use Rattle.loader.proofs.Kept.{not-in, in-places, le-put, le-same, written-other, deed-ends, step-ends, step-length, deeds-length, deeds-other, deeds-nothing}
 use Rattle.loader.proofs.Named.{unnamed-clear}
 use Rattle.loader.proofs.Targets.{calls-local, to-small, key-word, row-key}
 
@@ -98,7 +98,7 @@ entry-ends builtins j im l e =
     deed-ends (entryDeed builtins j) (both .0) l (both .2) ∙ entry-nothing builtins j (both .0) ∙ forget-ends (j .version2) im (both .0) (both .1)
 
 -- the image of a load is that of its calls and relocations
-job-ends : (s builtins : List ℕ) (j : Job) (im l : List ℕ) → Ends (jobTrace s builtins j im) l → Ends (writingTrace s builtins j im) l
+pub job-ends : (s builtins : List ℕ) (j : Job) (im l : List ℕ) → Ends (jobTrace s builtins j im) l → Ends (writingTrace s builtins j im) l
 unfolding jobTrace
 job-ends s builtins j im l e =
     let first = ends-then (writingTrace s builtins j im) _ l e in
@@ -117,17 +117,17 @@ row-clear at b (Free row) h = h
 row-clear at b (Taken key) h = refl
 
 module _ (file builtins : List ℕ) (j : Job) where
-  abbrev call : ℕ → List ℕ → Deed
+  abbrev pub call : ℕ → List ℕ → Deed
   call i im = callDeed file builtins j i
 
-  slot-is : (i : ℕ) (im : List ℕ) → slotTrace file builtins j i im ≡ deedTrace (call i im) im
+  pub slot-is : (i : ℕ) (im : List ℕ) → slotTrace file builtins j i im ≡ deedTrace (call i im) im
   unfolding slotTrace
   slot-is i im = refl
 
-  abbrev relocation : ℕ → List ℕ → Deed
+  abbrev pub relocation : ℕ → List ℕ → Deed
   relocation i im = relocationDeed file builtins j i im
 
-  relocation-is : (i : ℕ) (im : List ℕ) → relocationTrace file builtins j i im ≡ deedTrace (relocation i im) im
+  pub relocation-is : (i : ℕ) (im : List ℕ) → relocationTrace file builtins j i im ≡ deedTrace (relocation i im) im
   unfolding relocationTrace
   relocation-is i im = refl
 
@@ -204,7 +204,7 @@ only-zeros zero b = refl
 only-zeros (suc n) zero = refl
 only-zeros (suc n) (suc b) = only-zeros n b
 
-zeros-behind : (n : ℕ) (l : List ℕ) (b : ℕ) → getD (l ++ replicate n 0) b 0 ≡ getD l b 0
+pub zeros-behind : (n : ℕ) (l : List ℕ) (b : ℕ) → getD (l ++ replicate n 0) b 0 ≡ getD l b 0
 zeros-behind n [] b = only-zeros n b
 zeros-behind n (x ∷ l) zero = refl
 zeros-behind n (x ∷ l) (suc b) = zeros-behind n l b
@@ -213,10 +213,10 @@ zeros-behind n (x ∷ l) (suc b) = zeros-behind n l b
 
 module _ (file builtins : List ℕ) (j : Job) (inside : InFile file j) (im′ : List ℕ) (ends : Ends (jobTrace file builtins j file) im′) where
   -- the calls' image, and the relocations' that follow it
-  parts : (im : List ℕ) × Ends (callsTrace file builtins j file) im × Ends (relocationsTrace file builtins j im) im′
+  pub parts : (im : List ℕ) × Ends (callsTrace file builtins j file) im × Ends (relocationsTrace file builtins j im) im′
   parts = ends-then (callsTrace file builtins j file) (relocationsTrace file builtins j) im′ (job-ends file builtins j file im′ ends)
 
-  calls-long : length (parts .0) ≡ length file
+  pub calls-long : length (parts .0) ≡ length file
   calls-long = calls-length file builtins j file (parts .0) (parts .1)
 
   short : length (parts .0) ≤ 2 ^ 24

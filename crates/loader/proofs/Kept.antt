@@ -3,7 +3,7 @@ use Prim.Native.Nat.{ℕ, zero, suc, _+_, _*_, _/_, _%_, _^_, _≤_, _<_}
 use native.Mathlib.Omega.{arith}
 use native.Mathlib.Nat.{pow-suc}
 use mathlib.Core.Path.{_≡_, refl, sym, ap, ap₂, _∙_}
-use mathlib.Core.Bool.{Bool, true, false, _&&_, _||_}
+use mathlib.Core.Bool.{Bool, true, false, _&&_}
 use mathlib.Core.Logic.{_⊎_, inl, inr}
 use mathlib.Core.List.{List}
 use lib.ListN.{length, getD, set, length-set}
@@ -17,13 +17,12 @@ use Rattle.loader.specs.declared.deeds.Deed.{Deed}
 use Rattle.loader.specs.declared.deeds.Deed.the-variants.{Skip, Refuse, Halves, Word, Key, Register, RegisterOnly, RegisterOutside}
 use Rattle.loader.specs.Bytes.{put}
 use Rattle.loader.specs.Trace.{Trace, each}
-use Rattle.loader.specs.Deeds.{written, deedTrace, length-written}
-use Rattle.loader.specs.Demand.{isIn}
+use Rattle.loader.specs.Deeds.{written, isIn, writes, deedTrace, length-written}
 use Rattle.loader.proofs.Ends.{Ends, ends-each}
 
 -- ---- n places from `start` on
 
-apart : (start n b : ℕ) → isIn start n b ≡ false → (b < start) ⊎ (start + n ≤ b)
+pub apart : (start n b : ℕ) → isIn start n b ≡ false → (b < start) ⊎ (start + n ≤ b)
 apart start n b = by-le start b (λ (x : Bool). (x && ltb b (start + n)) ≡ false → (b < start) ⊎ (start + n ≤ b))
     (λ l. by-lt b (start + n) (λ (x : Bool). x ≡ false → (b < start) ⊎ (start + n ≤ b)) (λ m e. absurd (zero-one (cc))) (λ m e. inr m))
     (λ l e. inl l)
@@ -37,7 +36,7 @@ in-places start n b h l = rw (le-leb start b h, lt-ltb b (start + n) l) refl
 
 -- ---- a number written over bytes
 
-put-other : (k : ℕ) (s : List ℕ) (at v b : ℕ) → (b < at) ⊎ (at + k ≤ b) → getD (put k s at v) b 0 ≡ getD s b 0
+pub put-other : (k : ℕ) (s : List ℕ) (at v b : ℕ) → (b < at) ⊎ (at + k ≤ b) → getD (put k s at v) b 0 ≡ getD s b 0
 unfolding put
 put-other zero s at v b h = refl
 put-other (suc k) s at v b (inl h) = put-other k (set s at (v % 256)) (at + 1) (v / 256) b (inl (omega arith)) ∙ getD-set-other s at b (v % 256) 0 (λ e. omega arith)
@@ -61,17 +60,6 @@ le-same zero s l at h = refl
 le-same (suc k) s l at h = ap₂ (λ (a b : ℕ). a + 256 * b) (h at (omega arith) (omega arith)) (le-same k s l (at + 1) (λ b m n. h b (omega arith) (omega arith)))
 
 -- ---- one deed
-
--- it writes the byte b
-abbrev pub writes : Deed → ℕ → Bool
-writes Skip b = false
-writes (Refuse r) b = false
-writes (Halves low high v) b = isIn low 4 b || isIn high 4 b
-writes (Word at v) b = isIn at 8 b
-writes (Key at k) b = isIn at 4 b
-writes (Register row at) b = isIn at 4 b
-writes (RegisterOnly row) b = false
-writes (RegisterOutside row) b = false
 
 pub written-other : (d : Deed) (im : List ℕ) (b : ℕ) → writes d b ≡ false → getD (written d im) b 0 ≡ getD im b 0
 written-other Skip im b h = refl

@@ -31,8 +31,8 @@ use Rattle.loader.specs.declared.validate.Job.{Job}
 use Rattle.loader.specs.Addresses.{sumUpTo}
 use Rattle.loader.specs.Functions.{rowFor, indexOf}
 use Rattle.loader.specs.Relocations.{immediateAt, halvesDeed, wordDeed, addressDeed, symbolDeed, plan6464, relativeText, planRelative, registerDeed, functionCall, builtinCall, callByName, namedCall, symbolCall, plan6432, planAt, planOf, textHolds}
-use Rattle.loader.specs.Demand.{isIn, inHalves, namedBy, namedAt}
-use Rattle.loader.proofs.Kept.{writes}
+use Rattle.loader.specs.Deeds.{isIn, writes}
+use Rattle.loader.specs.Demand.{inHalves, namedBy, namedAt}
 
 -- the load stops at it
 abbrev pub stops : Deed → Bool

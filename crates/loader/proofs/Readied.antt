@@ -17,7 +17,6 @@ use Rattle.elf_parser.specs.declared.layout.Parsed.the-variants.{File, Refused 
 use Rattle.elf_parser.specs.Types.{fileHeader, SHT-NOBITS}
 use Rattle.elf_parser.specs.SectionNames.{sameBytes}
 use Rattle.elf_parser.specs.Parse.{parsed}
-use Rattle.elf_parser.specs.Sound.{sound}
 use Rattle.loader.specs.declared.error.ElfError.{ElfError}
 use Rattle.loader.specs.declared.error.ElfError.the-variants.{BuiltinsNotAscending}
 use Rattle.loader.specs.declared.sections.Survey.{Survey}
@@ -138,12 +137,10 @@ job-in : (s : List ℕ) (c : Config) (version2 : Bool) (l : Layout) (e-entry : �
     → InFile s (jobOf c version2 l e-entry h p)
 unfolding jobOf
 job-in s c version2 l e-entry h p q short lies below =
-    let ph = sound s l q .program-headers in
     record {
       text = both (eqb (h .«sh_type») SHT-NOBITS) (h .«sh_offset») (h .«sh_size») (length s) lies;
       size = omega (arith, lies, short);
       short = short;
-      headers = omega (arith, ph, short);
       relocations = few-relocations s l q .0;
       relas = few-relocations s l q .1;
       entry = omega (arith, lies, short, below);

@@ -56,7 +56,6 @@ pub record InFile (file : List ℕ) (j : Job) : Type 0 where
   pub text : j .start + j .length ≤ length file
   pub size : j .«sh_size» ≤ 2 ^ 24
   pub short : length file ≤ 2 ^ 24
-  pub headers : j .layout .«program_headers» .count < 2 ^ 32
   pub relocations : 16 * j .layout .«dynamic_relocations» .count ≤ length file
   pub relas : 24 * j .layout .«dynamic_relas» .count ≤ length file
   pub entry : j .«e_entry» - j .«sh_addr» ≤ 2 ^ 24

@@ -1,9 +1,10 @@
 -- A deed is what one slot, relocation, symbol or the entry asks for: bytes to write, a row to register, or a refusal. Its trace.
 use Prim.Native.Nat.{ℕ, _+_, _/_, _%_, _^_, _≤_}
 use mathlib.Core.Path.{_≡_, refl, _∙_}
-use mathlib.Core.Bool.{Bool, true, false}
+use mathlib.Core.Bool.{Bool, true, false, _&&_, _||_}
 use mathlib.Core.List.{List}
 use lib.ListN.{length}
+use lib.Dec.{leb, ltb}
 use Rattle.loader.specs.declared.error.ElfError.the-variants.{ValueOutOfBounds}
 use Rattle.loader.specs.declared.deeds.Deed.{Deed}
 use Rattle.loader.specs.declared.deeds.Deed.the-variants.{Skip, Refuse, Halves, Word, Key, Register, RegisterOnly, RegisterOutside}
@@ -26,6 +27,21 @@ written (Key at k) im = put 4 im at k
 written (Register row at) im = put 4 im at (row .key)
 written (RegisterOnly row) im = im
 written (RegisterOutside row) im = im
+
+-- b is one of the n places from `start` on
+abbrev pub isIn : ℕ → ℕ → ℕ → Bool
+isIn start n b = leb start b && ltb b (start + n)
+
+-- it writes the byte b, whatever value it has there before and afterwards
+abbrev pub writes : Deed → ℕ → Bool
+writes Skip b = false
+writes (Refuse r) b = false
+writes (Halves low high v) b = isIn low 4 b || isIn high 4 b
+writes (Word at v) b = isIn at 8 b
+writes (Key at k) b = isIn at 4 b
+writes (Register row at) b = isIn at 4 b
+writes (RegisterOnly row) b = false
+writes (RegisterOutside row) b = false
 
 -- what it asks of the table
 abbrev pub entryOf : Deed → Entry

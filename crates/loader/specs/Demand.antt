@@ -1,17 +1,18 @@
 -- Demand 3: one claim about a whole load, in the scope's words.
 use Prim.Native.Nat.{ℕ, suc, _+_, _-_, _/_, _%_, _<_, _^_}
 use mathlib.Core.Path.{_≡_}
-use mathlib.Core.Bool.{Bool, true, false, _&&_, _||_, not}
+use mathlib.Core.Bool.{Bool, true, false, _||_, not}
 use mathlib.Core.Logic.{_⊎_, _↔_}
 use mathlib.Core.List.{List, [], _∷_, map}
 use lib.ListN.{take, drop, getD}
-use lib.Dec.{ltb, leb, eqb}
+use lib.Dec.{eqb}
 use lib.Bits.{bitAnd}
 use Rattle.ebpf.specs.Choice.{_if_else_}
 use Rattle.ebpf.specs.LittleEndian.{le}
 use Rattle.ebpf.specs.Instructions.{insnAt}
 use Rattle.ebpf.specs.IndexKeys.{indexKey}
 use Rattle.ebpf.specs.Murmur3.{murmur3}
+use Rattle.elf_parser.specs.declared.layout.Layout.{Layout}
 use Rattle.elf_parser.specs.declared.parts.Place.the-variants.{At as Stands}
 use Rattle.elf_parser.specs.declared.records.Sym.the-variants.{Symbol}
 use Rattle.elf_parser.specs.declared.types.Elf64Sym.{Elf64Sym}
@@ -39,10 +40,11 @@ use Rattle.loader.specs.declared.validate.Config.{Config}
 use Rattle.loader.specs.declared.validate.Job.{Job}
 use Rattle.loader.specs.declared.validate.Prepared.{Prepared}
 use Rattle.loader.specs.declared.validate.Prepared.the-variants.{Ready, Refused as NotReady}
+use Rattle.loader.specs.Deeds.{isIn}
 use Rattle.loader.specs.Calls.{localCallIn, callAt, textOf, slotCount, immediate}
 use Rattle.loader.specs.Functions.{rowFor, symbolFunction, indexOf}
 use Rattle.loader.specs.Labels.{labelSymbols, labelsTrace}
-use Rattle.loader.specs.Relocations.{relocationAt, relocationCount, placeAt, textHolds, isFunction}
+use Rattle.loader.specs.Relocations.{relocationAt, relocationCount, placeIn, within, isFunction}
 use Rattle.loader.specs.Parts.{writingTrace, jobTrace}
 use Rattle.loader.specs.Trace.{Trace, done, stop, register, forget, andThen}
 use Rattle.loader.specs.Validate.{prepared}
@@ -56,10 +58,6 @@ LocalCall file j i = (i < slotCount j) × (localCallIn (j .version2) (insnAt (te
 -- and its target is slot number `to`
 abbrev pub CallsTo : List ℕ → Job → ℕ → ℕ → Type 0
 CallsTo file j i to = (i < slotCount j) × (callAt (textOf file j) (j .version2) i ≡ To to)
-
--- b is one of the n places from `start` on
-abbrev pub isIn : ℕ → ℕ → ℕ → Bool
-isIn start n b = leb start b && ltb b (start + n)
 
 -- ---- the bytes that a relocation names
 
@@ -75,9 +73,16 @@ namedBy version2 in-text type r b =
     isIn (r + 4) 4 b if eqb type 10 else
     false
 
+-- in a file whose text is the n bytes from `start` on
+abbrev pub namedIn : Bool → ℕ → ℕ → Mapped → ℕ → ℕ → Bool
+namedIn version2 start n (Placed r) type b = namedBy version2 (within start n r) type r b
+namedIn version2 start n Unmapped type b = false
+
+abbrev pub namesIn : List ℕ → Layout → Bool → ℕ → ℕ → ℕ → ℕ → Bool
+namesIn file l version2 start n i b = namedIn version2 start n (placeIn file l version2 i) (relocationAt file l i .«r_info» % 2 ^ 32) b
+
 abbrev pub namedAt : Job → Mapped → ℕ → ℕ → Bool
-namedAt j (Placed r) type b = namedBy (j .version2) (textHolds j r) type r b
-namedAt j Unmapped type b = false
+namedAt j p type b = namedIn (j .version2) (j .start) (j .length) p type b
 
 abbrev pub infoOf : List ℕ → Job → ℕ → ℕ
 infoOf file j i = relocationAt file (j .layout) i .«r_info»
@@ -87,7 +92,7 @@ addendOf file j i = relocationAt file (j .layout) i .addend
 
 -- the relocation number i names the byte b
 abbrev pub names : List ℕ → Job → ℕ → ℕ → Bool
-names file j i b = namedAt j (placeAt file j i) (infoOf file j i % 2 ^ 32) b
+names file j i b = namesIn file (j .layout) (j .version2) (j .start) (j .length) i b
 
 -- no relocation names the byte b
 abbrev pub Unnamed : List ℕ → Job → ℕ → Type 0

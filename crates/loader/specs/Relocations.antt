@@ -1,5 +1,5 @@
 -- What a relocation asks for. A place r is an offset in the file; `s` is the file, `im` the image as the relocations before left it.
-use Prim.Native.Nat.{ℕ, zero, suc, _+_, _-_, _*_, _/_, _%_, _≤_, _<_, _^_}
+use Prim.Native.Nat.{ℕ, zero, suc, _+_, _-_, _*_, _/_, _%_, _≤_, _<_, _^_, min}
 use native.Mathlib.Omega.{arith}
 use native.Mathlib.Numerals.{add-one}
 use mathlib.Core.Path.{_≡_, refl}
@@ -88,12 +88,16 @@ unfoldable pub firstFrom : List ℕ → Layout → ℕ → ℕ → ℕ → Used
 firstFrom s l a zero i = None
 firstFrom s l a (suc n) i = headerAt s l i if contains (headerAt s l i) a else firstFrom s l a n (i + 1)
 
+-- the program headers that have a number of 32 bits, in a layout that a parse made all of them
+abbrev pub headerCount : Layout → ℕ
+headerCount l = min (l .«program_headers» .count) 0xffff_ffff
+
 -- version 2: the header used last if it contains the address, else the first that does. Version 1 uses none
 unfoldable pub usedHeader : List ℕ → Layout → Bool → Used → ℕ → Used
 usedHeader s l version2 used a =
     used if not version2 else
     used if contains used a else
-    firstFrom s l a (l .«program_headers» .count) 0
+    firstFrom s l a (headerCount l) 0
 
 -- the header that the first j relocations leave as the one used last
 unfoldable pub usedBefore : List ℕ → Layout → Bool → ℕ → Used
@@ -243,8 +247,11 @@ planOf s im builtins j (At r) info addend = planAt s im builtins j r info addend
 planOf s im builtins j Unmapped info addend = Refuse ValueOutOfBounds
 
 -- the place that the relocation number i means
+abbrev pub placeIn : List ℕ → Layout → Bool → ℕ → Mapped
+placeIn s l version2 i = placeOf version2 (usedBefore s l version2 (i + 1)) (relocationAt s l i .«r_offset»)
+
 abbrev pub placeAt : List ℕ → Job → ℕ → Mapped
-placeAt s j i = placeOf (j .version2) (usedBefore s (j .layout) (j .version2) (i + 1)) (relocationAt s (j .layout) i .«r_offset»)
+placeAt s j i = placeIn s (j .layout) (j .version2) i
 
 -- what a load does about the relocation number i
 abbrev pub relocationDeed : List ℕ → List ℕ → Job → ℕ → List ℕ → Deed

@@ -56,7 +56,7 @@ fn target_of(count: u64, i: u64, imm: u32) -> Call
     inside_text(count, to - 0x1_0000_0000)
 }
 
-fn is_local_call(version2: bool, insn: Insn) -> bool
+pub fn is_local_call(version2: bool, insn: Insn) -> bool
     ensures { λ r. ⌜ r ≡ isLocalCall version2 insn ⌝ }
 {
     let near = version2 & (insn.src == 0);

@@ -27,7 +27,7 @@ fn clear_bytes(s: &mut [u8])
 }
 
 // Every number zero.
-fn clear_words(s: &mut [u32])
+pub fn clear_words(s: &mut [u32])
     ensures { λ _. ⌜ now (s .exit) ≡ replicate (length (now (s .entry))) 0 ⌝ }
 {
     let mut i = 0;

@@ -29,9 +29,11 @@ mod validate;
 
 pub use answer::Accepted;
 pub use answer::Load;
+pub use calls::is_local_call;
 pub use error::ElfError;
 pub use error::from_parser;
 pub use error::report_of;
+pub use filling::clear_words;
 pub use get_bytes::PartPlace;
 pub use get_bytes::get_ro_place;
 pub use get_bytes::get_ro_section;
@@ -41,6 +43,14 @@ pub use get_bytes::ro_bytes;
 pub use get_bytes::ro_place;
 pub use get_bytes::text_bytes;
 pub use get_bytes::text_place;
+pub use relocations::Addend;
+pub use relocations::Mapped;
+pub use relocations::Relocation;
+pub use relocations::Used;
+pub use relocations::is_within;
+pub use relocations::r_place;
+pub use relocations::relocation_at;
+pub use relocations::used_header;
 pub use validate::Config;
 
 // A load that leaves anything where it refuses. The image's front is not cleared, since the file is

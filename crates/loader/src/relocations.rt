@@ -1,5 +1,6 @@
 // What a relocation asks for: the place that it means, the bytes that it writes there, and the function
 // that it registers. Reads only; the caller registers and writes.
+use crate::addresses::lesser;
 use crate::addresses::pick;
 use crate::addresses::saturating_add;
 use crate::addresses::saturating_sub;
@@ -98,7 +99,7 @@ fn addend_relocation(file: &[u8], layout: Layout, index: u32) -> Relocation
 }
 
 // The relocation number `index` of both tables, the older one first.
-pub(crate) fn relocation_at(file: &[u8], layout: Layout, index: u32) -> Relocation
+pub fn relocation_at(file: &[u8], layout: Layout, index: u32) -> Relocation
     ensures { λ r. ⌜ r ≡ relocationAt (now (file .entry)) layout index ⌝ }
 {
     let relocations = layout.dynamic_relocations;
@@ -165,14 +166,7 @@ fn first_header(file: &[u8], layout: Layout, count: u32, a: u64) -> Used
 
 // The header that the relocation at `r_offset` is mapped by, after one that was mapped by `used`. Version
 // 1 maps nothing.
-pub(crate) fn used_header(
-    file: &[u8],
-    layout: Layout,
-    version2: bool,
-    used: Used,
-    r_offset: u64,
-) -> Used
-    requires { ⌜ layout .«program_headers» .count < 2 ^ 32 ⌝ }
+pub fn used_header(file: &[u8], layout: Layout, version2: bool, used: Used, r_offset: u64) -> Used
     ensures { λ r. ⌜ r ≡ usedHeader (now (file .entry)) layout version2 used «r_offset» ⌝ }
 {
     if !version2 {
@@ -182,7 +176,8 @@ pub(crate) fn used_header(
         return used;
     }
     let headers = layout.program_headers;
-    first_header(file, layout, headers.count as u32, r_offset)
+    let count = lesser(headers.count, 0xffff_ffff) as u32;
+    first_header(file, layout, count, r_offset)
 }
 
 // The place in the file that a relocation means.
@@ -191,7 +186,7 @@ pub enum Mapped {
     Refused,
 }
 
-fn r_place(version2: bool, used: Used, r_offset: u64) -> Mapped
+pub fn r_place(version2: bool, used: Used, r_offset: u64) -> Mapped
     ensures { λ r. ⌜ r ≡ placeOf version2 used «r_offset» ⌝ }
 {
     if !version2 {
@@ -208,7 +203,7 @@ fn r_place(version2: bool, used: Used, r_offset: u64) -> Mapped
 }
 
 // Whether a place lies in the `length` bytes from `start` on.
-fn is_within(start: u64, length: u64, r: u64) -> bool
+pub fn is_within(start: u64, length: u64, r: u64) -> bool
     ensures { λ b. ⌜ b ≡ within start length r ⌝ }
 {
     if r < start {

@@ -2,7 +2,7 @@
 // words of the answer from the version on, then key, index, and the name's kind, start and length of
 // each row, and the words of the image that are not the file's, with their places. The line of a
 // question: `refused` likewise, or how many bytes and where they start, or whether there is a symbol and
-// its number.
+// its number, or who wrote a byte.
 use ebpf::little_endian::read_u32;
 
 // The longest file, and the most rows.
@@ -96,6 +96,21 @@ pub(crate) fn print_symbol(number: u32, answer: &[u64; 24]) {
         io::write_all(1, b"\n");
     } else {
         print_refused(answer);
+    }
+}
+
+// Who wrote a byte: its kind and number by the load's words, by the question's, and as one number.
+pub(crate) fn print_writer(number: u32, loaded: &[u64; 24], asked: &[u64; 24], code: u32) {
+    if number == 0 {
+        io::write_all(1, b"by");
+        print_words(loaded, 15, 17);
+        io::write_all(1, b",");
+        print_words(asked, 4, 6);
+        io::write_all(1, b",");
+        print_after_space(code as u64);
+        io::write_all(1, b"\n");
+    } else {
+        print_refused(asked);
     }
 }
 

@@ -4,20 +4,24 @@
 // A record has a title, padded with spaces, which starts the line; seven numbers of 32 bits: the
 // file's length, the settings by their bits, how many built-ins there are, one at most, the built-in,
 // the rows, what is asked, 0 for a load, and the number that a question has; and the file. Question 5, for
-// a symbol by its name, has the name behind the file, and its length as the number. What is lent holds
-// anything but zeros before.
+// a symbol by its name, has the name behind the file, and its length as the number; question 6 asks who wrote
+// the byte with that number. What is lent holds anything but zeros before.
 use ebpf::little_endian::read_u32;
 use exports::sbpf_dynamic_symbol_name;
 use exports::sbpf_find_symbol;
 use exports::sbpf_load;
+use exports::sbpf_load_who_wrote;
 use exports::sbpf_section_name;
 use exports::sbpf_section_place;
 use exports::sbpf_symbol_name;
+use exports::sbpf_who_wrote;
+use exports::sbpf_who_wrote_all;
 use lines::FILE;
 use lines::ROWS;
 use lines::print_line;
 use lines::print_place;
 use lines::print_symbol;
+use lines::print_writer;
 
 mod lines;
 
@@ -74,6 +78,59 @@ fn load_and_print(file: &[u8], builtins: &[u32], settings: u32, rows: usize) -> 
     true
 }
 
+// Asks who wrote a byte by the words of a load's answer, alone and among all bytes, and prints that
+// beside the load's own words.
+fn print_wrote(file: &[u8], loaded: &[u64; 24], offset: u64) {
+    let mut asked = [0xa8a8_a8a8u64; 24];
+    let mut answer = [0xa9a9_a9a9u64; 24];
+    let mut numbers = [0xaaaa_aaaau32; FILE];
+    let number = sbpf_who_wrote(file, loaded, offset, &mut asked);
+    sbpf_who_wrote_all(file, loaded, &mut numbers, &mut answer);
+    print_writer(
+        number,
+        loaded,
+        &asked,
+        numbers[(offset % FILE as u64) as usize],
+    );
+}
+
+// Loads, with the question who wrote a byte.
+fn load_and_print_wrote(
+    file: &[u8],
+    builtins: &[u32],
+    settings: u32,
+    rows: usize,
+    offset: u64,
+) -> bool {
+    if ROWS < rows {
+        return bad_record();
+    }
+    let mut image = [0xa1u8; FILE];
+    let mut ro = [0xa2u8; FILE];
+    let mut keys = [0xa3a3_a3a3u32; ROWS];
+    let mut indices = [0xa4a4_a4a4u32; ROWS];
+    let mut kinds = [0xa5a5_a5a5u32; ROWS];
+    let mut starts = [0xa6a6_a6a6u32; ROWS];
+    let mut lengths = [0xa7a7_a7a7u32; ROWS];
+    let mut answer = [0xa8a8_a8a8u64; 24];
+    sbpf_load_who_wrote(
+        file,
+        builtins,
+        settings,
+        &mut image,
+        &mut ro,
+        &mut keys,
+        &mut indices,
+        &mut kinds,
+        &mut starts,
+        &mut lengths[..rows],
+        offset,
+        &mut answer,
+    );
+    print_wrote(file, &answer, offset);
+    true
+}
+
 fn ask(file: &[u8], question: u32, number: u32, answer: &mut [u64]) -> u32 {
     if question == 1 {
         return sbpf_section_place(file, number, answer);
@@ -110,14 +167,33 @@ fn find_and_print(file: &[u8], name: &mut [u8], length: usize) -> bool {
     true
 }
 
-// Reads the file behind a record's numbers, and loads or asks it.
-fn run(numbers: &[u8; NUMBERS], file: &mut [u8], name: &mut [u8]) -> bool {
-    let length = read_u32(numbers, 0) as usize;
-    let count = read_u32(numbers, 8) as usize;
-    if file.len() < length {
+// Loads the file as a record's numbers say, with the question who wrote a byte or without it.
+fn run_load(numbers: &[u8; NUMBERS], file: &[u8], count: usize, question: u32) -> bool {
+    let builtins = [read_u32(numbers, 12)];
+    if 6 < question {
         return bad_record();
     }
     if 1 < count {
+        return bad_record();
+    }
+    let settings = read_u32(numbers, 4);
+    let rows = read_u32(numbers, 16) as usize;
+    if question == 6 {
+        return load_and_print_wrote(
+            file,
+            &builtins[..count],
+            settings,
+            rows,
+            read_u32(numbers, 24) as u64,
+        );
+    }
+    load_and_print(file, &builtins[..count], settings, rows)
+}
+
+// Reads the file behind a record's numbers, and loads or asks it.
+fn run(numbers: &[u8; NUMBERS], file: &mut [u8], name: &mut [u8]) -> bool {
+    let length = read_u32(numbers, 0) as usize;
+    if file.len() < length {
         return bad_record();
     }
     io::read_full(0, &mut file[..length]);
@@ -125,15 +201,14 @@ fn run(numbers: &[u8; NUMBERS], file: &mut [u8], name: &mut [u8]) -> bool {
     if question == 5 {
         return find_and_print(&file[..length], name, read_u32(numbers, 24) as usize);
     }
-    if 0 < question {
+    if (0 < question) & (question < 5) {
         return ask_and_print(&file[..length], question, read_u32(numbers, 24));
     }
-    let builtins = [read_u32(numbers, 12)];
-    load_and_print(
+    run_load(
+        numbers,
         &file[..length],
-        &builtins[..count],
-        read_u32(numbers, 4),
-        read_u32(numbers, 16) as usize,
+        read_u32(numbers, 8) as usize,
+        question,
     )
 }
 

@@ -63,7 +63,8 @@ pub fn written(words: &[u64], room: usize) -> Vec<u64> {
     all
 }
 
-fn same(what: &str, got: &Answer, words: [u64; WORDS], room: usize) -> Result<(), String> {
+/// An answer against the words that must come.
+pub fn same(what: &str, got: &Answer, words: [u64; WORDS], room: usize) -> Result<(), String> {
     let expected = (words[0] as u32, written(&words, room));
     if *got == expected {
         return Ok(());

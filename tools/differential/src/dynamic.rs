@@ -3,6 +3,7 @@
 
 use crate::{compare::Placed, elf::put, outcome};
 use rbpf::elf_parser::Elf64;
+use std::ops::Range;
 
 const PT_DYNAMIC: u64 = 2;
 const SHT_DYNAMIC: u64 = 6;
@@ -204,6 +205,45 @@ pub fn both(file: &[u8], linked: &Linked) -> Vec<(u64, u64, Option<u64>)> {
         .map(|at| (two(at).0, two(at).1, None))
         .chain(newer.map(|at| (two(at).0, two(at).1, Some(get(file, at + 16, 8)))))
         .collect()
+}
+
+/// From a relocation's `r_offset` to its place in the file, one after another.
+pub struct Mapping {
+    version2: bool,
+    /// The addresses and the offset of each program header.
+    headers: Vec<(Range<u64>, u64)>,
+    used: Option<usize>,
+}
+
+impl Mapping {
+    /// Of a file that a parse accepts up to its dynamic table.
+    pub fn new(file: &[u8], version2: bool) -> Mapping {
+        let header = |at: u64| {
+            let vaddr = get(file, at + 16, 8);
+            let end = vaddr.saturating_add(get(file, at + 40, 8));
+            (vaddr..end, get(file, at + 8, 8))
+        };
+        Mapping {
+            version2,
+            headers: headers(file).0.into_iter().map(header).collect(),
+            used: None,
+        }
+    }
+
+    /// Version 1 has the place itself. In version 2 it is by the header used last if that contains the address,
+    /// else by the first that does; none where no header does.
+    pub fn place(&mut self, r_offset: u64) -> Option<u64> {
+        if !self.version2 {
+            return Some(r_offset);
+        }
+        let contains = |k: &usize| self.headers[*k].0.contains(&r_offset);
+        self.used = self
+            .used
+            .filter(contains)
+            .or_else(|| (0..self.headers.len()).find(contains));
+        let (addresses, offset) = &self.headers[self.used?];
+        Some((r_offset - addresses.start).saturating_add(*offset))
+    }
 }
 
 /// The number that a parse gives of a file, 0 where it accepts it; of a file without relocations that bring

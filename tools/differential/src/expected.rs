@@ -8,9 +8,10 @@ use crate::{
     compare::Placed,
     dynamic,
     elf::{PROGRAM_START, STACK_START},
-    model::{self, Replayed, Stop},
+    model::{self, only, Replayed, Stop},
     outcome::{self, ReadOnly, Text},
     port::{Columns, WORDS},
+    writers::Write,
     Outcome,
 };
 
@@ -26,32 +27,21 @@ pub struct Expected {
     pub table: Columns,
     /// What `get_text_bytes` does after an accepted load.
     pub text: Option<Text>,
+    /// What the load wrote to the image over the file's bytes, in order.
+    pub writes: Vec<Write>,
     /// The most rows that the load would hold at once if the table had no end.
     pub most: usize,
 }
 
 fn refused(case: &Case, stop: Stop, most: usize) -> Expected {
-    let mut words = [0; WORDS];
-    words[0] = stop.number as u64;
-    words[1] = stop.value;
-    words[2] = stop.start;
-    words[3] = stop.length;
     Expected {
-        words,
+        words: stop.words(),
         image: vec![0; case.image],
         ro: vec![0; case.ro],
         table: case.columns.map(|n| vec![0; n]),
         text: None,
+        writes: Vec::new(),
         most,
-    }
-}
-
-fn only(number: u32) -> Stop {
-    Stop {
-        number,
-        value: 0,
-        start: 0,
-        length: 0,
     }
 }
 
@@ -215,6 +205,7 @@ fn accepted_with(case: &Case, m: &Replayed, ro: &ReadOnly, text: Text, most: usi
         ro: copy,
         table,
         text: Some(text),
+        writes: m.writes.clone(),
         most,
     }
 }

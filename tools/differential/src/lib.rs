@@ -1,7 +1,8 @@
 //! The proved functions and the Rust, side by side. `outcome` has the Rust's answers
 //! in the scope's numbers: solana_rbpf 0.8.5, compiled unchanged from RBPF_SRC. `port` calls
 //! the proved functions. `cases` makes the inputs, `compare` asks both, and `loads` does for whole
-//! loads, whose answers `expected` has in full. `worked` has the scope's examples.
+//! loads, whose answers `expected` has in full, and `wrote` for who wrote their bytes. `worked` has the
+//! scope's examples.
 
 pub mod bench;
 pub mod cases;
@@ -18,6 +19,8 @@ pub mod port;
 pub mod random;
 pub mod twins;
 pub mod worked;
+pub mod writers;
+pub mod wrote;
 
 pub use outcome::{outcome, Outcome};
 

@@ -7,6 +7,7 @@ use crate::{
     number_name,
     outcome::Text,
     port::{self, WORDS},
+    writers, wrote,
 };
 use std::{collections::BTreeMap, fmt::Debug};
 
@@ -14,14 +15,14 @@ use std::{collections::BTreeMap, fmt::Debug};
 const GUARD: usize = 16;
 
 /// A lent slice inside a longer one, filled before with what is nowhere zero.
-struct Guarded<T> {
+pub struct Guarded<T> {
     all: Vec<T>,
     len: usize,
     fill: T,
 }
 
 impl<T: Copy + PartialEq + Debug> Guarded<T> {
-    fn new(len: usize, fill: T) -> Guarded<T> {
+    pub fn new(len: usize, fill: T) -> Guarded<T> {
         Guarded {
             all: vec![fill; len + 2 * GUARD],
             len,
@@ -29,16 +30,16 @@ impl<T: Copy + PartialEq + Debug> Guarded<T> {
         }
     }
 
-    fn lend(&mut self) -> &mut [T] {
+    pub fn lend(&mut self) -> &mut [T] {
         &mut self.all[GUARD..GUARD + self.len]
     }
 
-    fn held(&self) -> &[T] {
+    pub fn held(&self) -> &[T] {
         &self.all[GUARD..GUARD + self.len]
     }
 
     /// Where the slice is not as expected.
-    fn check(&self, what: &str, expected: &[T]) -> Result<(), String> {
+    pub fn check(&self, what: &str, expected: &[T]) -> Result<(), String> {
         let outside = self.all[..GUARD]
             .iter()
             .chain(&self.all[GUARD + self.len..]);
@@ -81,6 +82,8 @@ pub struct Counts {
     /// Accepted loads whose image is not the file.
     pub relocated: u64,
     pub longest_accepted: u64,
+    /// Who wrote their bytes.
+    pub wrote: wrote::Counts,
 }
 
 impl Counts {
@@ -163,6 +166,7 @@ impl Counts {
 /// What is expected, counted. Needs no port.
 pub fn expect(case: &Case, counts: &mut Counts) -> Result<Expected, String> {
     let e = expected(case)?;
+    writers::agree(&case.file, &e)?;
     counts.count(case, &e);
     Ok(e)
 }
@@ -203,6 +207,9 @@ pub fn compare(case: &Case, counts: &mut Counts) -> Result<(), String> {
     }
     image.check("the image", &e.image)?;
     ro.check("the read-only buffer", &e.ro)?;
+    if port::HAS_WRITERS {
+        wrote::compare(case, &e, file.bytes(), answer.held(), &mut counts.wrote)?;
+    }
 
     // the text part, by the port's own answer and bytes
     let Some(text) = &e.text else { return Ok(()) };

@@ -138,6 +138,9 @@ fn compare(ask: Ask, cases: u64, seed: u64, first: u64) {
             }
         );
         counts.print();
+        if ask.loads && port::HAS_WRITERS {
+            counts.wrote.print();
+        }
     }
     println!("{differences} differences");
     if differences > 0 {

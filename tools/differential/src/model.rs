@@ -8,9 +8,11 @@
 //! Rust altogether.
 
 use crate::{
-    dynamic,
+    dynamic::{self, Mapping},
     elf::{PROGRAM_START, STACK_START},
     outcome::{self, ReadOnly},
+    port::WORDS,
+    writers::{Write, Writer},
     Settings,
 };
 use rbpf::{
@@ -29,6 +31,15 @@ pub struct Stop {
     pub length: u64,
 }
 
+impl Stop {
+    /// The words of an answer.
+    pub fn words(&self) -> [u64; WORDS] {
+        let mut words = [0; WORDS];
+        words[..4].copy_from_slice(&[self.number as u64, self.value, self.start, self.length]);
+        words
+    }
+}
+
 fn stop(number: u32, value: u64) -> Stop {
     Stop {
         number,
@@ -36,6 +47,11 @@ fn stop(number: u32, value: u64) -> Stop {
         start: 0,
         length: 0,
     }
+}
+
+/// A refusal without a value.
+pub fn only(number: u32) -> Stop {
+    stop(number, 0)
 }
 
 #[derive(Clone, Debug, PartialEq, Eq)]
@@ -73,6 +89,8 @@ pub struct Replayed {
     /// What each relocation of type 1 or 8 takes for its addend, and where the bytes stand that one
     /// without an addend reads.
     pub addends: Vec<Option<(u64, u64)>>,
+    /// What was written to the image, in order.
+    pub writes: Vec<Write>,
 }
 
 struct Table {
@@ -187,11 +205,24 @@ fn read(image: &[u8], at: u64, width: u64) -> Result<u64, Stop> {
     Ok(u64::from_le_bytes(bytes))
 }
 
-fn write(image: &mut [u8], at: u64, value: u64, width: u64) -> Result<(), Stop> {
-    read(image, at, width)?;
-    image[at as usize..(at + width) as usize]
-        .copy_from_slice(&value.to_le_bytes()[..width as usize]);
-    Ok(())
+/// The image, and what was written to it.
+struct Image {
+    bytes: Vec<u8>,
+    writes: Vec<Write>,
+}
+
+impl Image {
+    fn read(&self, at: u64, width: u64) -> Result<u64, Stop> {
+        read(&self.bytes, at, width)
+    }
+
+    fn write(&mut self, by: Writer, at: u64, value: u64, width: u64) -> Result<(), Stop> {
+        self.read(at, width)?;
+        self.bytes[at as usize..(at + width) as usize]
+            .copy_from_slice(&value.to_le_bytes()[..width as usize]);
+        self.writes.push((at, width, by));
+        Ok(())
+    }
 }
 
 /// An address below the program's start gains it.
@@ -227,6 +258,20 @@ pub fn unclosed_name(file: &[u8]) -> (u64, u64) {
     panic!("every section name is closed, and yet the parse says 4")
 }
 
+/// The refusal of a parse, as a load has it, by its number.
+pub fn parse_stop(file: &[u8], number: u32) -> Stop {
+    let mut refused = stop(number, 0);
+    match refused.number {
+        4 => {
+            (refused.start, refused.length) = unclosed_name(file);
+            refused.number = outcome::unclosed(refused.length < 16);
+        }
+        5 => refused.number = 33,
+        _ => {}
+    }
+    refused
+}
+
 /// The load up to the entry's registration, with so many rows lent, and the most rows that were
 /// held at once, also where it is refused. `file` is aligned to 16.
 pub fn replay(
@@ -253,18 +298,7 @@ fn replay_into(
 ) -> Result<Replayed, Stop> {
     let placed_front = dynamic::without(file);
     let front = placed_front.bytes();
-    let refused = |number: u32| {
-        let mut refused = stop(number, 0);
-        match refused.number {
-            4 => {
-                (refused.start, refused.length) = unclosed_name(file);
-                refused.number = outcome::unclosed(refused.length < 16);
-            }
-            5 => refused.number = 33,
-            _ => {}
-        }
-        refused
-    };
+    let refused = |number: u32| parse_stop(file, number);
     let elf = Elf64::parse(front).map_err(|err| refused(outcome::parser_number(&err)))?;
     let linked = dynamic::linked(file).map_err(refused)?;
     let loader = outcome::loader(settings, &[]);
@@ -325,7 +359,10 @@ fn replay_into(
         settings,
         builtins,
     };
-    let mut image = file.to_vec();
+    let mut image = Image {
+        bytes: file.to_vec(),
+        writes: Vec::new(),
+    };
 
     // local calls, read in the file
     let slots = text_length / 8;
@@ -341,7 +378,7 @@ fn replay_into(
             return Err(stop(23, slot));
         }
         let key = rules.register(table, Name::Call, target as u64)?;
-        write(&mut image, at + 4, key as u64, 4)?;
+        image.write(Writer::Call(slot as u32), at + 4, key as u64, 4)?;
     }
 
     // relocations, of both tables as one list
@@ -352,20 +389,11 @@ fn replay_into(
         let field = |from: usize, width: u64| read(file, (at + from) as u64, width);
         Ok((field(0, 4)? as u32, field(4, 1)? as u8, field(8, 8)?))
     };
-    let headers = elf.program_header_table();
-    let mut used = None;
+    let mut mapping = Mapping::new(file, version2);
     let mut addends = Vec::new();
-    for (r_offset, r_info, addend) in dynamic::both(file, &linked) {
-        let mut r = r_offset;
-        if version2 {
-            let contains = |k: &usize| headers[*k].vm_range().contains(&r);
-            // the header used last if it contains the place, else the first that does
-            used = used
-                .filter(contains)
-                .or_else(|| (0..headers.len()).find(contains));
-            let header = &headers[used.ok_or(stop(33, 0))?];
-            r = (r - header.p_vaddr).saturating_add(header.p_offset);
-        }
+    for (j, (r_offset, r_info, addend)) in dynamic::both(file, &linked).into_iter().enumerate() {
+        let r = mapping.place(r_offset).ok_or(stop(33, 0))?;
+        let by = Writer::Relocation(j as u32);
         let number = r_info >> 32;
         let kind = r_info as u32;
         if (kind == 1 || kind == 8) && addend.is_some_and(|a| a as i64 >> 63 != 0) {
@@ -381,31 +409,31 @@ fn replay_into(
             1 => {
                 let halves = in_text(r) || !version2;
                 let at = if halves { r.saturating_add(4) } else { r };
-                let added = taken(at, read(&image, at, 4)?);
+                let added = taken(at, image.read(at, 4)?);
                 let addr = placed(symbol_at(number)?.2.saturating_add(added));
                 if halves {
-                    write(&mut image, at, addr & 0xffff_ffff, 4)?;
-                    write(&mut image, at.saturating_add(8), addr >> 32, 4)?;
+                    image.write(by, at, addr & 0xffff_ffff, 4)?;
+                    image.write(by, at.saturating_add(8), addr >> 32, 4)?;
                 } else {
-                    write(&mut image, at, addr, 8)?;
+                    image.write(by, at, addr, 8)?;
                 }
             }
             8 if in_text(r) => {
                 let (low, high) = (r.saturating_add(4), r.saturating_add(12));
-                let addr = taken(low, read(&image, low, 4)? | read(&image, high, 4)? << 32);
+                let addr = taken(low, image.read(low, 4)? | image.read(high, 4)? << 32);
                 if addr == 0 {
                     return Err(stop(29, 0));
                 }
-                write(&mut image, low, placed(addr) & 0xffff_ffff, 4)?;
-                write(&mut image, high, placed(addr) >> 32, 4)?;
+                image.write(by, low, placed(addr) & 0xffff_ffff, 4)?;
+                image.write(by, high, placed(addr) >> 32, 4)?;
             }
             8 => {
                 let addr = if version2 {
-                    placed(taken(r, read(&image, r, 8)?))
+                    placed(taken(r, image.read(r, 8)?))
                 } else {
-                    PROGRAM_START + taken(r, read(&image, r.saturating_add(4), 4)?)
+                    PROGRAM_START + taken(r, image.read(r.saturating_add(4), 4)?)
                 };
-                write(&mut image, r, addr, 8)?;
+                image.write(by, r, addr, 8)?;
             }
             10 => {
                 let (st_name, st_info, st_value) = symbol_at(number)?;
@@ -430,7 +458,7 @@ fn replay_into(
                     }
                     hash
                 };
-                write(&mut image, r.saturating_add(4), key as u64, 4)?;
+                image.write(by, r.saturating_add(4), key as u64, 4)?;
             }
             other => return Err(stop(30, other as u64)),
         }
@@ -466,13 +494,14 @@ fn replay_into(
     Ok(Replayed {
         version2,
         entry: offset / 8,
-        image,
+        image: image.bytes,
         rows: std::mem::take(&mut table.rows),
         moves: table.moves,
         text_addr,
         text_start,
         text_length,
         addends,
+        writes: image.writes,
     })
 }
 

@@ -107,10 +107,41 @@ proved! { text_place:
     ) -> u32;
 }
 
+proved! { writers:
+    fn sbpf_who_wrote(
+        file: *const u8, file_len: usize,
+        loaded: *const u64, loaded_len: usize,
+        offset: u64,
+        answer: *mut u64, answer_len: usize,
+    ) -> u32;
+    fn sbpf_who_wrote_all(
+        file: *const u8, file_len: usize,
+        loaded: *const u64, loaded_len: usize,
+        numbers: *mut u32, numbers_len: usize,
+        answer: *mut u64, answer_len: usize,
+    ) -> u32;
+    fn sbpf_load_who_wrote(
+        file: *const u8, file_len: usize,
+        builtins: *const u32, builtins_len: usize,
+        settings: u32,
+        image: *mut u8, image_len: usize,
+        ro: *mut u8, ro_len: usize,
+        keys: *mut u32, keys_len: usize,
+        indices: *mut u32, indices_len: usize,
+        kinds: *mut u32, kinds_len: usize,
+        starts: *mut u32, starts_len: usize,
+        lengths: *mut u32, lengths_len: usize,
+        offset: u64,
+        answer: *mut u64, answer_len: usize,
+    ) -> u32;
+}
+
 /// Whether the library has a load.
 pub const HAS_LOAD: bool = cfg!(load);
 /// Whether it has the text part on its own.
 pub const HAS_TEXT_PLACE: bool = cfg!(text_place);
+/// Whether it can be asked who wrote a byte.
+pub const HAS_WRITERS: bool = cfg!(writers);
 /// Whether there is a library.
 pub const HAS_PORT: bool = cfg!(port);
 
@@ -121,9 +152,13 @@ pub const WORDS: usize = 24;
 pub type Answer = (u32, Vec<u64>);
 
 fn with_room(room: usize, call: impl FnOnce(*mut u64, usize) -> u32) -> Answer {
+    with_words(room, |words| call(words.as_mut_ptr(), words.len()))
+}
+
+fn with_words(room: usize, call: impl FnOnce(&mut [u64]) -> u32) -> Answer {
     // what the slice held before must not show
     let mut words = vec![0xa5a5_a5a5_a5a5_a5a5; room];
-    let result = call(words.as_mut_ptr(), room);
+    let result = call(&mut words);
     (result, words)
 }
 
@@ -277,6 +312,95 @@ pub fn load(
             starts.len(),
             lengths.as_mut_ptr(),
             lengths.len(),
+            answer.as_mut_ptr(),
+            answer.len(),
+        )
+    }
+}
+
+/// Who wrote a byte, by the words of a load's answer.
+pub fn who_wrote(file: &[u8], loaded: &[u64], offset: u64, room: usize) -> Answer {
+    with_words(room, |words| who_wrote_into(file, loaded, offset, words))
+}
+
+/// The same into words that are lent.
+pub fn who_wrote_into(file: &[u8], loaded: &[u64], offset: u64, words: &mut [u64]) -> u32 {
+    unsafe {
+        sbpf_who_wrote(
+            file.as_ptr(),
+            file.len(),
+            loaded.as_ptr(),
+            loaded.len(),
+            offset,
+            words.as_mut_ptr(),
+            words.len(),
+        )
+    }
+}
+
+/// Who wrote each byte, in numbers that are lent.
+pub fn who_wrote_all(file: &[u8], loaded: &[u64], numbers: &mut [u32], room: usize) -> Answer {
+    with_words(room, |words| {
+        who_wrote_all_into(file, loaded, numbers, words)
+    })
+}
+
+/// The same into words that are lent.
+pub fn who_wrote_all_into(
+    file: &[u8],
+    loaded: &[u64],
+    numbers: &mut [u32],
+    words: &mut [u64],
+) -> u32 {
+    unsafe {
+        sbpf_who_wrote_all(
+            file.as_ptr(),
+            file.len(),
+            loaded.as_ptr(),
+            loaded.len(),
+            numbers.as_mut_ptr(),
+            numbers.len(),
+            words.as_mut_ptr(),
+            words.len(),
+        )
+    }
+}
+
+/// A load, and who wrote a byte of its image.
+#[allow(clippy::too_many_arguments)]
+pub fn load_who_wrote(
+    file: &[u8],
+    builtins: &[u32],
+    settings: u32,
+    image: &mut [u8],
+    ro: &mut [u8],
+    table: [&mut [u32]; 5],
+    offset: u64,
+    answer: &mut [u64],
+) -> u32 {
+    let [keys, indices, kinds, starts, lengths] = table;
+    unsafe {
+        sbpf_load_who_wrote(
+            file.as_ptr(),
+            file.len(),
+            builtins.as_ptr(),
+            builtins.len(),
+            settings,
+            image.as_mut_ptr(),
+            image.len(),
+            ro.as_mut_ptr(),
+            ro.len(),
+            keys.as_mut_ptr(),
+            keys.len(),
+            indices.as_mut_ptr(),
+            indices.len(),
+            kinds.as_mut_ptr(),
+            kinds.len(),
+            starts.as_mut_ptr(),
+            starts.len(),
+            lengths.as_mut_ptr(),
+            lengths.len(),
+            offset,
             answer.as_mut_ptr(),
             answer.len(),
         )

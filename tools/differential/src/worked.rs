@@ -12,6 +12,7 @@ use crate::{
     expected::{expected, Expected, LONGEST},
     finding, loads, outcome,
     port::{self, Columns, Question},
+    writers::{self, Writer},
     Outcome, Settings,
 };
 use rbpf::elf_parser::Elf64;
@@ -32,6 +33,8 @@ enum Told {
     Place(u64, u64),
     /// Whether there is a symbol with a name, 1 or 0, and its number.
     Symbol(u64, u64),
+    /// Who wrote a byte: kind and number, with the load and by its answer, and the code among all bytes.
+    Wrote([u64; 2], [u64; 2], u32),
 }
 
 /// The words of `image` that are not the file's.
@@ -73,6 +76,12 @@ impl fmt::Display for Told {
             ),
             Told::Place(start, length) => write!(f, "{length} bytes at {start}"),
             Told::Symbol(found, number) => write!(f, "symbol {found} {number}"),
+            Told::Wrote(load, asked, code) => write!(
+                f,
+                "by {}, {}, {code}",
+                told_numbers(load),
+                told_numbers(asked)
+            ),
         }
     }
 }
@@ -119,16 +128,17 @@ impl Told {
                 }
                 text + &told_written(words)
             }
-            Told::Place(..) | Told::Symbol(..) => self.to_string(),
+            Told::Place(..) | Told::Symbol(..) | Told::Wrote(..) => self.to_string(),
         }
     }
 }
 
-/// The same of the Rust; a symbol by its name, of the model.
+/// The same of the Rust; a symbol by its name and who wrote a byte, of the model.
 fn rust(e: &Example) -> String {
     match e.asked {
         Asked::Load => rust_load(&e.case),
         Asked::Symbol(name) => symbol_by_name(&e.case.file, name),
+        Asked::Wrote(offset) => wrote_by_model(&e.case, offset as usize),
         Asked::File(question, number) => match outcome::ask(&e.case.file, question, number) {
             Ok((start, length)) => Told::Place(start, length).to_string(),
             Err(r) => format!("refused {} {}", r.number, r.value),
@@ -151,6 +161,21 @@ fn symbol_by_name(file: &[u8], name: &[u8]) -> String {
         Ok(Some(number)) => Told::Symbol(1, number as u64).to_string(),
         Ok(None) => Told::Symbol(0, 0).to_string(),
         Err(_) => "refused 48 0".to_string(),
+    }
+}
+
+fn told_writer(w: Writer) -> Told {
+    Told::Wrote(w.words(), w.words(), w.code())
+}
+
+fn wrote_by_model(case: &Case, offset: usize) -> String {
+    let loaded = expected(case).expect("the model agrees with the Rust").words;
+    match writers::asked(&case.file, &loaded) {
+        Err(stop) => format!("refused {} {}", stop.number, stop.value),
+        Ok(written) => match writers::last(case.file.len(), &written.writes).get(offset) {
+            Some(w) => told_writer(*w).to_string(),
+            None => "refused 45 0".to_string(),
+        },
     }
 }
 
@@ -189,6 +214,7 @@ fn port(e: &Example) -> Told {
                 _ => Told::Refused([words[0], words[1], words[2], words[3]]),
             }
         }
+        Asked::Wrote(offset) => port_wrote(&e.case, offset),
         Asked::File(question, number) => {
             let words = port::ask(question, &e.case.file, number, port::WORDS).1;
             match words[0] {
@@ -215,6 +241,33 @@ fn port_load(case: &Case) -> Told {
         &mut a,
     );
     Told::of(&case.file, &a, &table, &image)
+}
+
+fn port_wrote(case: &Case, offset: u32) -> Told {
+    let (mut image, mut ro) = (vec![1; case.image], vec![1; case.ro]);
+    let mut table = case.columns.map(|n| vec![1; n]);
+    let mut a = [1; port::WORDS];
+    port::load_who_wrote(
+        &case.file,
+        &case.builtins,
+        case.settings.bits() as u32,
+        &mut image,
+        &mut ro,
+        table.each_mut().map(|c| &mut c[..]),
+        offset as u64,
+        &mut a,
+    );
+    let asked = port::who_wrote(&case.file, &a, offset as u64, port::WORDS).1;
+    let mut numbers = vec![1; LENT];
+    port::who_wrote_all(&case.file, &a, &mut numbers, port::WORDS);
+    match asked[0] {
+        0 => Told::Wrote(
+            [a[15], a[16]],
+            [asked[4], asked[5]],
+            numbers[offset as usize % LENT],
+        ),
+        _ => Told::Refused([asked[0], asked[1], asked[2], asked[3]]),
+    }
 }
 
 /// A relocation, with its symbol.
@@ -520,6 +573,8 @@ enum Asked {
     Load,
     File(Question, u32),
     Symbol(&'static [u8]),
+    /// Who wrote the byte with this offset.
+    Wrote(u32),
 }
 
 struct Example {
@@ -706,6 +761,17 @@ fn examples() -> Vec<Example> {
         asks_rust: matches!(expected, Told::Place(..)),
         ..example(what, case, expected)
     };
+    let wrote = |what, case, offset, expected| Example {
+        asked: Asked::Wrote(offset),
+        ..example(what, case, expected)
+    };
+    let (by_file, by_call) = (told_writer(Writer::File), told_writer(Writer::Call(3)));
+    let by_relocation = told_writer(Writer::Relocation(0));
+    let small_len = PLAIN.file().len() as u32;
+    // type 8 of the file's last eight bytes
+    let at_the_end = || relocated(8, 0, 0, Some(5), Some(0));
+    let end = at_the_end().file.len() as u32;
+    let called = immediate_at as u32;
     let empty = lent(Vec::new());
     let loadlist = lent(LOADLIST.to_vec());
     let version_1 = Small {
@@ -1168,6 +1234,116 @@ fn examples() -> Vec<Example> {
             with(PLAIN.case(), ALL ^ V1, 0),
             accepted(2, 0),
         ),
+        wrote("who wrote byte 0", PLAIN.case(), 0, by_file.clone()),
+        wrote(
+            "who wrote the last byte",
+            PLAIN.case(),
+            small_len - 1,
+            by_file.clone(),
+        ),
+        wrote(
+            "who wrote the byte behind the last",
+            PLAIN.case(),
+            small_len,
+            refused(45, 0),
+        ),
+        wrote(
+            "who wrote byte 3 of a call",
+            call(true, 1, 3),
+            called - 1,
+            by_file.clone(),
+        ),
+        wrote(
+            "who wrote byte 4 of a call",
+            call(true, 1, 3),
+            called,
+            by_call.clone(),
+        ),
+        wrote(
+            "who wrote byte 7 of a call",
+            call(false, 0, 3),
+            called + 3,
+            by_call.clone(),
+        ),
+        wrote(
+            "who wrote the byte behind a call",
+            call(true, 1, 3),
+            called + 4,
+            by_file.clone(),
+        ),
+        wrote(
+            "who wrote byte 4 of a call of -1",
+            call(true, 1, -1),
+            called,
+            by_file.clone(),
+        ),
+        wrote(
+            "who wrote byte 4 of a call with source 0, version 2",
+            call(true, 0, 4),
+            called,
+            by_file.clone(),
+        ),
+        wrote(
+            "who wrote a byte of a load that is refused",
+            call(true, 1, 4),
+            called,
+            refused(23, 3),
+        ),
+        wrote(
+            "who wrote byte 3 at a relocation of type 1",
+            relocation(1, 0x20, 4),
+            67,
+            by_file.clone(),
+        ),
+        wrote(
+            "who wrote byte 4 at a relocation of type 1",
+            relocation(1, 0x20, 4),
+            68,
+            by_relocation.clone(),
+        ),
+        wrote(
+            "who wrote byte 8 at a relocation of type 1",
+            relocation(1, 0x20, 4),
+            72,
+            by_file.clone(),
+        ),
+        // the upper half is 0 before and afterwards
+        wrote(
+            "who wrote byte 15 at a relocation of type 1",
+            relocation(1, 0x20, 4),
+            79,
+            by_relocation.clone(),
+        ),
+        wrote(
+            "who wrote byte 0 at a relocation of type 8, out of the text",
+            at_the_end(),
+            end - 8,
+            by_relocation.clone(),
+        ),
+        wrote(
+            "who wrote the byte before a relocation of type 8, out of the text",
+            at_the_end(),
+            end - 9,
+            by_file.clone(),
+        ),
+        wrote(
+            "who wrote byte 7 at a relocation of type 8, out of the text",
+            at_the_end(),
+            end - 1,
+            by_relocation.clone(),
+        ),
+        wrote(
+            "who wrote byte 4 at a relocation of type 10",
+            with(named_call(None), ALL, abort),
+            68,
+            by_relocation.clone(),
+        ),
+        wrote(
+            "who wrote byte 12 at a relocation of type 10",
+            with(named_call(None), ALL, abort),
+            76,
+            by_file.clone(),
+        ),
     ]
 }
 
@@ -1387,11 +1563,13 @@ fn record(e: &Example) -> Vec<u8> {
             Asked::Load => 0,
             Asked::File(question, _) => 1 + question as u32,
             Asked::Symbol(_) => 5,
+            Asked::Wrote(_) => 6,
         },
         match e.asked {
             Asked::Load => 0,
             Asked::File(_, number) => number,
             Asked::Symbol(name) => name.len() as u32,
+            Asked::Wrote(offset) => offset,
         },
     ];
     bytes.extend(numbers.iter().flat_map(|n| n.to_le_bytes()));
@@ -1409,7 +1587,7 @@ fn line(e: &Example) -> String {
             e,
             &expected(&e.case).expect("the model agrees with the Rust"),
         ),
-        Asked::File(..) | Asked::Symbol(_) => {
+        Asked::File(..) | Asked::Symbol(_) | Asked::Wrote(_) => {
             assert!(
                 !e.asks_rust || rust(e) == e.expected.without_added(&e.case.file),
                 "{}",

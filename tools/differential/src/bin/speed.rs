@@ -1,4 +1,5 @@
-//! speed [ROUNDS], speed lookups [ROUNDS]: the second compares lookups by key, a hit and a miss, with the
+//! speed [ROUNDS], speed lookups [ROUNDS], speed writers [ROUNDS]: the third measures who wrote all bytes of a
+//! file, and who wrote one, beside the port's load of the same file, labels off. The second compares lookups by key, a hit and a miss, with the
 //! Rust's `lookup_by_key` on a registry of the same keys: by the scan, by the binary search, of the
 //! index alone, and by the row's number, at which the caller reads the index in its own column, through the C interface, the first two with the nine words lent that a row has. The first: the Rust's `Executable::load` and the port's on the same files, in one process,
 //! in turn. Time of the Rust: one load and its release (allocation is part of it, as it is where it
@@ -11,11 +12,12 @@
 use differential::{
     bench,
     cases::Case,
-    expected::expected,
+    expected::{expected, Expected},
     loads,
     outcome::{load_once, loader},
     port,
     random::Random,
+    writers::{Write, Writer},
     Settings,
 };
 use rbpf::program::FunctionRegistry;
@@ -42,9 +44,13 @@ fn quartiles(mut x: Vec<f64>) -> [f64; 3] {
 fn main() {
     let mut args = env::args().skip(1).peekable();
     let lookups = args.next_if(|a| a == "lookups").is_some();
+    let writers = args.next_if(|a| a == "writers").is_some();
     let rounds: usize = args
         .next()
         .map_or(41, |a| a.parse().expect("a number of rounds"));
+    if writers {
+        return writers_table(rounds);
+    }
     if lookups {
         println!("| Keys asked | Rows | Key | Rust ns | Scan/Rust | Search ns | Search/Rust (quartiles) | Index ns | Index/Rust (quartiles) | Number ns | Number/Rust (quartiles) |");
         println!("|---|---|---|---|---|---|---|---|---|---|---|");
@@ -62,14 +68,7 @@ fn main() {
     }
     println!("| File | Functions | Version | Labels | Keys | Moves | Rust µs | Port µs | Port/Rust (quartiles) | Copy µs | Port/copy |");
     println!("|---|---|---|---|---|---|---|---|---|---|---|");
-    for (size, functions) in [
-        (KIB, 10),
-        (64 * KIB, 200),
-        (MIB, 1_000),
-        (MIB, 5_000),
-        (MIB, 0),
-        (16 * MIB, 0),
-    ] {
+    for (size, functions) in SIZES {
         for version2 in [false, true] {
             for labels in [false, true] {
                 row(size, functions, version2, labels, rounds);
@@ -78,16 +77,32 @@ fn main() {
     }
 }
 
-fn row(size: usize, functions: usize, version2: bool, labels: bool, rounds: usize) {
-    let file = bench::file(size, functions, version2);
+/// Bytes and functions of the files that are loaded.
+const SIZES: [(usize, usize); 6] = [
+    (KIB, 10),
+    (64 * KIB, 200),
+    (MIB, 1_000),
+    (MIB, 5_000),
+    (MIB, 0),
+    (16 * MIB, 0),
+];
+
+fn size_name(size: usize) -> String {
+    if size < MIB {
+        format!("{} KiB", size / KIB)
+    } else {
+        format!("{} MiB", size / MIB)
+    }
+}
+
+/// A case of a file that is measured: the answer first, since only equal work is compared.
+fn measured(file: Vec<u8>, rows: usize, labels: bool) -> (Case, Expected) {
     let mut case = Case::of_file(file);
     case.settings = Settings {
         labels,
         ..Settings::ALL_ON
     };
-    case.columns = [functions + 8; 5];
-    let file = &case.file;
-    // the answer first: only equal work is compared
+    case.columns = [rows; 5];
     let e = expected(&case).expect("the model agrees with the Rust");
     assert_eq!(e.words[0], 0, "the file is refused");
     if port::HAS_LOAD {
@@ -96,6 +111,16 @@ fn row(size: usize, functions: usize, version2: bool, labels: bool, rounds: usiz
             std::process::exit(1);
         }
     }
+    (case, e)
+}
+
+fn row(size: usize, functions: usize, version2: bool, labels: bool, rounds: usize) {
+    let (case, e) = measured(
+        bench::file(size, functions, version2),
+        functions + 8,
+        labels,
+    );
+    let file = &case.file;
 
     let loader = loader(case.settings, &[]);
     let settings = case.settings.bits() as u32;
@@ -136,11 +161,7 @@ fn row(size: usize, functions: usize, version2: bool, labels: bool, rounds: usiz
     }
     let (rust, port, copies) = (quartiles(rust)[1], quartiles(port)[1], quartiles(copies)[1]);
     let ratio = quartiles(ratio);
-    let name = if size < MIB {
-        format!("{} KiB", size / KIB)
-    } else {
-        format!("{} MiB", size / MIB)
-    };
+    let name = size_name(size);
     let ports = if port::HAS_LOAD {
         (
             format!("{port:.1}"),
@@ -159,6 +180,116 @@ fn row(size: usize, functions: usize, version2: bool, labels: bool, rounds: usiz
         ports.0,
         ports.1,
         ports.2
+    );
+}
+
+/// Files of examples/, by their names.
+const LINKED: [(&str, &[u8]); 4] = [
+    (
+        "functions.so",
+        include_bytes!("../../../../examples/functions.so"),
+    ),
+    (
+        "addends.so",
+        include_bytes!("../../../../examples/addends.so"),
+    ),
+    ("names.so", include_bytes!("../../../../examples/names.so")),
+    (
+        "pointers_version2.so",
+        include_bytes!("../../../../examples/pointers_version2.so"),
+    ),
+];
+
+/// Bytes and relocations of the files that are full of them.
+const RELOCATED: [(usize, usize); 3] = [(4 * KIB, 50), (64 * KIB, 1_000), (MIB, 20_000)];
+
+fn writers_table(rounds: usize) {
+    if !port::HAS_WRITERS {
+        println!("the library cannot be asked who wrote a byte");
+        return;
+    }
+    println!("| File | Calls | Relocations | Version | Load µs | All µs | All/load (quartiles) | One µs | One/load (quartiles) |");
+    println!("|---|---|---|---|---|---|---|---|---|");
+    for (name, file) in LINKED {
+        writers_row(name, file.to_vec(), 256, rounds);
+    }
+    for (size, functions) in SIZES {
+        for version2 in [false, true] {
+            let file = bench::file(size, functions, version2);
+            let name = format!("{}, {functions} functions", size_name(size));
+            writers_row(&name, file, functions + 8, rounds);
+        }
+    }
+    for (size, relocations) in RELOCATED {
+        for (version2, addends) in [(false, false), (true, false), (false, true), (true, true)] {
+            let file = bench::relocated(size, relocations, version2, addends);
+            let kind = if addends { "addends" } else { "no addends" };
+            let name = format!("{}, {kind}", size_name(size));
+            writers_row(&name, file, 8, rounds);
+        }
+    }
+}
+
+/// The calls and the relocations that a load has applied.
+fn applied(e: &Expected) -> (usize, u32) {
+    let calls = e.writes.iter().filter(|w| matches!(w.2, Writer::Call(_)));
+    let number = |w: &Write| match w.2 {
+        Writer::Relocation(j) => j + 1,
+        _ => 0,
+    };
+    (
+        calls.count(),
+        e.writes.iter().map(number).max().unwrap_or(0),
+    )
+}
+
+/// Who wrote all bytes of a file, and who wrote the one in its middle, beside its load.
+fn writers_row(name: &str, file: Vec<u8>, rows: usize, rounds: usize) {
+    let (case, e) = measured(file, rows, false);
+    let (file, settings) = (&case.file, case.settings.bits() as u32);
+    let (mut image, mut ro) = (vec![0; file.len()], vec![0; file.len()]);
+    let mut table = case.columns.map(|n| vec![0; n]);
+    let mut loaded = [0; port::WORDS];
+    let mut load_once = || {
+        let table = table.each_mut().map(|c| &mut c[..]);
+        let file = black_box(&file[..]);
+        port::load(file, &[], settings, &mut image, &mut ro, table, &mut loaded);
+        black_box(&image);
+    };
+    let load = time(3, &mut load_once);
+    let n = (2_000.0 / load).clamp(1.0, 10_000.0) as u32;
+    let mut numbers = vec![0; file.len()];
+    let mut answer = [0; port::WORDS];
+    let mut all_once = || {
+        port::who_wrote_all_into(black_box(file), &e.words, &mut numbers, &mut answer);
+        black_box(&numbers);
+    };
+    let mut answer = [0; port::WORDS];
+    let mut one_once = || {
+        let middle = black_box(file.len() as u64 / 2);
+        port::who_wrote_into(black_box(file), &e.words, middle, &mut answer);
+        black_box(&answer);
+    };
+    let (mut load, mut all, mut one) = (vec![], vec![], vec![]);
+    for _ in 0..rounds {
+        load.push(time(n, &mut load_once));
+        all.push(time(n, &mut all_once));
+        one.push(time(n, &mut one_once));
+    }
+    let ratio = |times: &[f64]| {
+        let [low, middle, high] = quartiles(times.iter().zip(&load).map(|(a, b)| a / b).collect());
+        format!("{middle:.2} ({low:.2} to {high:.2})")
+    };
+    let middle = |times: &[f64]| quartiles(times.to_vec())[1];
+    let (calls, relocations) = applied(&e);
+    println!(
+        "| {name} | {calls} | {relocations} | {} | {:.1} | {:.1} | {} | {:.1} | {} |",
+        e.words[4],
+        middle(&load),
+        middle(&all),
+        ratio(&all),
+        middle(&one),
+        ratio(&one),
     );
 }
 

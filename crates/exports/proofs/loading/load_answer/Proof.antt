@@ -13,5 +13,5 @@ load-answer-spec =
     (search needs)
     (search needs)
     (search needs)
-    (λ c. rw (c .before .before .a .given .1) (c .accepted-answer .ensures))
+    (λ c. rw (c .before .before .a .given .1) (c .loaded-with .ensures))
     (λ c. rw (c .before .before .before .a2 .given .1, ← c .before .report-of .ensures) (c .reported .ensures)))

@@ -73,9 +73,6 @@ loop-holds c =
     let a = s .args in
     (going-start (relocationTrace (now (a .file)) (now (a .builtins)) (a .job)) (relocationCount (a .job)) (a .image .now) (T₀ s) (a .rows) (a .held) (a .moved) (s .pre .3), none-before (now (a .file)) (a .job .layout) (a .job .version2))
 
-used-header-requires : tie.Need-used-header-requires Inv-loop μ-loop
-used-header-requires c κs = c .before .before .before .before .before .before .before .before .before .before .before .before .before .before .before .before .before .pre .0 .headers
-
 plan-relocation-requires : tie.Need-plan-relocation-requires Inv-loop μ-loop
 plan-relocation-requires c κs = let s = c .before .before .before .before .before .before .before .before .before .before .before .before .before .before .before .before .before .before .before in (s .pre .0, s .pre .1)
 
@@ -128,7 +125,7 @@ apply-relocations-spec =
     cast-count
     loop-holds
     (search needs)
-    used-header-requires
+    (search needs)
     plan-relocation-requires
     perform-relocation-requires
     (search needs)

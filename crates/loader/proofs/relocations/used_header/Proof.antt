@@ -1,5 +1,6 @@
 -- `loader::relocations::used_header` meets its contract: the header used last, or the first that contains the address.
 -- Assumes nothing.
+use native.Mathlib.Omega.{arith}
 use Rattle.ebpf.specs.Choice.{choices, no-go}
 use Rattle.loader.specs.Relocations.{usedHeader}
 use borrow.Author.Needs.{needs}
@@ -15,5 +16,6 @@ used-header-spec =
     (search needs)
     (λ c. rw (← c .before .does-contain .ensures) (search choices depth 8))
     (search needs)
+    (λ c. omega (arith, c .lesser .ensures))
     (search needs)
-    (λ c. rw (← c .before .before .before .before .does-contain .ensures) (no-go _ _ _ _ (c .before .before .before .before .before .if1 .left) (no-go _ _ _ _ (c .before .before .before .if2 .left) (c .first-header .ensures)))))
+    (λ c. rw (← c .before .before .before .before .does-contain .ensures, ← c .before .lesser .ensures) (no-go _ _ _ _ (c .before .before .before .before .before .if1 .left) (no-go _ _ _ _ (c .before .before .before .if2 .left) (c .first-header .ensures)))))
