@@ -1,3 +1,4 @@
+#![tactic(auto)]
 // How deep a loaded profile calls: the longest chain of calls from the entry, counted in functions. Asked
 // with a load, or about a load already made, by its answer, its image and its table.
 ghost use Rattle.std.specs.Prelude.{◌≡◌, ◌≤◌, ◌<◌, length, get_or};
@@ -23,7 +24,7 @@ mod slots;
 
 // The longest chain; 50, with the smallest index of a function that is reached and reaches itself; 51,
 // with a chain past the limit; or why the load or the question is refused.
-#[derive(Drop)]
+#[derive(Clone, Copy)]
 pub enum CallDepth {
     Deep(u32),
     RecursiveCall(u32),
@@ -32,7 +33,7 @@ pub enum CallDepth {
 }
 
 // What a load answers, and how deep the profile calls.
-#[derive(Drop)]
+#[derive(Clone, Copy)]
 pub struct LoadDepth {
     pub load: Load,
     pub depth: CallDepth,

@@ -1,3 +1,4 @@
+#![tactic(auto)]
 // Name hashing, index keys and instruction slots: the port of src/ebpf.rs.
 ghost use Rattle.std.specs.Prelude.{◌≡◌};
 ghost use Rattle.ebpf.specs.Murmur3.{murmur3};
@@ -37,7 +38,7 @@ pub fn hash_symbol_name(name: &[u8]) -> u32
 
 // An instruction slot. `off` and `imm` are signed in the Rust: here they are the two's complement
 // bits that the text holds.
-#[derive(Drop)]
+#[derive(Clone, Copy)]
 pub struct Insn {
     pub opc: u8,
     pub dst: u8,
@@ -46,7 +47,7 @@ pub struct Insn {
     pub imm: u32,
 }
 
-#[derive(Drop)]
+#[derive(Clone, Copy)]
 pub enum Slot {
     Holds(Insn),
     // The index is past the last whole slot.

@@ -14,7 +14,7 @@ use crate::types::{phdr_at, shdr_at};
 use ebpf::little_endian::{read_u32, read_u64};
 
 // Where the header tables stand: offsets and counts, as the file header has them.
-#[derive(Drop)]
+#[derive(Clone, Copy)]
 pub struct Tables {
     pub phoff: usize,
     pub phnum: u64,
@@ -23,7 +23,7 @@ pub struct Tables {
 }
 
 // The first entry of a header table with some field.
-#[derive(Drop)]
+#[derive(Clone, Copy)]
 pub enum Found {
     At(usize),
     Nothing,
@@ -31,7 +31,7 @@ pub enum Found {
 
 // What the dynamic table leads to: the relocations, those that bring an addend, and the symbols; and the
 // address of the symbols' hash table, which a parse does not look at.
-#[derive(Drop)]
+#[derive(Clone, Copy)]
 pub struct Linked {
     pub relocations: Entries,
     pub relas: Entries,
@@ -39,7 +39,7 @@ pub struct Linked {
     pub hash_table: u64,
 }
 
-#[derive(Drop)]
+#[derive(Clone, Copy)]
 pub enum Linking {
     Found(Linked),
     Refused(ElfParserError),

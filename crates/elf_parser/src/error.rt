@@ -2,7 +2,7 @@
 ghost use Rattle.std.specs.Prelude.{◌≡◌};
 ghost use Rattle.elf_parser.specs.Errors.{report_of};
 
-#[derive(Drop)]
+#[derive(Clone, Copy)]
 pub enum ElfParserError {
     InvalidFileHeader,
     InvalidProgramHeader,
@@ -26,7 +26,7 @@ pub enum ElfParserError {
 }
 
 // A refusal in numbers: its number, its value, and the place of the name that it speaks of.
-#[derive(Drop)]
+#[derive(Clone, Copy)]
 pub struct Report {
     pub number: u32,
     pub value: u64,
@@ -35,7 +35,7 @@ pub struct Report {
 }
 
 // What a check answers.
-#[derive(Drop)]
+#[derive(Clone, Copy)]
 pub enum Check {
     Pass,
     Refused(ElfParserError),

@@ -16,7 +16,7 @@ use ebpf::little_endian::read_u32;
 // Where things stand in a file: plain numbers. A section header that was found by name, or is the
 // name table's, is given by its offset in the file, 0 where there is none. The hash table of the dynamic
 // symbols is given by its address, as the dynamic table has it: a parse does not look for it.
-#[derive(Drop)]
+#[derive(Clone, Copy)]
 pub struct Layout {
     pub program_headers: Entries,
     pub section_headers: Entries,
@@ -30,7 +30,7 @@ pub struct Layout {
     pub hash_table: u64,
 }
 
-#[derive(Drop)]
+#[derive(Clone, Copy)]
 pub enum Parsed {
     File(Layout),
     Refused(ElfParserError),

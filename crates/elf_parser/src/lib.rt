@@ -1,3 +1,4 @@
+#![tactic(auto)]
 // Reading an ELF-64 file: the port of src/elf_parser. Every function takes the file and plain
 // numbers. What a parse leaves is a `Layout`; everything else is read from the file again.
 pub mod consts;

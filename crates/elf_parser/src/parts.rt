@@ -5,7 +5,7 @@ ghost use Rattle.elf_parser.specs.Parts.{part_of};
 use crate::error::ElfParserError;
 
 // Where a name or a section's contents stand in the file.
-#[derive(Drop)]
+#[derive(Clone, Copy)]
 pub enum Place {
     At { start: usize, length: usize },
     Refused(ElfParserError),

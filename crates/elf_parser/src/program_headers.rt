@@ -7,7 +7,7 @@ use crate::error::{Check, ElfParserError};
 use crate::types::phdr_at;
 
 // What one turn of a loop of checks leaves for the next.
-#[derive(Drop)]
+#[derive(Clone, Copy)]
 pub enum Step {
     Next(u64),
     Refused(ElfParserError),
@@ -58,7 +58,7 @@ pub(crate) fn check_program_headers(file: &[u8], from: usize, count: u64) -> Che
 }
 
 // The program header that contains an address: where the address stands in the file by it.
-#[derive(Drop)]
+#[derive(Clone, Copy)]
 pub enum Mapped {
     At(u64),
     Nothing,

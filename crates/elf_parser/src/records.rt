@@ -13,50 +13,50 @@ use crate::types::{
 };
 
 // Entries of one kind that stand one after another in the file.
-#[derive(Drop)]
+#[derive(Clone, Copy)]
 pub struct Entries {
     pub offset: u64,
     pub count: u64,
 }
 
-#[derive(Drop)]
+#[derive(Clone, Copy)]
 pub enum Sliced {
     At(Entries),
     Refused(ElfParserError),
 }
 
-#[derive(Drop)]
+#[derive(Clone, Copy)]
 pub enum Phdr {
     Header(Elf64Phdr),
     Refused(ElfParserError),
 }
 
-#[derive(Drop)]
+#[derive(Clone, Copy)]
 pub enum Shdr {
     Header(Elf64Shdr),
     Refused(ElfParserError),
 }
 
-#[derive(Drop)]
+#[derive(Clone, Copy)]
 pub enum Sym {
     Symbol(Elf64Sym),
     Refused(ElfParserError),
 }
 
-#[derive(Drop)]
+#[derive(Clone, Copy)]
 pub enum Rel {
     Relocation(Elf64Rel),
     Refused(ElfParserError),
 }
 
-#[derive(Drop)]
+#[derive(Clone, Copy)]
 pub enum Rela {
     Relocation(Elf64Rela),
     Refused(ElfParserError),
 }
 
 // Where an entry starts.
-#[derive(Drop)]
+#[derive(Clone, Copy)]
 pub enum Entry {
     At(usize),
     Refused(ElfParserError),

@@ -9,7 +9,7 @@ use crate::program_headers::Step;
 use crate::types::shdr_at;
 
 // Where the two header tables stand.
-#[derive(Drop)]
+#[derive(Clone, Copy)]
 pub struct Ranges {
     pub phoff: u64,
     pub phend: u64,

@@ -10,7 +10,7 @@ use crate::types::Elf64Shdr;
 use ebpf::little_endian::read_u32;
 
 // Which of the names that the reader knows a section has.
-#[derive(Drop)]
+#[derive(Clone, Copy)]
 pub enum Role {
     SymbolTable,
     SymbolNames,
@@ -20,14 +20,14 @@ pub enum Role {
 
 // Where the headers of those sections stand in the file, 0 where there is none: no section header
 // stands at 0.
-#[derive(Drop)]
+#[derive(Clone, Copy)]
 pub struct Named {
     pub symtab: usize,
     pub strtab: usize,
     pub dynstr: usize,
 }
 
-#[derive(Drop)]
+#[derive(Clone, Copy)]
 pub enum Naming {
     Found(Named),
     Refused(ElfParserError),

@@ -4,7 +4,7 @@ ghost use Rattle.elf_parser.specs.Types.{file_header, program_header, section_he
 
 use ebpf::little_endian::{read_u8, read_u16, read_u32, read_u64};
 
-#[derive(Drop)]
+#[derive(Clone, Copy)]
 pub struct Elf64Ehdr {
     pub ei_osabi: u8,
     pub e_type: u16,
@@ -18,7 +18,7 @@ pub struct Elf64Ehdr {
     pub e_shstrndx: u16,
 }
 
-#[derive(Drop)]
+#[derive(Clone, Copy)]
 pub struct Elf64Phdr {
     pub p_type: u32,
     pub p_offset: u64,
@@ -27,7 +27,7 @@ pub struct Elf64Phdr {
     pub p_memsz: u64,
 }
 
-#[derive(Drop)]
+#[derive(Clone, Copy)]
 pub struct Elf64Shdr {
     pub sh_name: u32,
     pub sh_type: u32,
@@ -37,21 +37,21 @@ pub struct Elf64Shdr {
     pub sh_size: u64,
 }
 
-#[derive(Drop)]
+#[derive(Clone, Copy)]
 pub struct Elf64Sym {
     pub st_name: u32,
     pub st_info: u8,
     pub st_value: u64,
 }
 
-#[derive(Drop)]
+#[derive(Clone, Copy)]
 pub struct Elf64Rel {
     pub r_offset: u64,
     pub r_info: u64,
 }
 
 // The addend is signed: its bits as an unsigned number, negative from 2^63 on.
-#[derive(Drop)]
+#[derive(Clone, Copy)]
 pub struct Elf64Rela {
     pub r_offset: u64,
     pub r_info: u64,

@@ -1,3 +1,4 @@
+#![tactic(auto)]
 // The parsed file as a view: one reference to the file, with plain offsets beside it. Each function
 // takes the view apart and asks `elf_parser` or `hash_table`, whose contract it repeats at the view's file and
 // layout, also in a view that no parse made. Whoever has the file and the layout asks there.
@@ -14,7 +15,7 @@ use elf_parser::{
 };
 use hash_table::{FoundSymbol, find_symbol};
 
-#[derive(Drop)]
+#[derive(Clone, Copy)]
 pub struct Elf64<'a> {
     pub file: &'a [u8],
     pub layout: Layout,

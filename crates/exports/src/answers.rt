@@ -7,7 +7,7 @@ use hash_table::FoundSymbol;
 use program::{Found, FoundIndex, FoundRow};
 
 // A number, 0 where nothing was refused, and what goes with it.
-#[derive(Drop)]
+#[derive(Clone, Copy)]
 pub struct Answer {
     pub number: u32,
     pub words: [u64; 23],

@@ -1,3 +1,4 @@
+#![tactic(auto)]
 // The C interface, over numbers and lent slices: a slice is a pointer and a length. Each answer but a
 // hash, a name, an index and a row's number is 24 words, the number first, as `specs/Answers.antt` says; the
 // number is the result too.

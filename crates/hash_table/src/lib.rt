@@ -1,3 +1,4 @@
+#![tactic(auto)]
 // A dynamic symbol by its name, through the gABI's hash table: bucket count, chain count, buckets and
 // chains, numbers of 32 bits each. Every function takes the file and its layout, also one that no parse made.
 ghost use Rattle.std.specs.Prelude.{◌≡◌, ◌+◌, ◌%◌, ◌<◌, length};
@@ -54,21 +55,21 @@ pub fn elf_hash(name: &[u8]) -> u32
 }
 
 // A hash table: where its buckets start, how many they are, and how many chains there are behind them.
-#[derive(Drop)]
+#[derive(Clone, Copy)]
 struct HashTable {
     buckets: usize,
     nbucket: u32,
     nchain: u32,
 }
 
-#[derive(Drop)]
+#[derive(Clone, Copy)]
 enum Table {
     At(HashTable),
     Bad,
 }
 
 // The number of the symbol, that there is none of the name, or that the table cannot be used: 48.
-#[derive(Drop)]
+#[derive(Clone, Copy)]
 pub enum FoundSymbol {
     At(u32),
     Nothing,
@@ -76,7 +77,7 @@ pub enum FoundSymbol {
 }
 
 // Whether a symbol carries a name.
-#[derive(Drop)]
+#[derive(Clone, Copy)]
 enum Carried {
     Yes,
     No,
@@ -84,7 +85,7 @@ enum Carried {
 }
 
 // One link of a chain: the end of the walk, or where it goes on.
-#[derive(Drop)]
+#[derive(Clone, Copy)]
 enum Link {
     Ends(FoundSymbol),
     Next(u32),

@@ -1,3 +1,4 @@
+#![tactic(auto)]
 // Writes the hash of published vectors and the keys of some indices, a line each.
 fn show(name: &[u8]) {
     io::print_hex(1, ebpf::hash_symbol_name(name) as u64, 8);

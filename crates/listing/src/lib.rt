@@ -1,3 +1,4 @@
+#![tactic(auto)]
 // The lines that the program loadlist prints: `refused` with number, value, name start and name
 // length; or `accepted` with version, entry, keys and moves, and a line for each row, by rising key:
 // key, index, name kind. A file of more than 16,384 bytes is `too long`.

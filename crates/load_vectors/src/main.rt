@@ -1,3 +1,4 @@
+#![tactic(auto)]
 // Replays a fixed sample of loads whose answers are the Rust's: cases on standard input, a line for
 // each on standard output. tools/differential/src/bin/vectors.rs made both and has the format;
 // README.md says how. What a case is lent are parts of arrays of fixed lengths, filled with
@@ -22,7 +23,7 @@ const HEAD_SIZE: usize = 40;
 const MOST_CASES: usize = 100000;
 
 // The numbers of a case: the settings by their bits, and how long everything is.
-#[derive(Drop)]
+#[derive(Clone, Copy)]
 struct Sizes {
     file: usize,
     settings: u32,
@@ -36,7 +37,7 @@ struct Sizes {
     lengths: usize,
 }
 
-#[derive(Drop)]
+#[derive(Clone, Copy)]
 enum Head {
     Case(Sizes),
     Cut,

@@ -13,7 +13,7 @@ use crate::validate::Job;
 // whether the read-only bytes were copied, their offset from the program's start, where they start
 // in the image (0 where they were copied) and how many they are; the text's address, and its place
 // in the file.
-#[derive(Drop)]
+#[derive(Clone, Copy)]
 pub struct Accepted {
     pub version: u32,
     pub entry: u32,
@@ -28,7 +28,7 @@ pub struct Accepted {
     pub text_length: usize,
 }
 
-#[derive(Drop)]
+#[derive(Clone, Copy)]
 pub enum Load {
     Accepted(Accepted),
     Refused(ElfError),

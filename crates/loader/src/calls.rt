@@ -14,7 +14,7 @@ use ebpf::{CALL_IMM, Insn, Slot, get_insn};
 use program::{FunctionName, Row, is_taken, kept_name, legacy_key};
 
 // What a slot calls.
-#[derive(Drop)]
+#[derive(Clone, Copy)]
 pub enum Call {
     None,
     To(u32),

@@ -11,7 +11,7 @@ ghost use Rattle.loader.specs.InnerContracts.{entered_by, finished_by, Begins, E
 use crate::error::ElfError;
 use program::{Registered, Row, register_alike, register_function};
 
-#[derive(Drop)]
+#[derive(Clone, Copy)]
 pub enum Deed {
     Skip,
     Refuse(ElfError),
@@ -30,7 +30,7 @@ pub enum Deed {
 }
 
 // What a deed asks of the table.
-#[derive(Drop)]
+#[derive(Clone, Copy)]
 pub enum Entry {
     Nothing,
     Refuse(ElfError),
@@ -38,7 +38,7 @@ pub enum Entry {
 }
 
 // The rows used and the moves up to here, or why the load is refused.
-#[derive(Drop)]
+#[derive(Clone, Copy)]
 pub enum Outcome {
     Holds(usize, u64),
     Refused(ElfError),

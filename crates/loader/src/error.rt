@@ -4,7 +4,7 @@ ghost use Rattle.loader.specs.Errors.{from_parser, report_of};
 
 use elf_parser::{ElfParserError, Report};
 
-#[derive(Drop)]
+#[derive(Clone, Copy)]
 pub enum ElfError {
     FailedToParse(ElfParserError),
     EntrypointOutOfBounds,

@@ -10,7 +10,7 @@ use ebpf::MM_PROGRAM_START;
 use elf_parser::past;
 
 // A place in the lent bytes.
-#[derive(Drop)]
+#[derive(Clone, Copy)]
 pub enum PartPlace {
     At { start: u64, length: u64 },
     Refused(ElfError),

@@ -1,3 +1,4 @@
+#![tactic(auto)]
 // Loading a profile: the port of src/elf.rs.
 ghost use Rattle.loader.specs.Load.{Tries};
 ghost use Rattle.loader.specs.Loads.{Loads};

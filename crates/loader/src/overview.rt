@@ -7,7 +7,7 @@ use crate::read_only::{Gathering, gather_next, no_extent};
 use crate::sections::{Survey, no_survey, section_at, survey_next};
 use elf_parser::{Layout, section_name_part};
 
-#[derive(Drop)]
+#[derive(Clone, Copy)]
 pub struct Overview {
     pub survey: Survey,
     pub gathering: Gathering,

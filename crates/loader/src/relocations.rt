@@ -30,14 +30,14 @@ const R_BPF_64_RELATIVE: u32 = 8;
 const R_BPF_64_32: u32 = 10;
 
 // The addend that a relocation brings, if it is of the kind that does: its bits as an unsigned number.
-#[derive(Drop)]
+#[derive(Clone, Copy)]
 pub enum Addend {
     None,
     Is(u64),
 }
 
 // A relocation of either kind.
-#[derive(Drop)]
+#[derive(Clone, Copy)]
 pub struct Relocation {
     pub r_offset: u64,
     pub r_info: u64,
@@ -96,7 +96,7 @@ pub fn relocation_at(file: &[u8], layout: Layout, index: u32) -> Relocation
 
 // A program header, as far as version 2 maps by it: the addresses from `p_vaddr` up to `end` stand
 // from `p_offset` on in the file.
-#[derive(Drop)]
+#[derive(Clone, Copy)]
 pub enum Used {
     None,
     Header {
@@ -165,7 +165,7 @@ pub fn used_header(file: &[u8], layout: Layout, version2: bool, used: Used, r_of
 }
 
 // The place in the file that a relocation means.
-#[derive(Drop)]
+#[derive(Clone, Copy)]
 pub enum Mapped {
     At(u64),
     Refused,

@@ -65,7 +65,7 @@ fn pick_u32(b: bool, x: u32, y: u32) -> u32
 
 // What is known of the sections so far: how many are named .text, and the first of them; whether
 // one is not supported, and the name of the first; whether one does not lie in the file.
-#[derive(Drop)]
+#[derive(Clone, Copy)]
 pub struct Survey {
     pub texts: u32,
     pub text: u32,

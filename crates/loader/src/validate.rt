@@ -15,7 +15,7 @@ use elf_parser::types::{Elf64Ehdr, Elf64Shdr};
 use elf_parser::{ElfParserError, Layout, Parsed, Place, file_header, parse, section_name};
 
 // The settings of a load, under the Rust's names.
-#[derive(Drop)]
+#[derive(Clone, Copy)]
 pub struct Config {
     pub enable_symbol_and_section_labels: bool,
     pub reject_broken_elfs: bool,
@@ -25,7 +25,7 @@ pub struct Config {
     pub enable_sbpf_v2: bool,
 }
 
-#[derive(Drop)]
+#[derive(Clone, Copy)]
 pub enum Verdict {
     Pass,
     Refused(ElfError),
@@ -33,7 +33,7 @@ pub enum Verdict {
 
 // What a load needs of a file that passed the checks. `start` and `length` are the text's place in
 // the file, 0 for a text without bytes; `addr` is its address in the machine.
-#[derive(Drop)]
+#[derive(Clone, Copy)]
 pub struct Job {
     pub version2: bool,
     pub labels: bool,
@@ -49,7 +49,7 @@ pub struct Job {
     pub placing: Placing,
 }
 
-#[derive(Drop)]
+#[derive(Clone, Copy)]
 pub enum Prepared {
     Ready(Job),
     Refused(ElfError),

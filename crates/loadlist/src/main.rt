@@ -1,3 +1,4 @@
+#![tactic(auto)]
 // Prints the lines of the file on standard input: `listing` has the format. One byte more is read than a
 // file may have, so that a longer one shows. The buffer has room for all lines.
 fn main() {

@@ -1,3 +1,4 @@
+#![tactic(auto)]
 // What loadlist does, run in the gate on a profile with five functions, `examples/functions.so`.
 fn main() {
     let mut file = [0u8; 16385];

@@ -1,3 +1,4 @@
+#![tactic(auto)]
 // The function registry: the port of src/program.rs. A table of rows in five lent slices, ascending
 // by key, with zeros behind the used rows; it has as many rows as the shortest slice has numbers.
 ghost use Rattle.std.specs.Prelude.{◌≡◌, ◌+◌};
@@ -23,7 +24,7 @@ pub const NAME_OF_INDEX: u32 = 3;
 pub const ENTRYPOINT_LENGTH: u32 = 10;
 
 // A row of the table: the key, the instruction index, and the name's kind, start and length.
-#[derive(Drop)]
+#[derive(Clone, Copy)]
 pub struct Row {
     pub key: u32,
     pub index: u32,
@@ -32,28 +33,28 @@ pub struct Row {
     pub length: u32,
 }
 
-#[derive(Drop)]
+#[derive(Clone, Copy)]
 pub enum Found {
     At(Row),
     Nothing,
 }
 
 // The number of a row that is found.
-#[derive(Drop)]
+#[derive(Clone, Copy)]
 pub enum FoundRow {
     At(usize),
     Nothing,
 }
 
 // The index of a row that is found.
-#[derive(Drop)]
+#[derive(Clone, Copy)]
 pub enum FoundIndex {
     At(u32),
     Nothing,
 }
 
 // Inserted says how many rows moved.
-#[derive(Drop)]
+#[derive(Clone, Copy)]
 pub enum Registered {
     Inserted(usize),
     // The key is held with the same index: the first name stays.
@@ -64,14 +65,14 @@ pub enum Registered {
 }
 
 // Gone says how many rows moved.
-#[derive(Drop)]
+#[derive(Clone, Copy)]
 pub enum Removed {
     Gone(usize),
     Absent,
 }
 
 // The name that a function is registered under.
-#[derive(Drop)]
+#[derive(Clone, Copy)]
 pub enum FunctionName {
     // A part of the file, and whether its bytes are the text entrypoint.
     Symbol {
@@ -86,7 +87,7 @@ pub enum FunctionName {
 }
 
 // What a row keeps of a name.
-#[derive(Drop)]
+#[derive(Clone, Copy)]
 pub struct KeptName {
     pub kind: u32,
     pub start: u32,
@@ -94,7 +95,7 @@ pub struct KeptName {
 }
 
 // What comes of a name and an index.
-#[derive(Drop)]
+#[derive(Clone, Copy)]
 pub enum Legacy {
     // The row to register.
     Free(Row),

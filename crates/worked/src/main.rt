@@ -1,3 +1,4 @@
+#![tactic(auto)]
 // Runs worked examples through the C interface: records on standard input, a line for
 // each on standard output. tools/differential makes both; README.md says how.
 //

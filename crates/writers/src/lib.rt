@@ -1,3 +1,4 @@
+#![tactic(auto)]
 // Who wrote a byte of an accepted load's image: the file, the call in a slot, or a relocation, whichever
 // wrote it last. Asked with a load, or about a load already made, by its answer and the file.
 ghost use Rattle.std.specs.Prelude.{◌≡◌};
@@ -16,7 +17,7 @@ mod text;
 mod whole;
 
 // The relocations are numbered from 0 as they are applied, through both tables.
-#[derive(Drop)]
+#[derive(Clone, Copy)]
 pub enum Writer {
     File,
     Call(u32),
@@ -24,7 +25,7 @@ pub enum Writer {
 }
 
 // The writer; 45, for an offset at or past the file's end; or why the load is refused.
-#[derive(Drop)]
+#[derive(Clone, Copy)]
 pub enum Wrote {
     By(Writer),
     NoSuchIndex,
@@ -32,13 +33,13 @@ pub enum Wrote {
 }
 
 // What a load answers, and who wrote the byte that was asked for.
-#[derive(Drop)]
+#[derive(Clone, Copy)]
 pub struct LoadWrote {
     pub load: Load,
     pub wrote: Wrote,
 }
 
-#[derive(Drop)]
+#[derive(Clone, Copy)]
 pub enum Filled {
     Whole,
     Refused(ElfError),

@@ -21,7 +21,7 @@ const R_BPF_64_32: u32 = 10;
 
 // The bytes that a relocation at place `r` names: an instruction's two halves, eight bytes, an
 // instruction's immediate, or none.
-#[derive(Drop)]
+#[derive(Clone, Copy)]
 pub enum Named {
     Halves(u64),
     Word(u64),
@@ -67,7 +67,7 @@ fn named_in(text: Text, place: Mapped, r_info: u64) -> Named
 }
 
 // The program header used last, and the bytes that a relocation names.
-#[derive(Drop)]
+#[derive(Clone, Copy)]
 pub struct Next {
     pub header: Used,
     pub named: Named,

@@ -6,7 +6,7 @@ use elf_parser::{ElfParserError, Layout, Parsed, parse, past};
 use loader::{ElfError, from_parser};
 
 // The file's layout, the version, and the text's place in the file.
-#[derive(Drop)]
+#[derive(Clone, Copy)]
 pub struct Text {
     pub layout: Layout,
     pub version2: bool,
@@ -14,7 +14,7 @@ pub struct Text {
     pub length: usize,
 }
 
-#[derive(Drop)]
+#[derive(Clone, Copy)]
 pub enum TextOf {
     Is(Text),
     Refused(ElfError),

@@ -1,0 +1,15 @@
+-- `elf_parser::records::rel_in` meets its contract: the entry, if there is one, is read at its place.
+-- Assumes nothing.
+use mathlib.Core.Path.{sym, ◌∙◌}
+use Rattle.elf_parser.specs.Records.{entry_within}
+use borrow.Author.Rules.{rules}
+use Rattle.elf_parser.proofs.records.rel_in.Goals as goal
+
+pub rel_at-requires : goal.rel_at-requires
+rel_at-requires c = entry_within _ _ _ _ _ (sym c.entry_at.ensures ∙ c.in-At.is)
+
+pub returns-in-At : goal.returns-in-At
+returns-in-At c = rw (← c.entry_at.ensures, c.in-At.is, ← c.rel_at.ensures)
+
+pub returns-in-Refused : goal.returns-in-Refused
+returns-in-Refused c = rw (← c.entry_at.ensures, c.in-Refused.is)
