@@ -121,7 +121,7 @@ def spec_args(text):
 class File:
     def __init__(self, crate, path, info, mutables):
         self.crate, self.path, self.info, self.mutables = crate, path, info, mutables
-        self.places = {}
+        self.places, self.top, self.over_used = {}, None, set()
         for i, (old, up, step, callee, extra) in enumerate(info["places"]):
             self.places[norm(old)] = dict(up=up and norm(up), old=norm(step[0]), new=step[1], callee=callee, extra=extra, arm=info["arms"][i], name=info["places_by_name"][i], key=norm(old))
         self.needs = {}
@@ -142,13 +142,12 @@ class File:
             c = comps.pop(0)
             if c == "before":
                 up = self.places[value[1]]["up"]
-                if up is None:
-                    raise Unable("before the start")
-                value = ("place", up)
+                # an older chain may be longer; each step is told by its name
+                value = ("place", up or value[1])
             elif norm(c) in ("args", "requires", "pre", "lifetimes", "ranges", "well_formed"):
                 value = ("start", ("requires" if c == "pre" else norm(c),))
             else:
-                for p in self.chain(value[1]):
+                for p in [*self.chain(value[1]), *self.chain(self.top)]:
                     if p["old"] == norm(c):
                         value = ("step", value[1], p["key"], ())
                         break
@@ -173,6 +172,11 @@ class File:
                 if path and norm(step) == p["old"] and not field.endswith("-own") and comps[: len(path)] == tuple(path):
                     if best is None or len(path) > best[0]:
                         best = (len(path), arm, field)
+        if best is None and comps and p["old"].startswith("match"):
+            for arm, rows in arms.items():
+                for field, step, path in rows:
+                    if norm(step) == p["old"] and field.endswith("-own") and not path and p["new"] == arm:
+                        return ".".join((head, arm, field) + comps)
         if best:
             return ".".join((head, best[1], best[2]) + comps[best[0] :])
         comps = list(comps)
@@ -199,6 +203,14 @@ class Body:
 
     def __init__(self, f, helpers, head, top, need):
         self.f, self.helpers, self.head, self.top, self.need = f, helpers, head, top, need
+        self.lets, self.texts, self.inline = {}, [], False
+
+    def whole(self, text, env):
+        """A term with the lets that it wants before it."""
+        got = self.turn(text, env).strip()
+        got = re.sub(rf"\(({WORD})\)(?![^\s(){{}};,.])", r"\1", got)
+        texts = [re.sub(rf"\\(({WORD})\\)(?![^\\s(){{}};,.])", r"\\1", t) for t in self.texts]
+        return "\n    ".join(texts + [got])
 
     def value(self, text, env):
         """The value of a term that is a path, or None."""
@@ -226,10 +238,11 @@ class Body:
             rest = text[end:].strip()
             if rest:
                 return None
-            return self.value(h["gives"], {h["param"]: self.value(args[0], env) or ("bad",)})
+            return self.value(args[0], env) and ("place", h["to"])
         return None
 
     def turn(self, text, env):
+        self.f.top = self.top
         out, at, env = [], 0, dict(env)
         while at < len(text):
             ch = text[at]
@@ -310,20 +323,38 @@ class Body:
         if v is None or v[0] != "place":
             raise Unable(f"{word} of {args[0]}")
         if h["over"] and v[1] == h["place"]:
+            self.f.over_used.add(word)
             if self.need is None and v[1] == self.top:
                 return f"{word} {self.head}", end
             if self.need is not None:
                 return f"{word} (goal.at.{self.need} {self.head}).{self.f.places[v[1]]['name']}", end
-        # written out
+        # written out, in a let of the whole answer where that can be
         d = h["decl"]
         if d.unfolding:
             raise Unable(f"{word} unfolds, and is used at an earlier place")
-        more, end = atoms(text, end, len(h["params"]) - 1)
-        body = h["body"]
+        if not self.inline:
+            if self.lets.get(word, v) != v:
+                raise Unable(f"{word} at two places")
+            if word not in self.lets:
+                kind = self.turn(h["rest"], {h["param"]: v}).strip()
+                body = self.turn(h["body"], {h["param"]: v}).strip()
+                if len(h["params"]) > 1:
+                    body = f"λ {' '.join(h['params'][1:])}. {body}"
+                self.lets[word] = v
+                self.texts.append(f"let {word} : {kind} = {body} in")
+            return word, end
+        more, body, missing = [], h["body"], []
+        for name in h["params"][1:]:
+            try:
+                got, end = atoms(text, end, 1)
+                more += got
+            except Unable:
+                missing.append(name)
         for name, arg in zip(h["params"][1:], more):
             arg = arg if re.fullmatch(ATOM, arg) else arg
             body = re.sub(rf'(?<![^\s(){{}};,]){re.escape(name)}(?=[\s(){{}};,.]|$)', lambda m: "\x00" + arg + "\x01", body)
         inner = Body(self.f, self.helpers, self.head, self.top, self.need)
+        inner.inline = True
         # arguments are turned in the outer environment
         pieces = re.split(r"\x00([^\x01]*)\x01", body)
         held = {}
@@ -335,6 +366,8 @@ class Body:
         for key, t in held.items():
             got = got.replace(key, t)
         got = got.strip()
+        if missing:
+            got = f"λ {' '.join(missing)}. {got}"
         return (got if re.fullmatch(ATOM, got) else f"({got})"), end
 
 
@@ -354,11 +387,14 @@ def read_helper(f, d):
         raise Unable(f"{d.name} has {len(d.clauses)} clauses")
     lhs, _, body = d.clauses[0].partition(" =")
     params = lhs.split()[1:]
-    gives = None
+    gives, to = None, None
     last = d.sig.rsplit("→", 1)[-1].strip()
     if re.match(r"tie\.", last) and len(params) == 1:
         gives = body.strip()
-    return dict(decl=d, place=place, params=params, param=params[0], body=body.strip(), gives=gives, over=True)
+        to = norm(re.match(rf"tie\.({WORD})", last)[1])
+    rest = d.sig[re.match(rf"(?:\({WORD} : )?tie\.{WORD}[^()→]*\)? →\s*", d.sig).end() :]
+    rest = re.sub(r" (?:invariant|decreases)-[^\s()]+", "", rest)
+    return dict(to=to, rest=rest, decl=d, place=place, params=params, param=params[0], body=body.strip(), gives=gives, over=True)
 
 
 def convert(crate, path, info, mutables, module):
@@ -415,7 +451,7 @@ def convert(crate, path, info, mutables, module):
             lhs, _, body = d.clauses[0].partition(" =")
             params = lhs.split()[1:]
         else:
-            m = re.match(r"\(λ ([^.]*)\. ", a)
+            m = re.match(r"\(λ ([^.]*)\.\s+", a)
             if m:
                 params, body = m[1].split(), a[m.end() : -1]
             else:
@@ -423,7 +459,7 @@ def convert(crate, path, info, mutables, module):
         if len(params) > 1 and re.search(rf"(?<![^\s()]){re.escape(params[1])}(?![^\s()])", body):
             raise Unable("lifetimes used")
         env = {params[0]: ("place", at)} if params else {}
-        got = b.turn(body.strip(), env).strip()
+        got = b.whole(body.strip(), env)
         if params and params[0] == "c" or not params:
             pass
         if params and params[0] != "c" and re.search(rf"(?<![^\s()]){re.escape(params[0])}(?![^\s()])", got):
@@ -440,6 +476,8 @@ def convert(crate, path, info, mutables, module):
                 continue
             if re.search(rf"(?<![^\s(){{}};,.]){re.escape(d.name)}(?=[\s(){{}};,.]|$)", texts):
                 h = helpers.get(d.name)
+                if h is not None and d.name not in f.over_used:
+                    continue
                 if h is None:
                     block = "\n".join(d.comment + [f"{d.marks}{d.name} : {d.sig}"] + ([d.unfolding] if d.unfolding else []) + d.clauses)
                     if "tie." in block:
@@ -450,8 +488,10 @@ def convert(crate, path, info, mutables, module):
                     b = Body(f, helpers, h["param"], h["place"], None)
                     m = re.match(rf"(?:\(({WORD}) : )?tie\.({WORD})([^()→]*)\)? →\s*", d.sig)
                     rest_sig = strip_tie(d.sig[m.end() :])
+                    b.inline = True
                     sig = b.turn(rest_sig, {h["param"]: ("place", h["place"])})
-                    body = b.turn(h["body"], {h["param"]: ("place", h["place"])})
+                    b.inline = False
+                    body = b.whole(h["body"], {h["param"]: ("place", h["place"])})
                     block = "\n".join(
                         d.comment
                         + [f"{d.marks}{d.name} : ({h['param']} : {pl['name']}) → {sig}"]

@@ -1,7 +1,7 @@
 -- The table: five slices of numbers that hold rows, and what a registration, a removal and a lookup make of them, whatever they hold.
 use Rattle.std.specs.Prelude.{ℕ, zero, suc, ◌-◌, ◌≤◌, ◌<◌, min, ◌≡◌, Bool, false, List, [], ◌∷◌, ◌++◌, map, length, get_or, set, replicate, take, drop, ltb, leb, eqb}
 use denote.Triple.Both.{Both}
-use Rattle.std.specs.Borrow.{Bor}
+use Rattle.std.specs.Borrow.{Bor, MutBor}
 use Rattle.ebpf.specs.Choice.{◌if◌else◌}
 use Rattle.program.specs.Search.{binary_search}
 use Rattle.program.specs.Rows.{rank, Ascending, find, register, registered, remove, unregister}
@@ -28,12 +28,15 @@ pub record Slices : Type 0 where
 abbrev pub slices : List ℕ → List ℕ → List ℕ → List ℕ → List ℕ → Slices
 slices a b c d e = record { keys = a; indices = b; kinds = c; starts = d; lengths = e }
 
--- a lent slice, at the call and on return
+-- a slice lent for writing, at the call and on return; and one lent for reading
 abbrev pub Lent : Type 0
-Lent = Both (Bor (List ℕ)) (Bor (List ℕ))
+Lent = Both (MutBor (List ℕ)) (MutBor (List ℕ))
 
--- the table that five lent slices hold: in a `requires`; in an `ensures` at the call, and on return
-abbrev pub table_of : Bor (List ℕ) → Bor (List ℕ) → Bor (List ℕ) → Bor (List ℕ) → Bor (List ℕ) → Slices
+abbrev pub Shared : Type 0
+Shared = Both (Bor (List ℕ)) (Bor (List ℕ))
+
+-- the table that five slices lent for writing hold: in a `requires`; in an `ensures` at the call, and on return
+abbrev pub table_of : MutBor (List ℕ) → MutBor (List ℕ) → MutBor (List ℕ) → MutBor (List ℕ) → MutBor (List ℕ) → Slices
 table_of k i n s l = slices k.now i.now n.now s.now l.now
 
 abbrev pub table_before : Lent → Lent → Lent → Lent → Lent → Slices

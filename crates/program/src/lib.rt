@@ -2,7 +2,7 @@
 // The function registry: the port of src/program.rs. A table of rows in five lent slices, ascending
 // by key, with zeros behind the used rows; it has as many rows as the shortest slice has numbers.
 ghost use Rattle.std.specs.Prelude.{◌≡◌, ◌+◌};
-ghost use Rattle.program.specs.Table.{register_in, lookup_in, lookup_ascending_in, row_ascending_in, index_ascending_in, Registers, RegistersAlike, Unregisters, table_before, table_after, Within, row_at, table_of};
+ghost use Rattle.program.specs.Table.{register_in, lookup_in, lookup_ascending_in, row_ascending_in, index_ascending_in, Registers, RegistersAlike, Unregisters, table_before, table_after, Within, row_at, slices};
 
 mod columns;
 mod hashed_legacy;
@@ -113,7 +113,7 @@ fn answer_of(
     used: usize,
     row: Row,
 ) -> Registered
-    ensures { result ≡ register_in (table_before keys indices kinds starts lengths) used row }
+    ensures { result ≡ register_in (slices keys.now indices.now kinds.now starts.now lengths.now) used row }
 {
     let key = row.key;
     let index = row.index;
@@ -241,8 +241,8 @@ fn row_at(
     lengths: &[u32],
     at: usize,
 ) -> Row
-    requires { Within (at + 1) (table_of keys indices kinds starts lengths) }
-    ensures { result ≡ row_at (table_before keys indices kinds starts lengths) at }
+    requires { Within (at + 1) (slices keys.now indices.now kinds.now starts.now lengths.now) }
+    ensures { result ≡ row_at (slices keys.now indices.now kinds.now starts.now lengths.now) at }
 {
     Row {
         key: keys[at],
@@ -264,7 +264,7 @@ pub fn lookup_by_key(
     used: usize,
     key: u32,
 ) -> Found
-    ensures { result ≡ lookup_in (table_before keys indices kinds starts lengths) used key }
+    ensures { result ≡ lookup_in (slices keys.now indices.now kinds.now starts.now lengths.now) used key }
 {
     let rows = columns::rows_lent(
         keys.len(),
@@ -293,7 +293,7 @@ pub fn lookup_ascending(
     used: usize,
     key: u32,
 ) -> Found
-    ensures { result ≡ lookup_ascending_in (table_before keys indices kinds starts lengths) used key }
+    ensures { result ≡ lookup_ascending_in (slices keys.now indices.now kinds.now starts.now lengths.now) used key }
 {
     let rows = columns::rows_lent(
         keys.len(),

@@ -1,0 +1,17 @@
+-- `program::columns::close_at` meets its contract. The loop's invariant: the numbers behind `at` up to i stand one place nearer, and the length is as it was.
+-- Assumes nothing.
+use mathlib.Core.Path.{◌≡◌, refl, sym}
+use Prim.Native.Nat.{◌≤◌, ◌-◌}
+use native.Mathlib.Nat.{le_antisymm}
+use lib.ListN.{length, length-set}
+use Rattle.program.proofs.Shift.{closing, closing_start, closing_turn, closing_finish}
+use native.Mathlib.Omega.{arith}
+use borrow.Author.Rules.{rules}
+use Rattle.program.proofs.columns.close_at.Given as goal
+
+abbrev pub invariant-loop-i : goal.invariant-loop-i
+invariant-loop-i l =
+    (l.at ≤ l.i) × (l.i ≤ l.last) × (l.last ≡ l.n - 1) × (length l.s ≡ length l.initial.s) × (l.s ≡ closing l.at l.i l.initial.s)
+
+abbrev pub decreases-loop-i : goal.decreases-loop-i
+decreases-loop-i l = l.last - l.i

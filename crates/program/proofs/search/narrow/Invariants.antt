@@ -1,0 +1,17 @@
+-- `program::search::narrow` meets its contract. The loop's invariant: the numbers that are left come to what all come to.
+-- Assumes nothing.
+use mathlib.Core.Path.{◌≡◌, refl, sym, ◌∙◌}
+use Prim.Native.Nat.{◌+◌, ◌-◌, ◌/◌, ◌≤◌, ◌<◌}
+use lib.ListN.{get_or}
+use native.Mathlib.Omega.{arith}
+use Rattle.program.specs.Search.{narrowed}
+use Rattle.program.proofs.Searches.{half_le, turn, left_within}
+use borrow.Author.Rules.{rules}
+use Rattle.program.proofs.search.narrow.Given as goal
+
+abbrev pub invariant-loop-size : goal.invariant-loop-size
+invariant-loop-size l =
+    (0 < l.size) × (l.base + l.size ≤ l.n) × (narrowed l.size l.key l.ranks l.base l.size ≡ narrowed l.n l.key l.ranks 0 l.n)
+
+abbrev pub decreases-loop-size : goal.decreases-loop-size
+decreases-loop-size l = l.size
