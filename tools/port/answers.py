@@ -17,7 +17,9 @@ import sys
 
 ATOM = re.compile(r'[^\s(){};,@"«»]+')
 WORD = r'[^\s(){}.;,@"«»]+'
+PLACE = rf"(?:\({WORD} : tie\.({WORD})[^()]*\)(?=\s+→|\s+\()|tie\.({WORD})[^()→]*(?=→))(?:\s*→)?"
 norm = lambda s: s.replace("-", "_")
+alike = lambda a, b: a == b or a.lower().removesuffix("_lem") == b.lower()
 
 
 class Unable(Exception):
@@ -30,7 +32,7 @@ def items(text):
     for line in text.split("\n"):
         if not line.strip():
             out.append(("blank", ""))
-        elif line[0] in " \t":
+        elif line[0] in " \t})]":
             out[-1] = (out[-1][0], out[-1][1] + "\n" + line)
         elif line.startswith("--"):
             out.append(("comment", line))
@@ -148,7 +150,7 @@ class File:
                 value = ("start", ("requires" if c == "pre" else norm(c),))
             else:
                 for p in [*self.chain(value[1]), *self.chain(self.top)]:
-                    if p["old"] == norm(c):
+                    if alike(norm(c), p["old"]):
                         value = ("step", value[1], p["key"], ())
                         break
                 else:
@@ -180,8 +182,8 @@ class File:
         if best:
             return ".".join((head, best[1], best[2]) + comps[best[0] :])
         comps = list(comps)
-        if comps and comps[0] == "inv":
-            comps[0] = "invariant"
+        if comps and comps[0] in ("inv", "kept"):
+            comps[0] = {"inv": "invariant", "kept": "auto"}[comps[0]]
         for old, new in p["extra"]:
             if comps and comps[0] == old:
                 comps[0] = new
@@ -195,7 +197,7 @@ class File:
                 if names is None or k - 1 >= len(names):
                     raise Unable("the &mut parameters of " + p["callee"])
                 comps[1 : k + 1] = [names[k - 1]]
-        return ".".join([head, p["new"]] + comps)
+        return ".".join([head, p["new"]] + comps[:1] + [norm(it) for it in comps[1:]])
 
 
 class Body:
@@ -257,8 +259,8 @@ class Body:
                     out.append(self.f.render(v, self.head, self.top))
                     at = stop
                     continue
-                out.append("(" + self.turn(text[at + 1 : end - 1], env) + ")")
-                at = end
+                out.append("(" + self.turn(text[at + 1 : end - 1], env) + ")" + norm(text[end:stop]))
+                at = stop
                 continue
             m = re.compile(rf"let ({WORD}) = ").match(text, at)
             if m and (at == 0 or text[at - 1] in " \n(\t"):
@@ -297,7 +299,7 @@ class Body:
                 continue
             word = m[0]
             parts = word.split(".")
-            if word in self.helpers and word not in env:
+            if word in self.helpers and word not in env and not re.match(r"\s*=", text[m.end() :]):
                 done, at = self.helper(word, text, m.end(), env)
                 out.append(done)
                 continue
@@ -308,6 +310,8 @@ class Body:
                 out.append(self.f.render(v, self.head, self.top))
             elif parts[0] == "tie":
                 out.append(self.of_tie(word))
+            elif len(parts) > 1 and parts[0][:1].islower() and parts[0] not in ("goal", "native"):
+                out.append(".".join([parts[0]] + [norm(it) for it in parts[1:]]))
             else:
                 out.append(word)
             at = m.end()
@@ -373,14 +377,10 @@ class Body:
 
 def read_helper(f, d):
     """A declaration whose first argument is a place of the code, or None."""
-    m = re.match(rf"(?:\((({WORD})) : )?tie\.({WORD})((?: {WORD})*?)\)? → ", d.sig + " ")
+    m = re.match(rf"{PLACE}\s*", d.sig)
     if not m:
-        m = re.match(rf"\(({WORD}) : tie\.({WORD})([^()]*)\) →\s", d.sig)
-        if not m:
-            return None
-        place = norm(m[2])
-    else:
-        place = norm(m[3])
+        return None
+    place = norm(m[1] or m[2])
     if place not in f.places:
         raise Unable(f"no place {place}")
     if len(d.clauses) != 1:
@@ -392,13 +392,14 @@ def read_helper(f, d):
     if re.match(r"tie\.", last) and len(params) == 1:
         gives = body.strip()
         to = norm(re.match(rf"tie\.({WORD})", last)[1])
-    rest = d.sig[re.match(rf"(?:\({WORD} : )?tie\.{WORD}[^()→]*\)? →\s*", d.sig).end() :]
+    rest = d.sig[m.end() :]
     rest = re.sub(r" (?:invariant|decreases)-[^\s()]+", "", rest)
     return dict(to=to, rest=rest, decl=d, place=place, params=params, param=params[0], body=body.strip(), gives=gives, over=True)
 
 
 def convert(crate, path, info, mutables, module):
     text = open(path, encoding="utf-8").read()
+    text = re.sub(r"«([\w-]+)»", lambda m: norm(m[1]), text)
     head, uses, decls = declarations(text)
     f = File(crate, path, info, mutables)
     spec = [d for d in decls if d.name.endswith("_spec") and "tie.spec" in "".join(d.clauses)]
@@ -421,7 +422,7 @@ def convert(crate, path, info, mutables, module):
         if a == "(search rules)" and not (spec[0].unfolding and new.startswith("returns")):
             continue
         answered[a, new] = norm(at[0])
-    needs = {a for a, _ in answered if a in by}
+    needs = {a for a, _ in answered if a in by and by[a].sig.startswith("tie.Need-")}
     helpers = {}
     for d in decls:
         if d is spec[0] or d.name in inv or d.name in needs:
@@ -443,7 +444,9 @@ def convert(crate, path, info, mutables, module):
     for (a, new), at in answered.items():
         b = Body(f, helpers, "c", at, new)
         comment, unfolding = [], spec[0].unfolding
-        if a in by:
+        if a in helpers:
+            params, body = ["c"], f"{a} c"
+        elif a in by:
             d = by[a]
             comment, unfolding = d.comment, d.unfolding
             if len(d.clauses) != 1:
@@ -486,8 +489,7 @@ def convert(crate, path, info, mutables, module):
                     pl = f.places[h["place"]]
                     used.add(pl["name"])
                     b = Body(f, helpers, h["param"], h["place"], None)
-                    m = re.match(rf"(?:\(({WORD}) : )?tie\.({WORD})([^()→]*)\)? →\s*", d.sig)
-                    rest_sig = strip_tie(d.sig[m.end() :])
+                    rest_sig = h["rest"]
                     b.inline = True
                     sig = b.turn(rest_sig, {h["param"]: ("place", h["place"])})
                     b.inline = False
@@ -523,6 +525,7 @@ def convert(crate, path, info, mutables, module):
             changed = info["changed"][k]
             lhs, _, body = d.clauses[0].partition(" =")
             params = lhs.split()[1:]
+            names = list(names)
             # the loop's values at its start, then those that the body changes
             table = {}
             plain_names, changing = [v for v, ch in zip(names, changed) if not ch], [v for v, ch in zip(names, changed) if ch]
@@ -532,14 +535,14 @@ def convert(crate, path, info, mutables, module):
             firsts, lasts = params[: len(names)], params[len(names) :]
             # the order of the first ones is that of the file's own names
             for p in lasts:
-                if p not in changing:
+                if norm(p) not in changing:
                     raise Unable(f"{p} of {d.name}")
-                table[p] = f"l.{p}"
+                table[p] = f"l.{norm(p)}"
             for p in firsts:
-                if p.endswith("₀") and p[:-1] in changing:
-                    table[p] = f"l.initial.{p[:-1]}"
-                elif p in plain_names:
-                    table[p] = f"l.{p}"
+                if p.endswith("₀") and norm(p[:-1]) in changing:
+                    table[p] = f"l.initial.{norm(p[:-1])}"
+                elif norm(p) in plain_names:
+                    table[p] = f"l.{norm(p)}"
                 else:
                     raise Unable(f"{p} of {d.name}")
             body = re.sub(rf'(?<![^\s(){{}};,]){WORD}', lambda m: table.get(m[0], m[0]), body.strip())

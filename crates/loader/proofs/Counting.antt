@@ -3,7 +3,7 @@
 use Prim.Native.Nat.{ℕ, suc, ◌≤◌, zero-le, suc-le-suc}
 use native.Mathlib.Decide.{ℕ_discrete}
 use native.Mathlib.Omega.{arith}
-use mathlib.Core.Path.{◌≡◌, refl, sym, ap, ◌∙◌}
+use mathlib.Core.Path.{◌≡◌, refl, sym, ap, subst, ◌∙◌}
 use mathlib.Core.Bool.{Bool, true, false, ◌||◌}
 use mathlib.Core.List.{List, [], ◌∷◌, ◌++◌, map}
 use lib.ListN.{length}
@@ -57,7 +57,7 @@ unfolding distinct
 same_swap a b xs = record { count = swapped (ℕ_discrete a b); has = λ k. or_swap (eqb k a) (eqb k b) (is_one_of k xs) }
   where
     swapped : Dec (a ≡ b) → distinct (a ∷ b ∷ xs) ≡ distinct (b ∷ a ∷ xs)
-    swapped (yes e) = rw e refl
+    swapped (yes e) = subst (λ (x : ℕ). distinct (a ∷ x ∷ xs) ≡ distinct (x ∷ a ∷ xs)) e refl
     swapped (no ne) = rw (ne_eqb a b ne, ne_eqb b a (λ e. ne (sym e))) (count_swap (is_one_of a xs) (is_one_of b xs) (distinct xs))
 
 pub same_again : (a : ℕ) (xs : List ℕ) → is_one_of a xs ≡ true → Same (a ∷ xs) xs

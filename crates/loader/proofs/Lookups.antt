@@ -3,7 +3,7 @@ use Prim.Native.Nat.{ℕ}
 use mathlib.Core.List.{List}
 use mathlib.Core.Path.{◌≡◌, sym, ap, subst, fun_ext, ◌∙◌}
 use Rattle.program.specs.declared.Found.{Found}
-use Rattle.program.specs.Table.{Slices, Lent, table_after, lookup_in, lookup_ascending_in, row_ascending_in, row_of_found, index_ascending_in, index_of_found, Ready as IsTable}
+use Rattle.program.specs.Table.{Slices, Lent, Shared, table_after, lookup_in, lookup_ascending_in, row_ascending_in, row_of_found, index_ascending_in, index_of_found, Ready as IsTable}
 use Rattle.program.proofs.Tables.{lookups_agree, row_agrees, index_agrees}
 use Rattle.loader.specs.declared.answer.Accepted.{Accepted}
 use Rattle.loader.specs.declared.answer.Load.{Load}
@@ -17,14 +17,14 @@ use Rattle.loader.specs.Loads.{Loads, OnUsed}
 use Rattle.loader.specs.Validate.{prepared}
 
 -- THE LOOKUPS AGREE, for every key, on the table and the used rows that an accepted load leaves
-pub agree_after : (file builtins : Lent) (c : Config) (image ro keys indices kinds starts lengths : Lent) (x : Accepted)
+pub agree_after : (file builtins : Shared) (c : Config) (image ro keys indices kinds starts lengths : Lent) (x : Accepted)
     → Loads file builtins c image ro keys indices kinds starts lengths (Accepts x)
     → (key : ℕ)
     → lookup_ascending_in (table_after keys indices kinds starts lengths) x.used key ≡ lookup_in (table_after keys indices kinds starts lengths) x.used key
 agree_after file builtins c image ro keys indices kinds starts lengths x l key = lookups_agree (table_after keys indices kinds starts lengths) x.used l.ascending key
 
 -- and the number of the row alone, by the column of keys, is that of the same row
-pub row_after : (file builtins : Lent) (c : Config) (image ro keys indices kinds starts lengths : Lent) (x : Accepted)
+pub row_after : (file builtins : Shared) (c : Config) (image ro keys indices kinds starts lengths : Lent) (x : Accepted)
     → Loads file builtins c image ro keys indices kinds starts lengths (Accepts x)
     → (key : ℕ)
     → lookup_in (table_after keys indices kinds starts lengths) x.used key ≡ row_of_found (table_after keys indices kinds starts lengths) (row_ascending_in keys.exit.now x.used key)
@@ -33,7 +33,7 @@ row_after file builtins c image ro keys indices kinds starts lengths x l key =
     ∙ row_agrees (table_after keys indices kinds starts lengths) x.used l.ascending key
 
 -- and the index alone, by the columns of keys and indices, is that of the row
-pub index_after : (file builtins : Lent) (c : Config) (image ro keys indices kinds starts lengths : Lent) (x : Accepted)
+pub index_after : (file builtins : Shared) (c : Config) (image ro keys indices kinds starts lengths : Lent) (x : Accepted)
     → Loads file builtins c image ro keys indices kinds starts lengths (Accepts x)
     → (key : ℕ)
     → index_ascending_in keys.exit.now indices.exit.now x.used key ≡ index_of_found (lookup_in (table_after keys indices kinds starts lengths) x.used key)

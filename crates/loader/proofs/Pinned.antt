@@ -47,7 +47,7 @@ use Rattle.program.specs.declared.FunctionName.TheVariants.{OfIndex, Entrypoint}
 use Rattle.program.specs.declared.Legacy.TheVariants.{Free}
 use Rattle.program.specs.declared.Found.{Found}
 use Rattle.program.specs.declared.Row.{Row}
-use Rattle.program.specs.Table.{Slices, Lent, table_before, table_after, capacity, lay, rows_of, lookup_in, Ready as IsTable}
+use Rattle.program.specs.Table.{Slices, Lent, Shared, table_before, table_after, capacity, lay, rows_of, lookup_in, Ready as IsTable}
 use Rattle.program.proofs.Cases.{zero_one}
 use Rattle.loader.specs.declared.answer.Accepted.{Accepted}
 use Rattle.loader.specs.declared.answer.Load.{Load}
@@ -289,7 +289,7 @@ module _ (t : Slices) (im' : List ℕ) (t' : Slices) (a : Load) (d : Demand3 ver
 
 -- ---- `load`, field by field
 
-module _ (file builtins image ro keys indices kinds starts lengths : Lent) (a : Load)
+module _ (file builtins : Shared) (image ro keys indices kinds starts lengths : Lent) (a : Load)
     (is : file.entry.now ≡ version_2) (none : builtins.entry.now ≡ []) (long : length image.entry.now ≡ 304) (wide : length ro.entry.now ≡ 304)
     (rows : capacity (table_before keys indices kinds starts lengths) ≡ 4)
     (l : Loads file builtins all_on image ro keys indices kinds starts lengths a) where

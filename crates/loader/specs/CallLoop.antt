@@ -1,13 +1,13 @@
 -- What a loop over the slots of a text keeps, and what a run of slots leads to.
 use Rattle.std.specs.Prelude.{ℕ, suc, ◌+◌, ◌-◌, ◌*◌, ◌≤◌, ◌<◌, ◌≡◌, List, [], ◌++◌, length, get_or, take, drop}
-use Rattle.std.specs.Borrow.{Bor}
+use Rattle.std.specs.Borrow.{Bor, MutBor}
 use Rattle.program.specs.declared.Row.{Row}
 use Rattle.program.specs.declared.FunctionName.TheVariants.{OfIndex}
 use Rattle.program.specs.declared.Legacy.{Legacy}
 use Rattle.program.specs.declared.Legacy.TheVariants.{Free, Taken}
 use Rattle.program.specs.HashedLegacy.{legacy_key, kept_name, row_of}
 use Rattle.program.specs.Rows.{Repeats}
-use Rattle.program.specs.Table.{Slices, Lent, table_of, table_before, table_after, capacity, rows_of, Alike}
+use Rattle.program.specs.Table.{Slices, Lent, Shared, table_of, table_before, table_after, capacity, rows_of, Alike}
 use Rattle.loader.specs.declared.error.ElfError.TheVariants.{SymbolHashCollision}
 use Rattle.loader.specs.declared.deeds.Outcome.{Outcome}
 use Rattle.loader.specs.declared.deeds.Outcome.TheVariants.{Holds, Refused}
@@ -81,7 +81,7 @@ abbrev pub EntersAlike : Row → Lent → Lent → Lent → Lent → Lent → �
 EntersAlike row k i d s l used moves a = Enters row (table_before k i d s l) (table_after k i d s l) used moves a × StillAlike row (table_after k i d s l) a
 
 -- a target: what its registration asks, and what it leaves
-abbrev pub TargetAsks : Job → ℕ → ℕ → Bor (List ℕ) → Bor (List ℕ) → Bor (List ℕ) → Bor (List ℕ) → Bor (List ℕ) → ℕ → ℕ → ℕ → Type 0
+abbrev pub TargetAsks : Job → ℕ → ℕ → MutBor (List ℕ) → MutBor (List ℕ) → MutBor (List ℕ) → MutBor (List ℕ) → MutBor (List ℕ) → ℕ → ℕ → ℕ → Type 0
 TargetAsks j key index k i d s l rows used moves = (key ≡ target_key j index) × Begins 1 (table_of k i d s l) rows used moves × Alike (table_of k i d s l) used (target_row j)
 
 abbrev pub TargetSettles : Legacy → Job → Lent → Lent → Lent → Lent → Lent → ℕ → ℕ → Outcome → Type 0
@@ -89,8 +89,8 @@ TargetSettles target j k i d s l used moves a = Targets target (table_before k i
 
 -- slot number `at`: what its call asks, and what it leaves
 abbrev pub SlotAsks :
-    ℕ → Bor (List ℕ) → Bor (List ℕ) → Bor (List ℕ) → Job → Bor (List ℕ) → Bor (List ℕ)
-    → Bor (List ℕ) → Bor (List ℕ) → Bor (List ℕ) → Bor (List ℕ) → Bor (List ℕ) → ℕ → ℕ → ℕ → Type 0
+    ℕ → Bor (List ℕ) → Bor (List ℕ) → Bor (List ℕ) → Job → MutBor (List ℕ) → MutBor (List ℕ)
+    → MutBor (List ℕ) → MutBor (List ℕ) → MutBor (List ℕ) → MutBor (List ℕ) → MutBor (List ℕ) → ℕ → ℕ → ℕ → Type 0
 SlotAsks at file builtins table j seen image k i d s l rows used moves =
     InFile file.now j
     × Keyed table.now
@@ -99,15 +99,15 @@ SlotAsks at file builtins table j seen image k i d s l rows used moves =
     × Begins 1 (table_of k i d s l) rows used moves
     × CallsHeld builtins.now j seen.now (table_of k i d s l) used
 
-abbrev pub SlotSettles : ℕ → Lent → Lent → Job → Lent → Lent → Lent → Lent → Lent → Lent → Lent → ℕ → ℕ → Outcome → Type 0
+abbrev pub SlotSettles : ℕ → Shared → Shared → Job → Lent → Lent → Lent → Lent → Lent → Lent → Lent → ℕ → ℕ → Outcome → Type 0
 SlotSettles at file builtins j seen image k i d s l used moves a =
     Settles (slot_trace file.entry.now builtins.entry.now j at image.entry.now) image.exit.now (table_before k i d s l) (table_after k i d s l) 1 used moves a
     × StillHeld builtins.entry.now j seen.exit.now (table_after k i d s l) a
 
 -- the slots from number `from` up to `to`
 abbrev pub SlotsAsk :
-    ℕ → ℕ → Bor (List ℕ) → Bor (List ℕ) → Bor (List ℕ) → Job → Bor (List ℕ) → Bor (List ℕ)
-    → Bor (List ℕ) → Bor (List ℕ) → Bor (List ℕ) → Bor (List ℕ) → Bor (List ℕ) → ℕ → ℕ → ℕ → Type 0
+    ℕ → ℕ → Bor (List ℕ) → Bor (List ℕ) → Bor (List ℕ) → Job → MutBor (List ℕ) → MutBor (List ℕ)
+    → MutBor (List ℕ) → MutBor (List ℕ) → MutBor (List ℕ) → MutBor (List ℕ) → MutBor (List ℕ) → ℕ → ℕ → ℕ → Type 0
 SlotsAsk from to file builtins table j seen image k i d s l rows used moves =
     InFile file.now j
     × Keyed table.now
@@ -117,7 +117,7 @@ SlotsAsk from to file builtins table j seen image k i d s l rows used moves =
     × Begins (to - from) (table_of k i d s l) rows used moves
     × CallsHeld builtins.now j seen.now (table_of k i d s l) used
 
-abbrev pub SlotsLead : ℕ → ℕ → Lent → Lent → Job → Lent → Lent → Lent → Lent → Lent → Lent → Lent → ℕ → ℕ → Outcome → Type 0
+abbrev pub SlotsLead : ℕ → ℕ → Shared → Shared → Job → Lent → Lent → Lent → Lent → Lent → Lent → Lent → ℕ → ℕ → Outcome → Type 0
 SlotsLead from to file builtins j seen image k i d s l used moves a =
     Leads (slot_trace file.entry.now builtins.entry.now j) (slot_count j) from to
     (ahead (j.start + 8 * to) image.entry.now file.entry.now)

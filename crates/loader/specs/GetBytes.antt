@@ -2,7 +2,7 @@
 use Rattle.std.specs.Prelude.{ℕ, ◌+◌, ◌-◌, ◌≤◌, ◌≡◌, List, [], length, take, drop, ltb}
 use Rattle.std.proofs.Common.{arith, ltb-false}
 use Rattle.ebpf.specs.Choice.{◌if◌else◌, not_first, row_rest}
-use Rattle.program.specs.Table.{Lent}
+use Rattle.program.specs.Table.{Shared}
 use Rattle.loader.specs.declared.error.ElfError.{ElfError}
 use Rattle.loader.specs.declared.error.ElfError.TheVariants.{TextOutsideReadOnly}
 use Rattle.loader.specs.declared.answer.Accepted.{Accepted}
@@ -31,7 +31,7 @@ ro_place lent start n =
 abbrev pub lent_for : {A : Type 0} → Accepted → A → A → A
 lent_for a image ro = ro if a.ro_copied else image
 
-abbrev pub bytes_for : Accepted → Lent → Lent → List ℕ
+abbrev pub bytes_for : Accepted → Shared → Shared → List ℕ
 bytes_for a image ro = lent_for a image.entry.now ro.entry.now
 
 -- the places that an accepted load's answer gives, in so many lent bytes
@@ -47,7 +47,7 @@ part_of s (At start n) = take n (drop start s)
 part_of s (Refused r) = []
 
 -- the part that an accepted load's answer gives, of the lent image or of the lent buffer, by its place there
-abbrev pub part_for : Accepted → Lent → Lent → (ℕ → PartPlace) → List ℕ
+abbrev pub part_for : Accepted → Shared → Shared → (ℕ → PartPlace) → List ℕ
 part_for a image ro place = part_of (bytes_for a image ro) (place (length (bytes_for a image ro)))
 
 -- ---- laws

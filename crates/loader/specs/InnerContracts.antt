@@ -1,11 +1,11 @@
 -- What the inner functions of this crate ask and promise; the public ones ask nothing.
 use Rattle.std.specs.Prelude.{ℕ, ◌+◌, ◌-◌, ◌*◌, ◌≤◌, ◌<◌, ◌^◌, ◌≡◌, List, Bool, true, false, length}
-use Rattle.std.specs.Borrow.{Bor}
+use Rattle.std.specs.Borrow.{Bor, MutBor}
 use Rattle.loader.specs.declared.validate.Job.{Job}
 use Rattle.program.specs.declared.Row.{Row}
 use Rattle.program.specs.declared.Registered.{Registered}
 use Rattle.program.specs.declared.Registered.TheVariants.{Inserted, Repeat, Collision, Full}
-use Rattle.program.specs.Table.{Slices, Lent, table_of, table_before, table_after, capacity, rows_of, Ready, Alike}
+use Rattle.program.specs.Table.{Slices, Lent, Shared, table_of, table_before, table_after, capacity, rows_of, Ready, Alike}
 use Rattle.loader.specs.declared.error.ElfError.TheVariants.{SymbolHashCollision, TableFull, ValueOutOfBounds}
 use Rattle.loader.specs.declared.deeds.Outcome.{Outcome}
 use Rattle.loader.specs.declared.deeds.Outcome.TheVariants.{Holds, Refused}
@@ -79,7 +79,7 @@ Forgets version2 t t' used moves a = (im : List ℕ) → Settles (forget_trace v
 -- ---- over the lent slices of a function: image, keys, indices, kinds, starts and lengths, in this order
 
 -- what a part of a load asks: a job in the file, the right table of keys, an image as long as the file, and room for n registrations more
-abbrev pub PartAsks : ℕ → Bor (List ℕ) → Bor (List ℕ) → Job → Bor (List ℕ) → Bor (List ℕ) → Bor (List ℕ) → Bor (List ℕ) → Bor (List ℕ) → Bor (List ℕ) → ℕ → ℕ → ℕ → Type 0
+abbrev pub PartAsks : ℕ → Bor (List ℕ) → Bor (List ℕ) → Job → MutBor (List ℕ) → MutBor (List ℕ) → MutBor (List ℕ) → MutBor (List ℕ) → MutBor (List ℕ) → MutBor (List ℕ) → ℕ → ℕ → ℕ → Type 0
 PartAsks n file table j image k i d s l rows used moves =
     InFile file.now j × Keyed table.now × (length image.now ≡ length file.now) × Begins n (table_of k i d s l) rows used moves
 
@@ -88,5 +88,5 @@ abbrev pub PartSettles : Trace → Lent → Lent → Lent → Lent → Lent → 
 PartSettles trace image k i d s l n used moves a = Settles trace image.exit.now (table_before k i d s l) (table_after k i d s l) n used moves a
 
 -- the same of a trace by file, built-ins and job, from an image on
-abbrev pub FileSettles : (List ℕ → List ℕ → Job → List ℕ → Trace) → Lent → Lent → Job → List ℕ → Lent → Lent → Lent → Lent → Lent → Lent → ℕ → ℕ → ℕ → Outcome → Type 0
+abbrev pub FileSettles : (List ℕ → List ℕ → Job → List ℕ → Trace) → Shared → Shared → Job → List ℕ → Lent → Lent → Lent → Lent → Lent → Lent → ℕ → ℕ → ℕ → Outcome → Type 0
 FileSettles trace file builtins j from image k i d s l n used moves a = PartSettles (trace file.entry.now builtins.entry.now j from) image k i d s l n used moves a

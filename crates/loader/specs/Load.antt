@@ -1,9 +1,9 @@
 -- A whole load: its answer, and every lent byte and number afterwards.
 use Rattle.std.specs.Prelude.{ℕ, ◌+◌, ◌-◌, ◌/◌, ◌≡◌, Bool, true, false, List, [], ◌++◌, length, replicate}
-use Rattle.std.specs.Borrow.{Bor}
+use Rattle.std.specs.Borrow.{Bor, MutBor}
 use Rattle.ebpf.specs.Choice.{◌if◌else◌}
 use Rattle.program.specs.declared.Row.{Row}
-use Rattle.program.specs.Table.{Slices, Lent, table_of, table_before, table_after, capacity, lay}
+use Rattle.program.specs.Table.{Slices, Lent, Shared, table_of, table_before, table_after, capacity, lay}
 use Rattle.loader.specs.declared.error.ElfError.{ElfError}
 use Rattle.loader.specs.declared.answer.Accepted.{Accepted}
 use Rattle.loader.specs.declared.answer.Load.{Load}
@@ -161,20 +161,20 @@ abbrev pub Clears : Lent → Lent → Lent → Lent → Lent → Lent → Lent �
 Clears image ro k i d s l = Cleared image.entry.now ro.entry.now (table_before k i d s l) image.exit.now ro.exit.now (table_after k i d s l)
 
 -- the parts of a job in cleared slices: what they ask, and what they leave
-abbrev pub FillAsks : Bor (List ℕ) → Job → Bor (List ℕ) → Bor (List ℕ) → Bor (List ℕ) → Bor (List ℕ) → Bor (List ℕ) → Bor (List ℕ) → ℕ → Type 0
+abbrev pub FillAsks : Bor (List ℕ) → Job → MutBor (List ℕ) → MutBor (List ℕ) → MutBor (List ℕ) → MutBor (List ℕ) → MutBor (List ℕ) → MutBor (List ℕ) → ℕ → Type 0
 FillAsks file j image k i d s l rows =
     InFile file.now j × (length image.now ≡ length file.now) × (rows ≡ capacity (table_of k i d s l)) × (table_of k i d s l ≡ lay (table_of k i d s l) [])
 
-abbrev pub Fills : Lent → Lent → Job → Lent → Lent → Lent → Lent → Lent → Lent → Lent → Outcome → Type 0
+abbrev pub Fills : Shared → Shared → Job → Lent → Lent → Lent → Lent → Lent → Lent → Lent → Outcome → Type 0
 Fills file builtins j image ro k i d s l a =
     Settles (job_trace file.entry.now builtins.entry.now j file.entry.now) image.exit.now (table_before k i d s l) (table_after k i d s l) (all_count file.entry.now j) 0 0 a
     × HeldBytes a ro.exit.now (placed_bytes file.entry.now j.layout j.placing image.exit.now ro.entry.now)
 
 -- what comes of a load of these
-abbrev pub load_of_lent : Lent → Lent → Config → Lent → Lent → Lent → Lent → Lent → Lent → Lent → Loading
+abbrev pub load_of_lent : Shared → Shared → Config → Lent → Lent → Lent → Lent → Lent → Lent → Lent → Loading
 load_of_lent file builtins c image ro k i d s l =
     load_of file.entry.now builtins.entry.now c (length image.entry.now) (length ro.entry.now) (capacity (table_before k i d s l))
 
-abbrev pub Tries : Lent → Lent → Config → Lent → Lent → Lent → Lent → Lent → Lent → Lent → Load → Type 0
+abbrev pub Tries : Shared → Shared → Config → Lent → Lent → Lent → Lent → Lent → Lent → Lent → Load → Type 0
 Tries file builtins c image ro k i d s l a =
     Tried (load_of_lent file builtins c image ro k i d s l) image.entry.now ro.entry.now (table_before k i d s l) image.exit.now ro.exit.now (table_after k i d s l) a

@@ -1,6 +1,6 @@
 -- What `load` promises.
 use Rattle.std.specs.Prelude.{ℕ, length}
-use Rattle.program.specs.Table.{Lent, table_before, table_after, Ready}
+use Rattle.program.specs.Table.{Lent, Shared, table_before, table_after, Ready}
 use Rattle.loader.specs.declared.answer.Load.{Load}
 use Rattle.loader.specs.declared.answer.Load.TheVariants.{Accepted as Accepts, Refused as Refuses}
 use Rattle.loader.specs.declared.validate.Config.{Config}
@@ -14,7 +14,7 @@ OnUsed (Refuses r) P = Unit {0}
 
 -- WHAT `load` PROMISES, for every file, list of built-in keys and settings, whatever the lent image, read-only buffer and the five columns of the table
 -- hold at the call (`.entry`); `.exit` is what they hold on return, and a is the answer
-pub record Loads (file builtins : Lent) (c : Config) (image ro keys indices kinds starts lengths : Lent) (a : Load) : Type 0 where
+pub record Loads (file builtins : Shared) (c : Config) (image ro keys indices kinds starts lengths : Lent) (a : Load) : Type 0 where
   -- the answer and, by demand 1, every lent byte and number: what comes of the load, whole or only zeros
   pub loaded : Loaded (load_of_lent file builtins c image ro keys indices kinds starts lengths)
       image.entry.now ro.entry.now (table_before keys indices kinds starts lengths)

@@ -1,0 +1,11 @@
+-- `loader::calls::among_four` meets its contract: one half, then the other.
+-- Assumes nothing.
+use Rattle.loader.proofs.Eights.{half_first, half_second}
+use borrow.Author.Rules.{rules}
+use Rattle.loader.proofs.calls.among_four.Goals as goal
+
+pub returns-then-first-at : goal.returns-then-first-at
+returns-then-first-at c = half_first _ _ _ 2 _ c.among_two-first.ensures c.if-first-at.true
+
+pub returns : goal.returns
+returns c = half_second _ _ _ 2 _ _ c.among_two-first.ensures c.if-first-at.false c.among_two.ensures

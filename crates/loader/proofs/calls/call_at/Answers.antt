@@ -1,0 +1,20 @@
+-- `loader::calls::call_at` meets its contract: by the slot.
+-- Assumes nothing.
+use mathlib.Core.Path.{sym, ◌∙◌}
+use native.Mathlib.Omega.{arith}
+use Rattle.loader.specs.Calls.{call_at}
+use Rattle.loader.proofs.Slots.{whole_slot}
+use borrow.Author.Rules.{rules}
+use Rattle.loader.proofs.calls.call_at.Goals as goal
+
+pub call_of-requires : goal.call_of-requires
+unfolding call_at
+call_of-requires c = let h = whole_slot _ _ _ (sym c.get_insn.ensures ∙ c.in-Holds.is) in (omega arith, omega arith)
+
+pub returns-in-Past : goal.returns-in-Past
+unfolding call_at
+returns-in-Past c = rw (← c.get_insn.ensures, c.in-Past.is)
+
+pub returns-in-Holds : goal.returns-in-Holds
+unfolding call_at
+returns-in-Holds c = rw (← c.get_insn.ensures, c.in-Holds.is) c.call_of.ensures

@@ -1,0 +1,15 @@
+-- `loader::calls::next_call` meets its contract. The loop's invariant: the search from here finds what the whole search finds.
+-- Assumes nothing.
+use native.Mathlib.Omega.{arith}
+use mathlib.Core.Path.{◌≡◌, sym, ◌∙◌}
+use Prim.Native.Nat.{◌+◌, ◌-◌, ◌≤◌}
+use Rattle.loader.specs.Calls.{next_call, call_here, call_later, call_none}
+use borrow.Author.Rules.{rules}
+use Rattle.loader.proofs.calls.next_call.Given as goal
+
+abbrev pub invariant-loop-at : goal.invariant-loop-at
+invariant-loop-at l =
+    (l.from ≤ l.at) × (l.at ≤ l.count) × (next_call l.file l.start (l.count - l.at) l.at ≡ next_call l.file l.start (l.count - l.from) l.from)
+
+abbrev pub decreases-loop-at : goal.decreases-loop-at
+decreases-loop-at l = l.count - l.at

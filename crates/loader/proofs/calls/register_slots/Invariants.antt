@@ -1,0 +1,33 @@
+-- `loader::calls::register_slots` meets its contract. The loop's invariant: the slots that are left, with the rows and moves held now,
+-- settle to what all from `from` on settle to; and what the loop keeps beside the table.
+-- Assumes nothing.
+use mathlib.Core.Path.{◌≡◌, refl, sym, subst, ◌∙◌}
+use mathlib.Core.List.{List}
+use Prim.Native.Nat.{ℕ, ◌+◌, ◌-◌, ◌*◌, ◌/◌, ◌<◌, ◌≤◌, ◌^◌}
+use mir.Syntax.{w64}
+use mir.Val.{Fits}
+use native.Mathlib.Omega.{arith}
+use lib.ListN.{length}
+use Rattle.program.specs.Table.{Slices, slices}
+use Rattle.program.proofs.Tables.{SameLens}
+use Rattle.loader.specs.declared.deeds.Outcome.{Outcome}
+use Rattle.loader.specs.declared.deeds.Outcome.TheVariants.{Holds, Refused}
+use Rattle.loader.specs.Trace.{Trace}
+use Rattle.loader.specs.Calls.{slot_count, slot_trace}
+use Rattle.loader.specs.CallLoop.{ahead, CallsHeld, StillHeld}
+use Rattle.loader.specs.InnerContracts.{Settles}
+use Rattle.loader.proofs.Ahead.{ahead_length, slot_ahead}
+use Rattle.loader.proofs.Slots.{next_bounds, calls_ahead, text_in}
+use Rattle.loader.proofs.Going.{GoingIn, in_start, in_begins, in_stop, in_on, in_done}
+use borrow.Author.Rules.{rules}
+use Rattle.loader.proofs.calls.register_slots.Given as goal
+
+abbrev pub invariant-loop-i : goal.invariant-loop-i
+invariant-loop-i l =
+    (GoingIn (slot_trace l.file l.builtins l.job) (slot_count l.job) l.from l.to (ahead (l.job.start + 8 * l.to) l.initial.image l.file) (ahead (l.job.start + 8 * l.to) l.image l.file) (slices l.initial.keys l.initial.indices l.initial.kinds l.initial.starts l.initial.lengths) (slices l.keys l.indices l.kinds l.starts l.lengths) l.held l.moved l.used l.moves l.i)
+    × (length l.image ≡ length l.initial.image)
+    × CallsHeld l.builtins l.job l.seen (slices l.keys l.indices l.kinds l.starts l.lengths) l.used
+    × (length l.seen ≡ length l.initial.seen)
+
+abbrev pub decreases-loop-i : goal.decreases-loop-i
+decreases-loop-i l = l.to - l.i

@@ -1,0 +1,14 @@
+-- `loader::entry::forgotten` meets its contract, answer by answer.
+-- Assumes nothing.
+use Rattle.loader.proofs.Forgetting.{forgotten_as, gone_fit}
+use borrow.Author.Rules.{rules}
+use Rattle.loader.proofs.entry.forgotten.Goals as goal
+
+pub overflow_add-result : goal.overflow_add-result
+overflow_add-result c = gone_fit c.args.answer _ c.args.moves c.in-Gone.is c.requires
+
+pub returns-in-Gone : goal.returns-in-Gone
+returns-in-Gone c = rw (c.in-Gone.is, c.less_one.ensures)
+
+pub returns-in-Absent : goal.returns-in-Absent
+returns-in-Absent c = forgotten_as c.args.answer _ c.args.used c.args.moves c.in-Absent.is

@@ -1,0 +1,20 @@
+-- `loader::get_bytes::ro_bytes` meets its contract: the bytes at the place.
+-- Assumes nothing.
+use native.Mathlib.Omega.{arith}
+use mathlib.Core.Path.{sym, ◌∙◌}
+use native.Mathlib.Nat.{add-sub_cancel_left}
+use Rattle.loader.specs.GetBytes.{ro_within}
+use borrow.Author.Rules.{rules}
+use Rattle.loader.proofs.get_bytes.ro_bytes.Goals as goal
+
+pub overflow_add-end : goal.overflow_add-end
+overflow_add-end c = omega (arith, ro_within _ _ _ _ _ (sym c.ro_place.ensures ∙ c.in-At.is))
+
+pub slice_bounds-result-end : goal.slice_bounds-result-end
+slice_bounds-result-end c = omega (arith, ro_within _ _ _ _ _ (sym c.ro_place.ensures ∙ c.in-At.is))
+
+pub returns-in-At : goal.returns-in-At
+returns-in-At c = rw (← c.ro_place.ensures, c.in-At.is, add-sub_cancel_left)
+
+pub returns-in-Refused : goal.returns-in-Refused
+returns-in-Refused c = rw (← c.ro_place.ensures, c.in-Refused.is)

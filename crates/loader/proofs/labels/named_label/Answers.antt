@@ -1,0 +1,22 @@
+-- `loader::labels::named_label` meets its contract: a name lies in the file and is short, and its part is its bytes.
+-- Assumes nothing.
+use mathlib.Core.Path.{sym, ◌∙◌}
+use native.Mathlib.Omega.{arith}
+use Rattle.elf_parser.specs.Parts.{part_within}
+use Rattle.elf_parser.specs.Names.{name_within}
+use borrow.Author.Rules.{rules}
+use Rattle.loader.proofs.labels.named_label.Goals as goal
+
+pub label_as-requires : goal.label_as-requires
+label_as-requires c =
+    let n = name_within _ _ _ _ _ _ _ (sym c.symbol_name.ensures ∙ c.in-At.is) in
+    (c.requires.1, omega (arith, c.requires.0.short, n), omega (arith, n))
+
+pub returns-in-At : goal.returns-in-At
+returns-in-At c =
+    let n = name_within _ _ _ _ _ _ _ (sym c.symbol_name.ensures ∙ c.in-At.is) in
+    let part = c.part_of-part.ensures ∙ part_within _ _ _ (omega (arith, n)) in
+    rw (← c.symbol_name.ensures, c.in-At.is) (rw part at c.label_as.ensures)
+
+pub returns-in-Refused : goal.returns-in-Refused
+returns-in-Refused c = rw (← c.symbol_name.ensures, c.in-Refused.is)

@@ -1,0 +1,42 @@
+-- `loader::overview::look_over` meets its contract. The loop's invariant: the sections that are left, from what is known and was
+-- gathered so far, give what all give.
+-- Assumes nothing.
+use mathlib.Core.Path.{◌≡◌, refl, sym, ◌∙◌}
+use native.Mathlib.Omega.{arith}
+use Prim.Native.Nat.{◌+◌, ◌-◌, ◌≤◌}
+use Rattle.loader.specs.Sections.{section_at, name_of, survey, survey_from, survey_step, survey_next, survey_end}
+use Rattle.loader.specs.ReadOnly.{gather_next, gathered}
+use Rattle.loader.proofs.Ascents.{texts_step}
+use Rattle.loader.proofs.Onward.{gather_from, gather_all, gather_next_lem, gather_end}
+use borrow.Author.Rules.{rules}
+use Rattle.loader.proofs.overview.look_over.Goals as goal
+
+pub loop-i-init : goal.loop-i-init
+loop-i-init c =
+    let e : c.args.count - 0 ≡ c.args.count = omega arith in
+    (omega arith, rw c.no_survey-v.ensures (omega arith), rw (e, c.no_survey-v.ensures) refl, rw (e, c.no_extent.ensures) (gather_all c.args.file.now c.args.layout c.args.version2 c.args.reject_broken c.args.count))
+
+pub survey_next-surveyed-requires : goal.survey_next-surveyed-requires
+survey_next-surveyed-requires c = (c.loop-i.invariant.1, omega arith)
+
+pub overflow_add-i : goal.overflow_add-i
+overflow_add-i c = omega arith
+
+pub loop-i-smaller : goal.loop-i-smaller
+loop-i-smaller c = omega arith
+
+pub loop-i-preserved : goal.loop-i-preserved
+unfolding survey_step
+loop-i-preserved c =
+    let e : c.args.count - (c.loop-i.i + 1) ≡ (c.args.count - c.loop-i.i) - 1 = omega arith in
+    let v : c.survey_next-surveyed.result ≡ survey_step c.args.file.now c.args.layout c.loop-i.i c.loop-i.v = c.survey_next-surveyed.ensures ∙ rw (c.section_name_part-name.ensures, c.section_at-h.ensures) refl in
+    let g : c.gather_next-gathered.result ≡ gather_next c.args.file.now c.args.layout c.args.version2 c.args.reject_broken c.loop-i.i (section_at c.args.file.now c.args.layout c.loop-i.i) (name_of c.args.file.now c.args.layout (section_at c.args.file.now c.args.layout c.loop-i.i)) c.loop-i.g = c.gather_next-gathered.ensures ∙ rw (c.section_name_part-name.ensures, c.section_at-h.ensures) refl in (
+      omega arith,
+      rw v (texts_step c.args.file.now c.args.layout c.loop-i.i c.loop-i.v c.loop-i.invariant.1),
+      rw (e, v) (c.loop-i.invariant.2 ∙ survey_next c.args.file.now c.args.layout (c.args.count - c.loop-i.i) c.loop-i.i c.loop-i.v (omega arith)),
+      rw (e, g) (c.loop-i.invariant.3 ∙ gather_next_lem c.args.file.now c.args.layout c.args.version2 c.args.reject_broken (c.args.count - c.loop-i.i) c.loop-i.i c.loop-i.g (omega arith)),
+    )
+
+pub returns : goal.returns
+returns c =
+    (sym (c.loop-i.invariant.2 ∙ survey_end _ _ _ _ _ (omega arith)), sym (c.loop-i.invariant.3 ∙ gather_end _ _ _ _ _ _ _ (omega arith)))

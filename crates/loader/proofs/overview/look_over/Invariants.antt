@@ -1,0 +1,22 @@
+-- `loader::overview::look_over` meets its contract. The loop's invariant: the sections that are left, from what is known and was
+-- gathered so far, give what all give.
+-- Assumes nothing.
+use mathlib.Core.Path.{◌≡◌, refl, sym, ◌∙◌}
+use native.Mathlib.Omega.{arith}
+use Prim.Native.Nat.{◌+◌, ◌-◌, ◌≤◌}
+use Rattle.loader.specs.Sections.{section_at, name_of, survey, survey_from, survey_step, survey_next, survey_end}
+use Rattle.loader.specs.ReadOnly.{gather_next, gathered}
+use Rattle.loader.proofs.Ascents.{texts_step}
+use Rattle.loader.proofs.Onward.{gather_from, gather_all, gather_next_lem, gather_end}
+use borrow.Author.Rules.{rules}
+use Rattle.loader.proofs.overview.look_over.Given as goal
+
+abbrev pub invariant-loop-i : goal.invariant-loop-i
+invariant-loop-i l =
+    (l.i ≤ l.count)
+    × (l.v.texts ≤ l.i)
+    × (survey l.file l.layout l.count ≡ survey_from l.file l.layout (l.count - l.i) l.i l.v)
+    × (gathered l.file l.layout l.count l.version2 l.reject_broken ≡ gather_from l.file l.layout l.version2 l.reject_broken (l.count - l.i) l.i l.g)
+
+abbrev pub decreases-loop-i : goal.decreases-loop-i
+decreases-loop-i l = l.count - l.i

@@ -1,0 +1,16 @@
+-- `loader::read_only::copy_bytes` meets its contract. The loop's invariant: i bytes are pasted.
+-- Assumes nothing.
+use native.Mathlib.Omega.{arith}
+use mathlib.Core.Path.{◌≡◌, refl, ◌∙◌}
+use Prim.Native.Nat.{◌-◌, ◌≤◌}
+use lib.ListN.{length, drop, length-set}
+use lib.Seq.{paste, paste-zero}
+use Rattle.loader.proofs.Copies.{paste_next}
+use Rattle.loader.proofs.read_only.copy_bytes.Given as goal
+
+abbrev pub invariant-loop-i : goal.invariant-loop-i
+invariant-loop-i l =
+    (l.i ≤ l.n) × (length l.to ≡ length l.initial.to) × (l.to ≡ paste l.initial.to l.at (drop l.start l.from) l.i)
+
+abbrev pub decreases-loop-i : goal.decreases-loop-i
+decreases-loop-i l = l.n - l.i

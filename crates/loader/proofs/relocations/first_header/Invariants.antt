@@ -1,0 +1,15 @@
+-- `loader::relocations::first_header` meets its contract. The loop's invariant: the headers that are left give what all give.
+-- Assumes nothing.
+use Prim.Native.Nat.{◌+◌, ◌-◌, ◌≤◌}
+use native.Mathlib.Omega.{arith}
+use mathlib.Core.Path.{◌≡◌, refl, sym, ◌∙◌}
+use Rattle.loader.specs.Relocations.{first_from, first_here, first_later, first_none}
+use borrow.Author.Rules.{rules}
+use Rattle.loader.proofs.relocations.first_header.Given as goal
+
+abbrev pub invariant-loop-i : goal.invariant-loop-i
+invariant-loop-i l =
+    (l.i ≤ l.count) × (first_from l.file l.layout l.a l.count 0 ≡ first_from l.file l.layout l.a (l.count - l.i) l.i)
+
+abbrev pub decreases-loop-i : goal.decreases-loop-i
+decreases-loop-i l = l.count - l.i

@@ -1,0 +1,9 @@
+-- `loader::relocations::immediate_at` meets its contract: a sum.
+-- Assumes nothing.
+use Rattle.loader.specs.Relocations.{immediate_at}
+use borrow.Author.Rules.{rules}
+use Rattle.loader.proofs.relocations.immediate_at.Goals as goal
+
+pub returns : goal.returns
+unfolding immediate_at
+returns c = c.saturating_add.ensures

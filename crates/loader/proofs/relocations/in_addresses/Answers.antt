@@ -1,0 +1,7 @@
+-- `loader::relocations::in_addresses` meets its contract: two tests.
+-- Assumes nothing.
+use borrow.Author.Rules.{rules}
+use Rattle.loader.proofs.relocations.in_addresses.Goals as goal
+
+pub returns : goal.returns
+returns c = rw (← c.saturating_add.ensures)

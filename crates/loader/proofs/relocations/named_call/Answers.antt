@@ -1,0 +1,22 @@
+-- `loader::relocations::named_call` meets its contract: a name lies in the file and is short, and its part is its bytes.
+-- Assumes nothing.
+use mathlib.Core.Path.{sym, ◌∙◌}
+use native.Mathlib.Omega.{arith}
+use Rattle.elf_parser.specs.Parts.{part_within}
+use Rattle.elf_parser.specs.Names.{name_within}
+use borrow.Author.Rules.{rules}
+use Rattle.loader.proofs.relocations.named_call.Goals as goal
+
+pub call_by_name-requires : goal.call_by_name-requires
+call_by_name-requires c =
+    let n = name_within _ _ _ _ _ _ _ (sym c.dynamic_symbol_name.ensures ∙ c.in-At.is) in
+    (c.requires.1, c.requires.0.size, omega (arith, c.requires.0.short, n), omega (arith, n))
+
+pub returns-in-At : goal.returns-in-At
+returns-in-At c =
+    let n = name_within _ _ _ _ _ _ _ (sym c.dynamic_symbol_name.ensures ∙ c.in-At.is) in
+    let part = c.part_of-part.ensures ∙ part_within _ _ _ (omega (arith, n)) in
+    rw (← c.dynamic_symbol_name.ensures, c.in-At.is) (rw part at c.call_by_name.ensures)
+
+pub returns-in-Refused : goal.returns-in-Refused
+returns-in-Refused c = rw (← c.dynamic_symbol_name.ensures, c.in-Refused.is)
