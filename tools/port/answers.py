@@ -28,18 +28,20 @@ class Unable(Exception):
 
 def items(text):
     """The items of a file: (kind, text), where kind is use, comment or code; code is a line at the margin with what is indented below it."""
-    out = []
+    out, blank = [], ""
     for line in text.split("\n"):
         if not line.strip():
-            out.append(("blank", ""))
-        elif line[0] in " \t})]":
-            out[-1] = (out[-1][0], out[-1][1] + "\n" + line)
+            blank = "\n"
+            continue
+        if line[0] in " \t})]":
+            out[-1] = (out[-1][0], out[-1][1] + blank + "\n" + line)
         elif line.startswith("--"):
             out.append(("comment", line))
         elif line.startswith("use "):
             out.append(("use", line))
         else:
             out.append(("code", line))
+        blank = ""
     return out
 
 
@@ -65,8 +67,11 @@ def declarations(text):
                 decls.append(d)
             elif it.startswith("unfolding "):
                 decls[-1].unfolding = it
-            elif it.startswith("module ") or it.startswith("data "):
-                raise Unable("a section or a data")
+            elif re.match(r"(?:pub )?(?:module|data|record) ", it):
+                d = Decl("", it, "")
+                d.names = re.findall(rf"(?m)^\s+(?:(?:pub|abbrev|unfoldable) )*({WORD}) (?=:)", it) + re.findall(rf"(?:data|record) ({WORD})", it)
+                d.comment, pending = pending, []
+                decls.append(d)
             else:
                 decls[-1].clauses.append(it)
     return head, uses, decls
@@ -415,17 +420,31 @@ def convert(crate, path, info, mutables, module):
             inv[a] = d
         else:
             rest.append(a)
-    if len(rest) != len(info["needs"]):
-        raise Unable(f"{len(rest)} answers, {len(info['needs'])} goals")
+    goals_in_order = list(zip(info["needs"], info["asked_at"]))
+    if len(rest) != len(goals_in_order):
+        # goals that need no answer any more: what is said goes by its name, or is the last
+        if sum(a == "(search rules)" for a in rest) < len(rest) - len(goals_in_order):
+            raise Unable(f"{len(rest)} answers, {len(info['needs'])} goals")
+        said = {}
+        for k, a in enumerate(rest):
+            if a in by and by[a].sig.startswith("tie.Need-"):
+                said[norm(by[a].sig.split()[0][len("tie.Need-") :])] = a
+            elif a != "(search rules)":
+                if k != len(rest) - 1:
+                    raise Unable(f"{len(rest)} answers, {len(info['needs'])} goals")
+                said[norm(goals_in_order[-1][0][0])] = a
+        rest = [said.pop(norm(old), "(search rules)") for (old, new), at in goals_in_order]
+        if said:
+            raise Unable(f"no goal {sorted(said)}")
     answered = {}
-    for a, (old, new), at in zip(rest, info["needs"], info["asked_at"]):
+    for a, ((old, new), at) in zip(rest, goals_in_order):
         if a == "(search rules)" and not (spec[0].unfolding and new.startswith("returns")):
             continue
         answered[a, new] = norm(at[0])
     needs = {a for a, _ in answered if a in by and by[a].sig.startswith("tie.Need-")}
     helpers = {}
     for d in decls:
-        if d is spec[0] or d.name in inv or d.name in needs:
+        if d is spec[0] or d.name in inv or d.name in needs or d.name == "":
             continue
         h = read_helper(f, d)
         if h is not None:
@@ -459,7 +478,9 @@ def convert(crate, path, info, mutables, module):
                 params, body = m[1].split(), a[m.end() : -1]
             else:
                 params, body = ["c"], a
-        if len(params) > 1 and re.search(rf"(?<![^\s()]){re.escape(params[1])}(?![^\s()])", body):
+        if len(params) > 1 and params[1] != "κs":
+            body = f"λ {' '.join(params[1:])}. {body.strip()}"
+        elif len(params) > 1 and re.search(rf"(?<![^\s()]){re.escape(params[1])}(?![^\s()])", body):
             raise Unable("lifetimes used")
         env = {params[0]: ("place", at)} if params else {}
         got = b.whole(body.strip(), env)
@@ -475,6 +496,14 @@ def convert(crate, path, info, mutables, module):
     while changed:
         changed = False
         for d in decls:
+            if d.name == "":
+                if d.sig not in turned and any(re.search(rf"(?<![^\s(){{}};,.]){re.escape(n)}(?=[\s(){{}};,.]|$)", texts) for n in d.names):
+                    if "tie." in d.sig:
+                        raise Unable("a section over places")
+                    turned[d.sig] = "\n".join(d.comment + [d.sig])
+                    texts += " " + d.sig
+                    changed = True
+                continue
             if d is spec[0] or d.name in inv or d.name in needs or d.name in turned:
                 continue
             if re.search(rf"(?<![^\s(){{}};,.]){re.escape(d.name)}(?=[\s(){{}};,.]|$)", texts):
@@ -503,7 +532,7 @@ def convert(crate, path, info, mutables, module):
                 turned[d.name] = block
                 texts += " " + block.split("\n", len(d.comment) + 1)[-1] + " " + block
                 changed = True
-    order = [turned[d.name] for d in decls if d.name in turned]
+    order = [turned[d.name or d.sig] for d in decls if (d.name or d.sig) in turned]
     folder = os.path.dirname(path)
     use = [u for u in uses if not re.search(r"\.(Statement\.\{statement\}|Tie as tie)$", u)]
     out = list(head)

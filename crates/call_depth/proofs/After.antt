@@ -19,7 +19,7 @@ use Rattle.program.specs.declared.Legacy.TheVariants.{Free, Taken}
 use Rattle.program.specs.declared.FoundRow.{FoundRow}
 use Rattle.program.specs.declared.FoundRow.TheVariants.{At as AtRow, Nothing as NoRow}
 use Rattle.program.specs.Search.{index_of}
-use Rattle.program.specs.Table.{Slices, Lent, table_before, table_after, least, capacity, lookup_in, row_ascending_in, row_of_found, row_at, lay, Ready as IsTable}
+use Rattle.program.specs.Table.{Slices, Lent, Shared, table_before, table_after, least, capacity, lookup_in, row_ascending_in, row_of_found, row_at, lay, Ready as IsTable}
 use Rattle.program.specs.HashedLegacy.{legacy_row}
 use Rattle.program.proofs.Cases.{by_eq, zero_one}
 use Rattle.program.proofs.Steps.{row_below}
@@ -33,7 +33,7 @@ use Rattle.loader.specs.declared.validate.Config.{Config}
 use Rattle.loader.specs.declared.validate.Job.{Job}
 use Rattle.loader.specs.declared.validate.Prepared.{Prepared}
 use Rattle.loader.specs.declared.validate.Prepared.TheVariants.{Ready, Refused as NotReady}
-use Rattle.loader.specs.Contracts.{InFile}
+use Rattle.loader.specs.InnerContracts.{InFile}
 use Rattle.loader.specs.Deeds.{deed_trace}
 use Rattle.loader.specs.Demand.{Finds, entry_index, OfEntry, name_key, IsNameKey, Entry, Others, Demand3}
 use Rattle.loader.specs.Entry.{forget_trace, entry_deed, entry_trace}
@@ -164,7 +164,7 @@ pub record Made (file builtins : List ℕ) (c : Config) (n m : ℕ) (t₀ : Slic
   pub keyed : Demand3 file builtins c n m t₀ im t r
   pub ascending : OnUsed r (λ used. IsTable t used)
 
-pub made : (file builtins : Lent) (c : Config) (image ro keys indices kinds starts lengths : Lent) (r : Load) → Loads file builtins c image ro keys indices kinds starts lengths r
+pub made : (file builtins : Shared) (c : Config) (image ro keys indices kinds starts lengths : Lent) (r : Load) → Loads file builtins c image ro keys indices kinds starts lengths r
     → Made file.entry.now builtins.entry.now c (length image.entry.now) (length ro.entry.now) (table_before keys indices kinds starts lengths) image.exit.now (table_after keys indices kinds starts lengths) r
 made file builtins c image ro keys indices kinds starts lengths r l = record { answers = l.loaded.answers; image = l.loaded.demand_1.image; keyed = l.keyed; ascending = l.ascending }
 

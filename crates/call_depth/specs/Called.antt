@@ -8,7 +8,7 @@ use Rattle.ebpf.specs.declared.Slot.{Slot}
 use Rattle.ebpf.specs.declared.Slot.TheVariants.{Holds, Past}
 use Rattle.program.specs.declared.FoundRow.{FoundRow}
 use Rattle.program.specs.declared.FoundRow.TheVariants.{At, Nothing}
-use Rattle.program.specs.Table.{Lent, row_ascending_in}
+use Rattle.program.specs.Table.{Shared, row_ascending_in}
 use Rattle.call_graph.specs.Profile.{Profile, next_above, nth_of}
 use Rattle.call_graph.specs.Words.{Sized, WordsReady}
 
@@ -50,7 +50,7 @@ profile_in text keys indices version2 = record {
 abbrev pub profile_now : Bor (List ℕ) → Bor (List ℕ) → Bor (List ℕ) → Bool → Profile
 profile_now text keys indices version2 = profile_in text.now keys.now indices.now version2
 
-abbrev pub profile_of : Lent → Lent → Lent → Bool → Profile
+abbrev pub profile_of : Shared → Shared → Shared → Bool → Profile
 profile_of text keys indices version2 = profile_in text.entry.now keys.entry.now indices.entry.now version2
 
 -- what the numbers lent keep to

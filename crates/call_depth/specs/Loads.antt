@@ -1,6 +1,6 @@
 -- What `load_call_depth` promises.
 use Rattle.std.specs.Prelude.{ℕ, ◌≤◌, ◌≡◌, List, length}
-use Rattle.program.specs.Table.{Slices, Lent, table_before, table_after, capacity}
+use Rattle.program.specs.Table.{Slices, Lent, Shared, table_before, table_after, capacity}
 use Rattle.loader.specs.declared.validate.Config.{Config}
 use Rattle.loader.specs.declared.answer.Load.{Load}
 use Rattle.loader.specs.declared.answer.Load.TheVariants.{Accepted as Accepts, Refused as Refuses}
@@ -16,7 +16,7 @@ MeansOf (Accepts a) im t rows work limit x = rows ≤ work → Means (FunctionCa
 MeansOf (Refuses r) im t rows work limit x = Unit {0}
 
 -- all that `load` promises, whatever comes of the question, and how deep the profile calls. What `work` holds afterwards is left free
-pub record LoadsAndMeasures (file builtins : Lent) (c : Config) (image ro keys indices kinds starts lengths work : Lent) (limit : ℕ) (r : LoadDepth) : Type 0 where
+pub record LoadsAndMeasures (file builtins : Shared) (c : Config) (image ro keys indices kinds starts lengths work : Lent) (limit : ℕ) (r : LoadDepth) : Type 0 where
   pub loads : Loads file builtins c image ro keys indices kinds starts lengths r.load
   pub measures : r.depth ≡ depth_asked (length work.entry.now) (capacity (table_before keys indices kinds starts lengths)) image.exit.now keys.exit.now indices.exit.now r.load limit
   -- and what that means, by the calls that stand in the image and find their function in the table

@@ -4,7 +4,7 @@ use Rattle.std.proofs.lemmas.List.Edits.{sets}
 use Rattle.ebpf.specs.Choice.{◌if◌else◌}
 use Rattle.elf_parser.specs.declared.error.Report.{Report}
 use Rattle.program.specs.declared.Row.{Row}
-use Rattle.program.specs.Table.{Lent, slices, rows_of}
+use Rattle.program.specs.Table.{Lent, Shared, slices, rows_of}
 use Rattle.loader.specs.declared.answer.Accepted.{Accepted}
 use Rattle.loader.specs.declared.answer.Load.{Load}
 use Rattle.loader.specs.declared.answer.Load.TheVariants.{Accepted as Accepts, Refused as Refuses}
@@ -99,7 +99,7 @@ used_of (Accepts a) = a.used
 used_of (Refuses e) = 0
 
 -- the first n rows of three lent columns; a line has nothing of a name's start and length
-abbrev pub column_rows : Lent → Lent → Lent → ℕ → List Row
+abbrev pub column_rows : Shared → Shared → Shared → ℕ → List Row
 column_rows keys indices kinds n = rows_of (slices keys.entry.now indices.entry.now kinds.entry.now [] []) n
 
 -- WHAT `list_file` PROMISES: a lent slice that held `before` holds the lines of the file, and r is the number of their bytes. These are at
@@ -109,5 +109,5 @@ pub record Listing (file before after : List ℕ) (r : ℕ) : Type 0 where
   pub bytes : after ≡ filled (length before) (lines_of file)
   pub few : r ≤ 16384
 
-abbrev pub Lists : Lent → Lent → ℕ → Type 0
+abbrev pub Lists : Shared → Lent → ℕ → Type 0
 Lists file out r = Listing file.entry.now out.entry.now out.exit.now r

@@ -26,7 +26,7 @@ use Rattle.loader.specs.declared.validate.Job.{Job}
 use Rattle.loader.specs.declared.validate.Prepared.{Prepared}
 use Rattle.loader.specs.declared.validate.Prepared.TheVariants.{Ready, Refused as NotReady}
 use Rattle.loader.specs.declared.validate.Verdict.TheVariants.{Pass}
-use Rattle.loader.specs.Contracts.{InFile}
+use Rattle.loader.specs.InnerContracts.{InFile}
 use Rattle.loader.specs.Load.{accepted_as, held_by, on_trace, on_prepared, load_of, answer_of, image_of}
 use Rattle.loader.specs.Parts.{job_trace}
 use Rattle.loader.specs.ReadOnly.{placing}

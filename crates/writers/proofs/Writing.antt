@@ -14,7 +14,7 @@ use Rattle.loader.specs.declared.calls.Call.{Call as Calling}
 use Rattle.loader.specs.declared.calls.Call.TheVariants.{None, To, Outside}
 use Rattle.loader.specs.declared.validate.Job.{Job}
 use Rattle.loader.specs.Calls.{call_at, local_call_in, text_of, slot_count, immediate, call_row, call_by, call_deed, slot_trace}
-use Rattle.loader.specs.Contracts.{InFile}
+use Rattle.loader.specs.InnerContracts.{InFile}
 use Rattle.loader.specs.Deeds.{is_in, writes}
 use Rattle.loader.specs.Demand.{info_of, addend_of, names}
 use Rattle.loader.specs.Functions.{row_for}

@@ -1,6 +1,6 @@
 -- What `load_who_wrote` promises.
 use Rattle.std.specs.Prelude.{ℕ, ◌≡◌, length, get_or}
-use Rattle.program.specs.Table.{Lent, table_before, capacity}
+use Rattle.program.specs.Table.{Lent, Shared, table_before, capacity}
 use Rattle.loader.specs.declared.validate.Config.{Config}
 use Rattle.loader.specs.Loads.{Loads}
 use Rattle.writers.specs.declared.LoadWrote.{LoadWrote}
@@ -9,7 +9,7 @@ use Rattle.writers.specs.declared.Wrote.TheVariants.{By}
 use Rattle.writers.specs.Writers.{wrote_of}
 
 -- all that `load` promises, whatever the offset is, and who wrote the byte
-pub record LoadsAndTells (file builtins : Lent) (c : Config) (image ro keys indices kinds starts lengths : Lent) (offset : ℕ) (r : LoadWrote) : Type 0 where
+pub record LoadsAndTells (file builtins : Shared) (c : Config) (image ro keys indices kinds starts lengths : Lent) (offset : ℕ) (r : LoadWrote) : Type 0 where
   pub loads : Loads file builtins c image ro keys indices kinds starts lengths r.load
   pub tells : r.wrote ≡ wrote_of file.entry.now builtins.entry.now c (length image.entry.now) (length ro.entry.now) (capacity (table_before keys indices kinds starts lengths)) offset
   -- a byte that nothing wrote is the file's

@@ -1,7 +1,7 @@
 -- Who wrote each byte of the file, as one number a byte.
 use Rattle.std.specs.Prelude.{ℕ, ◌+◌, ◌≡◌, Bool, true, false, ◌&&◌, List, length, get_or, ltb, eqb}
 use Rattle.ebpf.specs.Choice.{◌if◌else◌}
-use Rattle.program.specs.Table.{Lent}
+use Rattle.program.specs.Table.{Lent, Shared}
 use Rattle.loader.specs.declared.answer.Load.{Load}
 use Rattle.loader.specs.declared.answer.Load.TheVariants.{Accepted as Accepts, Refused as Refuses}
 use Rattle.loader.specs.declared.error.ElfError.TheVariants.{BufferShort}
@@ -34,13 +34,13 @@ filled_in len n (NoText r) = NotFilled r
 filled_in len n (Is t) = NotFilled BufferShort if ltb n len else Whole
 
 -- WHAT THE NUMBERS TELL, n of them: at b stands the number of who wrote that byte, and only zeros where n is too small
-pub record Filling (file : Lent) (numbers : Lent) (wrote : ℕ → Wrote) (filled : Filled) (r : Filled) : Type 0 where
+pub record Filling (file : Shared) (numbers : Lent) (wrote : ℕ → Wrote) (filled : Filled) (r : Filled) : Type 0 where
   pub answers : r ≡ filled
   pub length_as : length numbers.exit.now ≡ length numbers.entry.now
   pub tells : (b : ℕ) → get_or numbers.exit.now b 0 ≡ (0 if ltb (length numbers.entry.now) (length file.entry.now) else code_by (wrote b))
 
 -- WHAT `who_wrote_all_by` PROMISES, and `who_wrote_all`
-abbrev pub FillsBy : Lent → Bool → ℕ → ℕ → Lent → Filled → Type 0
+abbrev pub FillsBy : Shared → Bool → ℕ → ℕ → Lent → Filled → Type 0
 FillsBy file version2 start n numbers r =
     Filling file numbers (asked_by file.entry.now version2 start n) (filled_in (length file.entry.now) (length numbers.entry.now) (text_of file.entry.now version2 start n)) r
 
@@ -48,7 +48,7 @@ abbrev pub filled_of : List ℕ → ℕ → Load → Filled
 filled_of file n (Refuses r) = NotFilled r
 filled_of file n (Accepts a) = filled_in (length file) n (text_of file (eqb a.version 2) a.text_start a.text_length)
 
-abbrev pub Fills : Lent → Load → Lent → Filled → Type 0
+abbrev pub Fills : Shared → Load → Lent → Filled → Type 0
 Fills file answer numbers r = Filling file numbers (asked file.entry.now answer) (filled_of file.entry.now (length numbers.entry.now) answer) r
 
 -- ---- the steps
@@ -69,8 +69,8 @@ pub record Holds (w : ℕ → Writer) (len : ℕ) (s s' : List ℕ) : Type 0 whe
   pub length_as : length s' ≡ length s
   pub at : (b : ℕ) → get_or s' b 0 ≡ (code_of (w b) if ltb b len else 0)
 
-abbrev pub HoldsCalls : Lent → Text → Lent → Type 0
+abbrev pub HoldsCalls : Shared → Text → Lent → Type 0
 HoldsCalls file t numbers = Holds (call_writer file.entry.now t) (length file.entry.now) numbers.entry.now numbers.exit.now
 
-abbrev pub HoldsAll : Lent → Text → Lent → Type 0
+abbrev pub HoldsAll : Shared → Text → Lent → Type 0
 HoldsAll file t numbers = Holds (by_names file.entry.now t) (length file.entry.now) numbers.entry.now numbers.exit.now

@@ -1,0 +1,7 @@
+-- `listing::lines::put_refused` meets its contract: the line of a refusal's report.
+-- Assumes nothing.
+use borrow.Author.Rules.{rules}
+use Rattle.listing.proofs.lines.put_refused.Goals as goal
+
+pub returns : goal.returns
+returns c = rw (← c.report_of-r.ensures) c.put_word_line.ensures

@@ -1,0 +1,20 @@
+-- `listing::lines::put_rows` meets its contract. The loop's invariant: the lines of the rows from i on are left to store, at the next place.
+-- Assumes nothing.
+use Prim.Native.Nat.{◌+◌, ◌-◌, ◌*◌, ◌≤◌}
+use native.Mathlib.Omega.{arith}
+use mathlib.Core.List.{[]}
+use lib.ListN.{drop}
+use Rattle.program.specs.Table.{Slices, slices, rows_of}
+use Rattle.listing.specs.Lines.{row_lines}
+use Rattle.listing.proofs.Stores.{Storing, storing_start, storing_turn, storing_end}
+use Rattle.listing.proofs.Listed.{lines_from, lines_end}
+use borrow.Author.Rules.{rules}
+use Rattle.listing.proofs.lines.put_rows.Given as goal
+
+abbrev pub invariant-loop-i : goal.invariant-loop-i
+invariant-loop-i l =
+    let rows = rows_of (slices l.keys l.indices l.kinds [] []) l.used in
+    Storing (row_lines rows) (row_lines (drop l.i rows)) l.initial.out l.out l.at l.next × (l.i ≤ l.used) × (l.next ≤ l.at + 63 * l.i)
+
+abbrev pub decreases-loop-i : goal.decreases-loop-i
+decreases-loop-i l = l.used - l.i

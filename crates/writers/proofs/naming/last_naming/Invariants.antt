@@ -1,0 +1,18 @@
+-- `writers::naming::last_naming` meets its contract. The loop's invariant: the header used last, and the writer by the relocations so far.
+-- Assumes nothing.
+use Prim.Native.Nat.{◌+◌, ◌-◌, ◌≤◌}
+use native.Mathlib.Omega.{arith}
+use mathlib.Core.Path.{◌≡◌, sym, ◌∙◌}
+use Rattle.loader.specs.Relocations.{used_before}
+use Rattle.writers.specs.declared.Writer.TheVariants.{Relocation}
+use Rattle.writers.specs.Named.{names_byte, call_writer, last_of, count_of, by_names}
+use Rattle.writers.proofs.Turns.{last_none, none_used, next_used, next_last}
+use borrow.Author.Rules.{rules}
+use Rattle.writers.proofs.naming.last_naming.Given as goal
+
+abbrev pub invariant-loop-i : goal.invariant-loop-i
+invariant-loop-i l =
+    (l.i ≤ l.count) × (l.header ≡ used_before l.file l.text.layout l.text.version2 l.i) × (l.writer ≡ last_of Relocation (λ k. names_byte l.file l.text k l.b) l.i (call_writer l.file l.text l.b))
+
+abbrev pub decreases-loop-i : goal.decreases-loop-i
+decreases-loop-i l = l.count - l.i

@@ -1,0 +1,34 @@
+-- `writers::whole::mark_all` meets its contract. The loop's invariant: the numbers are those of the last among the first i relocations,
+-- else of the calls; and the header is the one used last.
+-- Assumes nothing.
+use Prim.Native.Nat.{ℕ, ◌+◌, ◌-◌, ◌^◌, ◌≤◌, ◌<◌}
+use native.Mathlib.Omega.{arith}
+use mir.Syntax.{w32}
+use mir.Val.{Fits}
+use mathlib.Core.Path.{◌≡◌, refl, sym, subst, ◌∙◌}
+use mathlib.Core.List.{List}
+use lib.ListN.{length}
+use borrow.Author.Count.{falls}
+use Rattle.ebpf.specs.Choice.{◌if◌else◌}
+use Rattle.loader.specs.Relocations.{used_before}
+use Rattle.writers.specs.declared.Writer.{Writer}
+use Rattle.writers.specs.declared.Writer.TheVariants.{Relocation}
+use Rattle.writers.specs.declared.text.Text.{Text}
+use Rattle.writers.specs.Named.{is_named, names_byte, call_writer, last_of, by_names, count_of}
+use Rattle.writers.specs.Asked.{Askable}
+use Rattle.writers.specs.Whole.{Holds}
+use Rattle.writers.proofs.Marking.{holds_as, holds_next}
+use Rattle.writers.proofs.Turns.{last_none, none_used, next_used, next_last}
+use borrow.Author.Rules.{rules}
+use Rattle.writers.proofs.whole.mark_all.Given as goal
+
+-- who wrote b, with the first n relocations only
+abbrev pub up_to : List ℕ → Text → ℕ → ℕ → Writer
+up_to file t n b = last_of Relocation (λ k. names_byte file t k b) n (call_writer file t b)
+
+abbrev pub invariant-loop-i : goal.invariant-loop-i
+invariant-loop-i l =
+    (l.i ≤ l.count) × (l.header ≡ used_before l.file l.text.layout l.text.version2 l.i) × Holds (up_to l.file l.text l.i) (length l.file) l.initial.numbers l.numbers
+
+abbrev pub decreases-loop-i : goal.decreases-loop-i
+decreases-loop-i l = l.count - l.i
