@@ -198,9 +198,9 @@ class File:
             while k < len(comps) and comps[k] == "1":
                 k += 1
             if k < len(comps) and comps[k] == "0":
-                names = self.mutables.get(p["callee"])
+                names = self.info["params"].get(p["callee"])
                 if names is None or k - 1 >= len(names):
-                    raise Unable("the &mut parameters of " + p["callee"])
+                    raise Unable("the parameters of " + p["callee"])
                 comps[1 : k + 1] = [names[k - 1]]
         return ".".join([head, p["new"]] + comps[:1] + [norm(it) for it in comps[1:]])
 
@@ -488,7 +488,9 @@ def convert(crate, path, info, mutables, module):
             pass
         if params and params[0] != "c" and re.search(rf"(?<![^\s()]){re.escape(params[0])}(?![^\s()])", got):
             raise Unable("a bare record")
-        goals.append((new, comment, unfolding, got if params else got))
+        if got == "search rules" and not unfolding:
+            continue
+        goals.append((new, comment, unfolding, got))
     # the helpers that answers still name
     texts = " ".join(g[3] for g in goals)
     wanted, changed = [], True
@@ -559,9 +561,11 @@ def convert(crate, path, info, mutables, module):
             table = {}
             plain_names, changing = [v for v, ch in zip(names, changed) if not ch], [v for v, ch in zip(names, changed) if ch]
             said = [p.rstrip("₀") for p in params]
-            if len(params) != len(names) + len(changing):
+            own = self_params.get(module, [])
+            extra = [p for p in params if norm(p.rstrip("₀")) not in names and norm(p) in own]
+            if len(params) != len(names) + len(changing) + len(extra):
                 raise Unable(f"the arguments of {d.name}: {params} for {names}")
-            firsts, lasts = params[: len(names)], params[len(names) :]
+            firsts, lasts = params[: len(params) - len(changing)], params[len(params) - len(changing) :]
             # the order of the first ones is that of the file's own names
             for p in lasts:
                 if norm(p) not in changing:
@@ -572,6 +576,8 @@ def convert(crate, path, info, mutables, module):
                     table[p] = f"l.initial.{norm(p[:-1])}"
                 elif norm(p) in plain_names:
                     table[p] = f"l.{norm(p)}"
+                elif norm(p) in own:
+                    table[p] = f"l.fn.{norm(p)}"
                 else:
                     raise Unable(f"{p} of {d.name}")
             body = re.sub(rf'(?<![^\s(){{}};,]){WORD}', lambda m: table.get(m[0], m[0]), body.strip())
@@ -586,8 +592,11 @@ def convert(crate, path, info, mutables, module):
     return sorted(made)
 
 
-def mutable_parameters(root):
-    """The &mut parameters of each function, by the path of its module."""
+self_params = {}
+
+
+def parameters(root):
+    """The parameters of each function, by the path of its module."""
     found = {}
     for crate in os.listdir(os.path.join(root, "crates")):
         src = os.path.join(root, "crates", crate, "src")
@@ -597,14 +606,14 @@ def mutable_parameters(root):
             module = [crate] if name in ("lib.rt", "main.rt") else [crate, name[:-3]]
             for m in re.finditer(r"\bfn (\w+)(?:<[^>()]*>)?\(", t):
                 end = closing(t, m.end() - 1)
-                params = re.findall(r"(\w+): &(?:'\w+ )?mut ", t[m.end() : end])
-                found["::".join(module + [m[1]])] = params
+                params = re.findall(r"(\w+): ", t[m.end() : end])
+                self_params[".".join(["Rattle", module[0], "proofs"] + module[1:] + [m[1]])] = params
     return found
 
 
 def main():
     crate, names, only = sys.argv[1], json.load(open(sys.argv[2])), sys.argv[3:]
-    mutables = mutable_parameters(".")
+    mutables = parameters(".")
     done = stay = 0
     for key, info in sorted(names.items()):
         m = re.fullmatch(rf"Rattle-{crate}-proofs\.(.*)\.Lts", key)

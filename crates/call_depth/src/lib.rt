@@ -3,7 +3,7 @@
 // with a load, or about a load already made, by its answer, its image and its table.
 ghost use Rattle.std.specs.Prelude.{◌≡◌, ◌≤◌, ◌<◌, length, get_or};
 ghost use Rattle.program.specs.Search.{index_of};
-ghost use Rattle.program.specs.Table.{table_before, capacity};
+ghost use Rattle.program.specs.Table.{slices, capacity};
 ghost use Rattle.call_graph.specs.Answer.{depth_of};
 ghost use Rattle.call_depth.specs.Called.{profile_of, WorkLent};
 ghost use Rattle.call_depth.specs.Asked.{limit_of, limited, depth_in, fits_in, depth_by, depth_asked};
@@ -172,7 +172,7 @@ pub fn call_depth(
     answer: Load,
     limit: u32,
 ) -> CallDepth
-    ensures { result ≡ depth_asked (length work.old) (capacity (table_before keys indices kinds starts lengths)) image.now keys.now indices.now answer limit }
+    ensures { result ≡ depth_asked (length work.old) (capacity (slices keys.now indices.now kinds.now starts.now lengths.now)) image.now keys.now indices.now answer limit }
 {
     let rows = rows_lent(
         keys.len(),

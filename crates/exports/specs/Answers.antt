@@ -19,7 +19,7 @@ use Rattle.program.specs.declared.FoundRow.{FoundRow}
 use Rattle.program.specs.declared.FoundRow.TheVariants.{At as AtRow, Nothing as NoRow}
 use Rattle.program.specs.declared.FoundIndex.{FoundIndex}
 use Rattle.program.specs.declared.FoundIndex.TheVariants.{At as AtIndex, Nothing as NoIndex}
-use Rattle.program.specs.Table.{Lent}
+use Rattle.program.specs.Table.{Lent, Shared}
 use Rattle.loader.specs.declared.answer.Accepted.{Accepted}
 use Rattle.loader.specs.declared.answer.Load.{Load}
 use Rattle.loader.specs.declared.answer.Load.TheVariants.{Accepted as Accepts, Refused as Refuses}
@@ -107,7 +107,7 @@ asked (File l) question = question l
 asked (NoFile e) question = refused e
 
 -- WHAT A QUESTION TO A FILE GIVES
-abbrev pub GivesAsked : Lent → (List ℕ → Layout → Answer) → Lent → ℕ → Type 0
+abbrev pub GivesAsked : Shared → (List ℕ → Layout → Answer) → Lent → ℕ → Type 0
 GivesAsked file question answer r = Gives (asked (parsed file.entry.now) (question file.entry.now)) answer r
 
 -- a row: 1, its index, and its name's kind, start and length; 0 where there is none
@@ -182,7 +182,7 @@ load_answer (Accepts a) = loaded_with 0 a 0 0
 load_answer (Refuses e) = reported (load.report_of e)
 
 -- WHAT `sbpf_load` PROMISES: what `load` promises, with demands 1 and 3, and its answer in words
-pub record GivesLoad (file builtins : Lent) (settings : ℕ) (image ro keys indices kinds starts lengths answer : Lent) (r : ℕ) : Type 0 where
+pub record GivesLoad (file builtins : Shared) (settings : ℕ) (image ro keys indices kinds starts lengths answer : Lent) (r : ℕ) : Type 0 where
   pub loads : Loads file builtins (config_of settings) image ro keys indices kinds starts lengths (answer_of (load_of_lent file builtins (config_of settings) image ro keys indices kinds starts lengths))
   pub gives : Gives (load_answer (answer_of (load_of_lent file builtins (config_of settings) image ro keys indices kinds starts lengths))) answer r
 

@@ -1,7 +1,7 @@
 -- Who wrote a byte, in words.
 use Rattle.std.specs.Prelude.{ℕ, ◌%◌, ◌^◌, ◌≡◌, Bool, List, [], ◌∷◌, length, get_or, ltb, eqb}
 use Rattle.ebpf.specs.Choice.{◌if◌else◌}
-use Rattle.program.specs.Table.{Lent, table_before, capacity}
+use Rattle.program.specs.Table.{Lent, Shared, table_before, capacity}
 use Rattle.loader.specs.declared.answer.Accepted.{Accepted}
 use Rattle.loader.specs.declared.answer.Load.{Load}
 use Rattle.loader.specs.declared.answer.Load.TheVariants.{Accepted as Accepts, Refused as Refuses}
@@ -70,15 +70,15 @@ unfoldable pub all_number : List ℕ → List ℕ → ℕ → ℕ → ℕ
 all_number file loaded n b = (0 if ltb n (length file) else code_by (wrote_in file loaded b)) if eqb (refusal_in loaded) 0 else 0
 
 -- the numbers, as they are filled
-pub record Filling (file loaded numbers : Lent) : Type 0 where
+pub record Filling (file loaded : Shared) (numbers : Lent) : Type 0 where
   pub length_as : length numbers.exit.now ≡ length numbers.entry.now
   pub tells : (b : ℕ) → get_or numbers.exit.now b 0 ≡ all_number file.entry.now loaded.entry.now (length numbers.entry.now) b
 
-abbrev pub Numbers : Lent → Lent → Lent → Answer → Type 0
+abbrev pub Numbers : Shared → Shared → Lent → Answer → Type 0
 Numbers file loaded numbers a = Filling file loaded numbers × (a ≡ all_answer file.entry.now loaded.entry.now (length numbers.entry.now))
 
 -- WHAT `sbpf_who_wrote_all` PROMISES
-pub record GivesNumbers (file loaded numbers answer : Lent) (r : ℕ) : Type 0 where
+pub record GivesNumbers (file loaded : Shared) (numbers answer : Lent) (r : ℕ) : Type 0 where
   pub fills : Filling file loaded numbers
   pub gives : Gives (all_answer file.entry.now loaded.entry.now (length numbers.entry.now)) answer r
 
@@ -94,14 +94,14 @@ load_wrote_answer (Accepts a) wrote = accepted_wrote a wrote
 load_wrote_answer (Refuses e) wrote = reported (load.report_of e)
 
 -- what comes of the load, and who wrote the byte
-abbrev pub load_wrote_of : Lent → Lent → Config → Lent → Lent → Lent → Lent → Lent → Lent → Lent → ℕ → LoadWrote
+abbrev pub load_wrote_of : Shared → Shared → Config → Lent → Lent → Lent → Lent → Lent → Lent → Lent → ℕ → LoadWrote
 load_wrote_of file builtins c image ro k i d s l offset = record {
   load = answer_of (load_of_lent file builtins c image ro k i d s l);
   wrote = wrote_of file.entry.now builtins.entry.now c (length image.entry.now) (length ro.entry.now) (capacity (table_before k i d s l)) offset;
 }
 
 -- WHAT `sbpf_load_who_wrote` PROMISES
-pub record GivesLoadWrote (file builtins : Lent) (settings : ℕ) (image ro keys indices kinds starts lengths : Lent) (offset : ℕ) (answer : Lent) (r : ℕ) : Type 0 where
+pub record GivesLoadWrote (file builtins : Shared) (settings : ℕ) (image ro keys indices kinds starts lengths : Lent) (offset : ℕ) (answer : Lent) (r : ℕ) : Type 0 where
   pub loads : LoadsAndTells file builtins (config_of settings) image ro keys indices kinds starts lengths offset (load_wrote_of file builtins (config_of settings) image ro keys indices kinds starts lengths offset)
   pub gives :
       let x : LoadWrote = load_wrote_of file builtins (config_of settings) image ro keys indices kinds starts lengths offset in

@@ -9,7 +9,7 @@ ghost use Rattle.elf_parser.specs.Names.{section_name, symbol_name, dynamic_symb
 ghost use Rattle.elf_parser.specs.Parse.{parsed};
 ghost use Rattle.elf_parser.specs.Records.{section_place_of, symbol_table_of};
 ghost use Rattle.hash_table.specs.Find.{find_symbol};
-ghost use Rattle.program.specs.Table.{lookup_in, lookup_ascending_in, row_ascending_in, index_ascending_in, table_before};
+ghost use Rattle.program.specs.Table.{lookup_in, lookup_ascending_in, row_ascending_in, index_ascending_in, slices};
 ghost use Rattle.loader.specs.GetBytes.{text_place};
 ghost use Rattle.exports.specs.Answers.{Gives, GivesAsked, GivesLoad, text_answer, parse_answer, place_answer, table_answer, symbol_answer, row_answer, index_word, row_word};
 ghost use Rattle.exports.specs.Wrote.{who_wrote_answer, GivesNumbers, GivesLoadWrote};
@@ -123,7 +123,7 @@ pub extern "C" fn sbpf_lookup(
     key: u32,
     answer: &mut [u64],
 ) -> u32
-    ensures { Gives (row_answer (lookup_in (table_before keys indices kinds starts lengths) used key)) answer result }
+    ensures { Gives (row_answer (lookup_in (slices keys.now indices.now kinds.now starts.now lengths.now) used key)) answer result }
 {
     give_row(
         answer,
@@ -144,7 +144,7 @@ pub extern "C" fn sbpf_lookup_ascending(
     key: u32,
     answer: &mut [u64],
 ) -> u32
-    ensures { Gives (row_answer (lookup_ascending_in (table_before keys indices kinds starts lengths) used key)) answer result }
+    ensures { Gives (row_answer (lookup_ascending_in (slices keys.now indices.now kinds.now starts.now lengths.now) used key)) answer result }
 {
     give_row(
         answer,

@@ -1,0 +1,18 @@
+use mathlib.Core.Path.{refl}
+use native.Mathlib.Omega.{arith}
+use borrow.Author.Tests.{le-leb, lt-leb}
+use borrow.Author.Rules.{rules}
+use Rattle.ebpf.specs.Choice.{◌if◌else◌}
+use Rattle.call_depth.proofs.marking.end_in.Reads as reads
+use Rattle.call_depth.proofs.marking.end_in.Lts as lts
+use Rattle.call_depth.proofs.marking.end_in.Goals as goal
+
+-- src/lib.rt:131:1
+pub returns-then-word-ge-BOTH : goal.returns-then-word-ge-BOTH
+unfolding ◌if◌else◌
+returns-then-word-ge-BOTH c = rw (le-leb _ _ c.if-word-ge-BOTH.true) refl
+
+-- src/lib.rt:131:1
+pub returns-else-word-ge-BOTH : goal.returns-else-word-ge-BOTH
+unfolding ◌if◌else◌
+returns-else-word-ge-BOTH c = rw (lt-leb _ _ c.if-word-ge-BOTH.false) refl

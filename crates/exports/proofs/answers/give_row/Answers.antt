@@ -1,0 +1,17 @@
+-- `exports::answers::give_row` meets its contract: the words of a row, or of none.
+-- Assumes nothing.
+use mathlib.Core.Path.{◌≡◌}
+use Rattle.program.specs.declared.Found.TheVariants.{At, Nothing}
+use Rattle.exports.proofs.Writing.{row_given, none_given}
+use borrow.Author.Rules.{rules}
+use Rattle.exports.proofs.answers.give_row.Goals as goal
+
+pub returns-in-At : goal.returns-in-At
+returns-in-At c =
+    let e : c.args.f ≡ At c.in-At.row = c.in-At.is in
+    rw e (row_given c.in-At.row c.args.answer.now _ c.give_nine.ensures)
+
+pub returns-in-Nothing : goal.returns-in-Nothing
+returns-in-Nothing c =
+    let e : c.args.f ≡ Nothing = c.in-Nothing.is in
+    rw e (none_given c.args.answer.now _ c.give_nine-in-Nothing.ensures)
