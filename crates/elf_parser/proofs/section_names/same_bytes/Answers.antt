@@ -6,10 +6,10 @@ use Rattle.elf_parser.specs.SectionNames.{same_short, same_next, same_stop, same
 use Rattle.elf_parser.proofs.section_names.same_bytes.Goals as goal
 
 pub returns-then-a-b : goal.returns-then-a-b
-returns-then-a-b c = sym (same_short _ _ c.if-a-b.true)
+returns-then-a-b c = sym (same_short _ _ (λ e. omega arith))
 
 pub loop-i-init : goal.loop-i-init
-loop-i-init c = (omega arith, c.if-a-b.false, refl)
+loop-i-init c = (omega arith, omega arith, refl)
 
 pub bounds-a-i : goal.bounds-a-i
 bounds-a-i c = omega arith
