@@ -14,10 +14,8 @@ from concurrent.futures import ThreadPoolExecutor
 HERE = os.path.dirname(os.path.realpath(__file__))
 ROOT = os.path.dirname(os.path.dirname(HERE))
 CRATES = os.path.join(ROOT, 'crates')
-KIT = os.environ.get('RATTLE_HOME') or os.path.dirname(os.path.dirname(os.path.realpath(shutil.which('rt'))))
-MACHINE = os.uname().machine
-OWN = os.path.join(KIT, 'on', MACHINE)
-TOOLS = os.path.join(OWN, 'toolchain')
+KIT = os.path.dirname(os.path.dirname(os.path.realpath(shutil.which('rt'))))
+TOOLS = os.path.join(KIT, 'toolchain')
 FLAGS = '--target=x86_64-unknown-linux-gnu -march=x86-64 -fPIE -c -x ir'.split()
 LINK = '--target x86_64-unknown-linux-gnu --toolchain'.split()
 JOBS = int(os.environ.get('JOBS', 1))
@@ -91,12 +89,19 @@ class Builder:
     def __init__(self, level):
         self.level, self.room = level, tempfile.TemporaryDirectory()
         self.kit, self.module, self.copy = (os.path.join(self.room.name, x) for x in ('kit', 'module.bc', 'copy'))
-        clang = ['on', MACHINE, 'toolchain', 'bin', 'clang']
+        clang = ['toolchain', 'bin', 'clang']
         mirror(KIT, self.kit, clang)
+        # `rt` finds its kit by its own place
+        os.remove(os.path.join(self.kit, 'bin'))
+        mirror(os.path.join(KIT, 'bin'), os.path.join(self.kit, 'bin'), ['rt'])
+        for name in ('rt', 'rtlib.py'):
+            path = os.path.join(self.kit, 'bin', name)
+            if os.path.lexists(path): os.remove(path)
+            shutil.copy(os.path.join(KIT, 'bin', name), path)
         path = os.path.join(self.kit, *clang)
         with open(path, 'w') as f: f.write(f'#!/bin/sh\ncp module.bc {self.module}\nexit 1\n')
         os.chmod(path, 0o755)
-        without = shutil.ignore_patterns('proofs', 'specs', 'must-fail', 'stdin', 'stdout')
+        without = shutil.ignore_patterns('proofs', 'must-fail', 'stdin', 'stdout', 'out')
         shutil.copytree(CRATES, os.path.join(self.copy, 'crates'), ignore=without)
         shutil.copy(os.path.join(ROOT, 'crates.txt'), self.copy)
 
@@ -104,7 +109,8 @@ class Builder:
         """Whether a program with these texts compiles; its module."""
         if os.path.exists(self.module): os.remove(self.module)
         for path, text in texts.items(): open(os.path.join(self.copy, 'crates', path), 'w').write(text)
-        subprocess.run(['rt', 'try', program], cwd=self.copy, env=dict(os.environ, RATTLE_HOME=self.kit), capture_output=True)
+        rt = os.path.join(self.kit, 'bin', 'rt')
+        subprocess.run([rt, 'try'], cwd=os.path.join(self.copy, 'crates', program), stdin=subprocess.DEVNULL, capture_output=True)
         for path in texts: shutil.copy(os.path.join(CRATES, path), os.path.join(self.copy, 'crates', path))
         return os.path.exists(self.module)
 
@@ -112,7 +118,7 @@ class Builder:
         """The path of a program with a wrong change; None where that does not compile."""
         if not self.lower(program, wrong.texts): return None
         object, to = self.module + '.o', os.path.join(self.room.name, program)
-        clang, link = os.path.join(TOOLS, 'bin', 'clang'), os.path.join(OWN, 'bin', 'rattle-link')
+        clang, link = os.path.join(TOOLS, 'bin', 'clang'), os.path.join(KIT, 'bin', 'rattle-link')
         subprocess.run([clang, *FLAGS, self.level, self.module, '-o', object, f'--sysroot={TOOLS}'], check=True)
         subprocess.run([link, *LINK, TOOLS, '-o', to, object], check=True, capture_output=True)
         return to

@@ -21,6 +21,9 @@ pub(crate) fn is_call(file: &[u8], text: Text, i: usize) -> bool
     }
 }
 
+// Where a slot's immediate starts: it has the last four bytes of eight.
+const IMMEDIATE: u64 = 4;
+
 // The call that has the byte in its immediate, else the file.
 pub(crate) fn call_writer(file: &[u8], text: Text, b: u64) -> Writer
     requires { Askable file.now text × (b < length file.now) }
@@ -31,7 +34,7 @@ pub(crate) fn call_writer(file: &[u8], text: Text, b: u64) -> Writer
         return Writer::File;
     }
     let d = b - start;
-    if d % 8 < 4 {
+    if d % 8 < IMMEDIATE {
         return Writer::File;
     }
     let i = (d / 8) as usize;
