@@ -2,3 +2,4 @@
 mod Stores
 mod Tenths
 mod Listed
+mod Inputs
