@@ -1,6 +1,6 @@
 /* Prints the parse of a file: its tables, and its sections with their names and places.
  *
- *     rt staticlib exports
+ *     tools/staticlib.sh
  *     cc -Iinclude include/example.c target/staticlib/libexports.a -o target/example
  *     target/example FILE
  */

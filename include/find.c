@@ -1,7 +1,7 @@
 /* Finds a dynamic symbol of a file by its name, and prints `symbol` with its number, or `none`, or
  * `refused` with number and name.
  *
- *     rt staticlib exports
+ *     tools/staticlib.sh
  *     cc -Iinclude include/find.c target/staticlib/libexports.a -o target/find
  *     target/find FILE NAME
  */

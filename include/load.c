@@ -3,7 +3,7 @@
  * length; or `accepted` with version, entry, keys and moves, and a line for each row, by rising key:
  * key, index, name kind.
  *
- *     rt staticlib exports
+ *     tools/staticlib.sh
  *     cc -Iinclude include/load.c target/staticlib/libexports.a -o target/load
  *     target/load FILE
  */

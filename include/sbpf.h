@@ -1,5 +1,5 @@
 /* The proved functions of crates/exports, for C. Build the archive with
- * `rt staticlib exports` and link target/staticlib/libexports.a (x86-64 Linux).
+ * `tools/staticlib.sh` and link target/staticlib/libexports.a (x86-64 Linux).
  *
  * A slice is a pointer and a length in elements; the pointer is not null, also where the length
  * is 0, and lent slices do not overlap. The functions demand nothing else, always return, and

@@ -2,7 +2,7 @@
  * line for each run of bytes with one writer, its start, its length, and `file`, or `call` or
  * `relocation` with its number; or `refused` with number and name.
  *
- *     rt staticlib exports
+ *     tools/staticlib.sh
  *     cc -Iinclude include/writers.c target/staticlib/libexports.a -o target/writers
  *     target/writers FILE
  */

@@ -1,5 +1,5 @@
 //! Links the proved library, target/staticlib/libexports.a of the repository
-//! (`rt staticlib exports`), or the one in the folder that EXPORTS_LIB names.
+//! (`tools/staticlib.sh`), or the one in the folder that EXPORTS_LIB names.
 use std::{env, path::PathBuf};
 
 fn main() {
@@ -14,7 +14,7 @@ fn main() {
     let archive = folder.join("libexports.a");
     assert!(
         archive.is_file(),
-        "no {}: run `rt staticlib exports` in the repository first",
+        "no {}: run `tools/staticlib.sh` of the repository first",
         archive.display()
     );
     println!("cargo:rerun-if-changed={}", archive.display());

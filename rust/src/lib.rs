@@ -18,7 +18,7 @@ const ROW_WORDS: usize = 9;
 const NONE: u64 = u64::MAX;
 
 /// The exported functions, in the order of include/sbpf.h and with its arguments: a slice is a
-/// pointer and its length in elements. Nothing checks them against crates/exports/src/lib.rt.
+/// pointer and its length in elements. Nothing checks them against crates/exports_c/src/lib.rt.
 mod c {
     extern "C" {
         pub fn sbpf_hash(name: *const u8, name_len: usize) -> u32;

@@ -1,5 +1,5 @@
 //! Links the proved library, target/staticlib/libexports.a of the repository
-//! (`rt staticlib exports`), or the one in the folder that EXPORTS_LIB names.
+//! (`tools/staticlib.sh`), or the one in the folder that EXPORTS_LIB names.
 //! EXPORTS_LIB=none builds the Rust's side alone: cases, expected answers, vectors.
 //!
 //! What the library has is read from its symbols, so that one source builds with each state of
@@ -23,7 +23,7 @@ fn main() {
     let archive = folder.join("libexports.a");
     assert!(
         archive.is_file(),
-        "no {}: run `rt staticlib exports` in the repository first, or set EXPORTS_LIB=none",
+        "no {}: run `tools/staticlib.sh` of the repository first, or set EXPORTS_LIB=none",
         archive.display()
     );
     println!("cargo:rerun-if-changed={}", archive.display());

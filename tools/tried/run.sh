@@ -10,7 +10,7 @@ cd "$copy/repository"
 crates=${*:-$(cd "$here" && ls -d */ | tr -d /)}
 rm -f crates/*/must-fail/*.edit
 for crate in $crates; do
+    mkdir -p "crates/$crate/must-fail"
     cp "$here/$crate"/*.edit "crates/$crate/must-fail/"
 done
-rt check $crates
 rt must-fail $crates

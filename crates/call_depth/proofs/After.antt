@@ -1,39 +1,37 @@
 -- After an accepted load the question has its numbers: the text stands in the image, the used rows are few, and a row has the entry's index.
 -- Assumes nothing.
-use Prim.Native.Nat.{ℕ, zero, suc, ◌+◌, ◌-◌, ◌≤◌, ◌<◌, ◌^◌, min}
+use Prim.Native.Nat.{ℕ, zero, suc, ◌+◌, ◌-◌, ◌≤◌, ◌<◌, ◌^◌}
 use mathlib.Core.Path.{◌≡◌, refl, sym, ap, ◌∙◌}
-use mathlib.Core.Bool.{Bool, true, false, ◌&&◌, not, true≢false}
-use mathlib.Core.List.{List, [], ◌∷◌, ◌++◌}
+use mathlib.Core.Bool.{Bool, true, false, true≢false}
+use mathlib.Core.List.{List, [], ◌∷◌}
 use mathlib.Core.Logic.{◌⊎◌, inl, inr}
 use native.Mathlib.Omega.{arith}
 use lib.ListN.{length, get_or, take, replicate, length-append, length-replicate}
 use lib.Seq.{length-take-le, get_or-take}
-use lib.Dec.{ltb, leb, eqb}
 use borrow.Author.Tests.{le-leb, lt-ltb, le-ltb, eq-eqb}
 use Rattle.ebpf.specs.Choice.{◌if◌else◌}
 use Rattle.program.specs.declared.Row.{Row}
-use Rattle.program.specs.declared.Found.TheVariants.{At, Nothing}
+use Rattle.program.specs.declared.Found.TheVariants.{At}
 use Rattle.program.specs.declared.FunctionName.{FunctionName}
 use Rattle.program.specs.declared.FunctionName.TheVariants.{Entrypoint}
 use Rattle.program.specs.declared.Legacy.TheVariants.{Free, Taken}
 use Rattle.program.specs.declared.FoundRow.{FoundRow}
 use Rattle.program.specs.declared.FoundRow.TheVariants.{At as AtRow, Nothing as NoRow}
 use Rattle.program.specs.Search.{index_of}
-use Rattle.program.specs.Table.{Slices, Lent, Shared, table_before, table_after, least, capacity, lookup_in, row_ascending_in, row_of_found, row_at, lay, Ready as IsTable}
+use Rattle.program.specs.Table.{Slices, Lent, Shared, table_before, table_after, least, capacity, lookup_in, row_ascending_in, row_of_found, row_at, Ready as IsTable}
 use Rattle.program.specs.HashedLegacy.{legacy_row}
 use Rattle.program.proofs.Cases.{by_eq, zero_one}
 use Rattle.program.proofs.Steps.{row_below}
 use Rattle.program.proofs.Tables.{lookups_agree, row_agrees}
 use Rattle.loader.specs.declared.answer.Accepted.{Accepted}
 use Rattle.loader.specs.declared.answer.Load.{Load}
-use Rattle.loader.specs.declared.answer.Load.TheVariants.{Accepted as Accepts, Refused as Refuses}
+use Rattle.loader.specs.declared.answer.Load.TheVariants.{Accepted as Accepts}
 use Rattle.loader.specs.declared.read_only.Placing.{Placing}
 use Rattle.loader.specs.declared.read_only.Placing.TheVariants.{Borrowed, Owned, Refused as NotPlaced}
 use Rattle.loader.specs.declared.validate.Config.{Config}
 use Rattle.loader.specs.declared.validate.Job.{Job}
 use Rattle.loader.specs.declared.validate.Prepared.{Prepared}
 use Rattle.loader.specs.declared.validate.Prepared.TheVariants.{Ready, Refused as NotReady}
-use Rattle.loader.specs.InnerContracts.{InFile}
 use Rattle.loader.specs.Deeds.{deed_trace}
 use Rattle.loader.specs.Demand.{Finds, entry_index, OfEntry, name_key, IsNameKey, Entry, Others, Demand3}
 use Rattle.loader.specs.Entry.{forget_trace, entry_deed, entry_trace}

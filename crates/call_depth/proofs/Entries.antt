@@ -1,13 +1,13 @@
 -- The first row with an index, in what is left of a column; a slot that is no call.
 -- Assumes nothing.
 use Prim.Native.Nat.{ℕ, suc, ◌+◌, ◌*◌, ◌/◌, ◌≤◌, ◌<◌}
-use mathlib.Core.Path.{◌≡◌, refl, sym}
-use mathlib.Core.Bool.{Bool, true, false, ◌&&◌, not}
+use mathlib.Core.Path.{◌≡◌, refl}
+use mathlib.Core.Bool.{Bool, true, false}
 use mathlib.Core.List.{List, [], ◌∷◌}
 use native.Mathlib.Omega.{arith}
 use native.Mathlib.Numerals.{add-one}
 use lib.ListN.{length, get_or, drop, drop_of_length-le}
-use lib.Dec.{leb, eqb}
+use lib.Dec.{leb}
 use lib.Seq.{drop-cons}
 use borrow.Author.Tests.{eq-eqb, ne_eqb}
 use Rattle.ebpf.specs.Choice.{◌if◌else◌}
@@ -16,7 +16,7 @@ use Rattle.ebpf.specs.declared.Slot.TheVariants.{Holds, Past}
 use Rattle.ebpf.specs.LittleEndian.{le_byte}
 use Rattle.program.specs.Search.{index_of}
 use Rattle.program.proofs.Cases.{by_eq}
-use Rattle.call_depth.specs.Called.{calls_key, row_under, callee_by, callee_in}
+use Rattle.call_depth.specs.Called.{calls_key, callee_by, callee_in}
 
 pub first_hit : (xs : List ℕ) (r k : ℕ) → r < length xs → get_or xs r 0 ≡ k → index_of k (drop r xs) ≡ 0
 unfolding ◌if◌else◌

@@ -1,9 +1,9 @@
 -- A load uses few rows: no more than are lent, and no more than it has calls, relocations and labels, and one for the entry.
 -- Assumes nothing.
 use Prim.Native.Nat.{ℕ, zero, suc, ◌+◌, ◌≤◌, ◌^◌}
-use mathlib.Core.Path.{◌≡◌, refl, sym}
+use mathlib.Core.Path.{◌≡◌}
 use mathlib.Core.Bool.{Bool, true, false}
-use mathlib.Core.List.{List, [], ◌∷◌}
+use mathlib.Core.List.{List, []}
 use native.Mathlib.Omega.{arith}
 use lib.ListN.{length}
 use Rattle.program.specs.declared.Row.{Row}
@@ -24,7 +24,7 @@ use Rattle.loader.specs.Entry.{forget_trace, entry_deed, entry_trace}
 use Rattle.loader.specs.Labels.{label_symbols, label_count, label_deed, label_trace, labels_trace, few_symbols}
 use Rattle.loader.specs.Parts.{writing_trace, naming_trace, placed_trace, job_trace}
 use Rattle.loader.specs.Relocations.{relocation_count, relocation_deed, relocation_trace, relocations_trace}
-use Rattle.loader.specs.Trace.{Trace, done, stop, register, forget, and_then, each, Settled, accepted, settle}
+use Rattle.loader.specs.Trace.{Trace, done, stop, register, forget, and_then, each, accepted, settle}
 use Rattle.loader.proofs.Counting.{remove_le}
 use Rattle.loader.proofs.Traces.{Went, went}
 

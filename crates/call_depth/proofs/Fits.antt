@@ -1,16 +1,16 @@
 -- What the tests of an answer say of its numbers.
 -- Assumes nothing.
-use Prim.Native.Nat.{ℕ, ◌+◌, ◌/◌, ◌≤◌, ◌<◌}
+use Prim.Native.Nat.{ℕ, ◌+◌, ◌≤◌, ◌<◌}
 use mathlib.Core.Path.{◌≡◌, refl, sym, ◌∙◌}
-use mathlib.Core.Bool.{Bool, true, false, ◌&&◌, not, true≢false}
+use mathlib.Core.Bool.{Bool, true, false, ◌&&◌, not}
 use mathlib.Core.List.{List}
 use native.Mathlib.Omega.{arith}
-use lib.ListN.{length, take, drop, length-take, length-drop}
+use lib.ListN.{length, take, drop, length-take}
 use lib.Seq.{length-take-le}
 use lib.Dec.{ltb, leb}
 use borrow.Author.Tests.{leb-true, ltb-true, ltb-false}
 use Rattle.ebpf.specs.Choice.{and_left, and_right}
-use Rattle.call_depth.specs.Called.{slots_in, WorkLent}
+use Rattle.call_depth.specs.Called.{WorkLent}
 use Rattle.call_depth.specs.Asked.{fits_in}
 
 pub record AnswerFits (rows len used start n : ℕ) : Type 0 where

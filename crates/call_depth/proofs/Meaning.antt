@@ -1,21 +1,20 @@
 -- What the answers about an accepted load mean: calls by the lookup, chains, and what comes back.
 -- Assumes nothing.
-use Prim.Native.Nat.{ℕ, ◌+◌, ◌≤◌, ◌<◌, ◌^◌, min}
-use mathlib.Core.Path.{◌≡◌, refl, sym, ap, subst, ◌∙◌}
+use Prim.Native.Nat.{ℕ, ◌≤◌, ◌<◌, ◌^◌, min}
+use mathlib.Core.Path.{◌≡◌, refl, sym, ap, ◌∙◌}
 use mathlib.Core.Bool.{Bool, true, false}
 use mathlib.Core.List.{List}
 use native.Mathlib.Omega.{arith}
 use mathlib.Core.Logic.{◌↔◌}
 use lib.ListN.{length, get_or, take, get_or-eq_default}
 use lib.Seq.{length-take-le, get_or-take, take-take}
-use lib.Dec.{ltb, leb, eqb}
+use lib.Dec.{ltb, eqb}
 use borrow.Author.Tests.{le-ltb, lt-leb}
 use Rattle.ebpf.specs.Choice.{◌if◌else◌}
 use Rattle.ebpf.specs.Instructions.{insn_at}
 use Rattle.ebpf.specs.declared.Insn.{Insn}
 use Rattle.ebpf.specs.declared.Slot.{Slot}
 use Rattle.ebpf.specs.declared.Slot.TheVariants.{Holds, Past}
-use Rattle.program.specs.declared.Found.TheVariants.{At}
 use Rattle.program.specs.declared.FoundRow.{FoundRow}
 use Rattle.program.specs.declared.FoundRow.TheVariants.{At as AtRow, Nothing as NoRow}
 use Rattle.program.specs.Search.{index_of, binary_search}
@@ -27,7 +26,7 @@ use Rattle.call_graph.specs.declared.Depth.{Depth}
 use Rattle.call_graph.specs.declared.Depth.TheVariants.{Deep as IsDeep, Recursive as IsRecursive}
 use Rattle.call_graph.specs.Answer.{depth_of}
 use Rattle.call_graph.specs.Profile.{Profile, CallsFunction, Answers}
-use Rattle.call_graph.specs.Ways.{Reaches, Calling, Longest, Smallest}
+use Rattle.call_graph.specs.Ways.{Reaches, Calling}
 use Rattle.call_graph.proofs.Equation.{answer_means}
 use Rattle.call_graph.proofs.Ways.{longest_as, smallest_as, no_return}
 use Rattle.loader.specs.declared.answer.Accepted.{Accepted}
@@ -38,10 +37,10 @@ use Rattle.loader.specs.declared.validate.Config.{Config}
 use Rattle.loader.specs.Demand.{Finds}
 use Rattle.call_depth.specs.declared.CallDepth.{CallDepth}
 use Rattle.call_depth.specs.declared.CallDepth.TheVariants.{Deep, RecursiveCall, TooDeep, Refused}
-use Rattle.call_depth.specs.Called.{calls_key, row_or, callee_by, callee_in, profile_in}
+use Rattle.call_depth.specs.Called.{calls_key, row_or, callee_by, callee_in}
 use Rattle.call_depth.specs.Asked.{limit_of, limited, depth_in, depth_by, depth_asked}
 use Rattle.call_depth.specs.Loads.{MeansOf}
-use Rattle.call_depth.specs.Meaning.{text_of_image, used_indices, profile_after, SlotCalls, Owns, FunctionCalls, Means}
+use Rattle.call_depth.specs.Meaning.{text_of_image, used_indices, profile_after, SlotCalls, FunctionCalls, Means}
 use Rattle.call_depth.proofs.Entries.{first_at}
 use Rattle.call_depth.proofs.After.{found_row, Made, fits_after, entry_after}
 

@@ -1,5 +1,5 @@
 -- Which function a slot of the image calls: by the text's bytes in the image, and the columns of keys and indices of the used rows.
-use Rattle.std.specs.Prelude.{ℕ, ◌/◌, ◌≤◌, ◌<◌, ◌≡◌, Bool, ◌&&◌, not, List, length, get_or, eqb}
+use Rattle.std.specs.Prelude.{ℕ, ◌/◌, ◌<◌, ◌≡◌, Bool, ◌&&◌, not, List, length, eqb}
 use Rattle.std.specs.Borrow.{Bor}
 use Rattle.ebpf.specs.Choice.{◌if◌else◌}
 use Rattle.ebpf.specs.Instructions.{insn_at}
@@ -10,7 +10,6 @@ use Rattle.program.specs.declared.FoundRow.{FoundRow}
 use Rattle.program.specs.declared.FoundRow.TheVariants.{At, Nothing}
 use Rattle.program.specs.Table.{Shared, row_ascending_in}
 use Rattle.call_graph.specs.Profile.{Profile, next_above, nth_of}
-use Rattle.call_graph.specs.Words.{Sized, WordsReady}
 
 -- a call by a key: opcode 0x85, and in version 2 source not 0
 unfoldable pub calls_key : Bool → Insn → Bool

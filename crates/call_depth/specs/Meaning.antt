@@ -1,11 +1,11 @@
 -- What the answers say of an accepted load, in the words of the request.
-use Rattle.std.specs.Prelude.{ℕ, ◌+◌, ◌*◌, ◌≤◌, ◌<◌, ◌≡◌, Bool, true, ◌&&◌, not, List, length, take, drop, eqb}
+use Rattle.std.specs.Prelude.{ℕ, ◌≤◌, ◌<◌, ◌≡◌, true, List, take, drop, eqb}
 use Rattle.ebpf.specs.Instructions.{insn_at}
 use Rattle.ebpf.specs.declared.Insn.{Insn}
 use Rattle.ebpf.specs.declared.Slot.TheVariants.{Holds}
 use Rattle.program.specs.Table.{Slices, lookup_in}
 use Rattle.call_graph.specs.Ways.{Longest, Smallest}
-use Rattle.call_graph.specs.Profile.{Profile, CallsFunction, next_above}
+use Rattle.call_graph.specs.Profile.{Profile, next_above}
 use Rattle.loader.specs.declared.answer.Accepted.{Accepted}
 use Rattle.loader.specs.Demand.{Finds}
 use Rattle.call_depth.specs.declared.CallDepth.{CallDepth}

@@ -7,7 +7,7 @@ use mathlib.Core.Logic.{◌⊎◌, inl, inr, ⊎_elim}
 use native.Mathlib.Omega.{arith}
 use lib.Dec.{ltb, eqb}
 use Rattle.ebpf.specs.Choice.{◌if◌else◌}
-use borrow.Author.Tests.{ltb-true, ltb-false, lt-ltb, le-ltb, eqb-true, eq-eqb}
+use borrow.Author.Tests.{ltb-true, lt-ltb, le-ltb, eqb-true, eq-eqb}
 use Rattle.call_graph.specs.Ways.{Way, Reaches, Calling, Longest, Smallest}
 use Rattle.call_graph.specs.Profile.{Profile, CallsFunction, Answers}
 use Rattle.call_graph.specs.Marks.{RowCalls}

@@ -1,27 +1,24 @@
 -- The words changed one by one; the rows that are left; the smallest index.
 -- Assumes nothing.
 use Prim.Native.Nat.{ℕ, zero, suc, ◌+◌, ◌-◌, ◌≤◌, ◌<◌}
-use mathlib.Core.Path.{◌≡◌, refl, sym, ◌∙◌, ap, subst}
+use mathlib.Core.Path.{◌≡◌, refl, sym, ◌∙◌, ap}
 use mathlib.Core.Bool.{Bool, true, false}
-use mathlib.Core.List.{List, [], ◌∷◌}
-use mathlib.Core.Logic.{◌⊎◌, inl, inr, ⊎_elim}
+use mathlib.Core.List.{List}
+use mathlib.Core.Logic.{◌⊎◌, inl, ⊎_elim}
 use native.Mathlib.Omega.{arith}
-use native.Mathlib.Numerals.{add-one}
 use lib.ListN.{length, get_or, set, length-set, get_or-eq_default}
 use lib.Seq.{ext_get_or}
-use lib.Dec.{ltb, leb, eqb}
+use lib.Dec.{ltb, eqb}
 use Rattle.ebpf.specs.Choice.{◌if◌else◌}
-use borrow.Author.Tests.{ltb-true, ltb-false, eqb-true, eqb-false, lt-ltb, le-ltb, le-leb, lt-leb}
-use Rattle.call_graph.specs.Ways.{Way, Reaches, Calling, Longest, Smallest}
-use Rattle.call_graph.specs.Profile.{Profile, CallsFunction, Answers}
-use Rattle.call_graph.specs.declared.Depth.TheVariants.{Deep, Recursive}
-use Rattle.call_graph.specs.Words.{FLAG, settled_in, unsettled, Sized, Good, Stuck, Still, Exhausted, WordsReady}
-use Rattle.call_graph.specs.Marks.{MARK, BOTH, RowCalls, Looping, Harmless, Idle, Shaped, Grown, Closed, MarksSound, Spread, Plain, Each, bare, keep, Open, Lowest, Kept, Begun, Tested, Short, Spotted}
+use borrow.Author.Tests.{ltb-true, ltb-false, le-leb, lt-leb}
+use Rattle.call_graph.specs.Ways.{Way, Reaches, Calling, Smallest}
+use Rattle.call_graph.specs.Profile.{Profile, CallsFunction}
+use Rattle.call_graph.specs.Words.{FLAG, settled_in, unsettled, Sized, Good, WordsReady}
+use Rattle.call_graph.specs.Marks.{MARK, BOTH, RowCalls, Looping, Harmless, Idle, Shaped, Grown, Spread, Plain, Each, bare, keep, Open, Lowest, Kept, Begun, Tested, Short, Spotted}
 use Rattle.program.proofs.Cases.{by_lt, by_le, by_eq}
 use Rattle.call_graph.proofs.Scans.{below_or}
 use Rattle.call_graph.proofs.Settling.{at_set, settled_set, settled_le}
-use Rattle.call_graph.proofs.Marking.{inside, calling_more, shaped_kept}
-use Rattle.call_graph.proofs.Ways.{join, no_return}
+use Rattle.call_graph.proofs.Marking.{inside, calling_more}
 use Rattle.call_graph.proofs.Loops.{reach_then, reach_more, looping_back, last_call, there_back, project, lift, way_row, settled_harmless, marked_from, stuck_loops}
 
 -- a number after another

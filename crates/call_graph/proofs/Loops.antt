@@ -1,24 +1,18 @@
 -- What reaches itself: it exists where passes stop short of the entry, and the marks find it.
 -- Assumes nothing.
 use Prim.Native.Nat.{ℕ, zero, suc, ◌+◌, ◌-◌, ◌≤◌, ◌<◌}
-use mathlib.Core.Path.{◌≡◌, refl, sym, ◌∙◌, ap, subst}
+use mathlib.Core.Path.{◌≡◌, refl, sym, ◌∙◌, ap}
 use mathlib.Core.Bool.{Bool, true, false}
-use mathlib.Core.List.{List, [], ◌∷◌}
-use mathlib.Core.Logic.{◌⊎◌, inl, inr, ⊎_elim}
+use mathlib.Core.List.{List}
 use native.Mathlib.Omega.{arith}
-use native.Mathlib.Numerals.{add-one}
-use lib.ListN.{length, get_or, set, length-set, get_or-eq_default}
-use lib.Seq.{ext_get_or}
-use lib.Dec.{ltb, leb, eqb}
-use borrow.Author.Tests.{ltb-true, ltb-false, eqb-true, eqb-false, lt-ltb, le-ltb, le-leb, lt-leb}
-use Rattle.call_graph.specs.Ways.{Way, Reaches, Calling, Longest, Smallest}
+use lib.ListN.{get_or}
+use lib.Dec.{ltb}
+use borrow.Author.Tests.{ltb-true, ltb-false}
+use Rattle.call_graph.specs.Ways.{Way, Reaches, Calling, Longest}
 use Rattle.call_graph.specs.Profile.{Profile, CallsFunction}
-use Rattle.call_graph.specs.Words.{FLAG, Sized, Good, Stuck, Still, Exhausted, WordsReady}
-use Rattle.call_graph.specs.Marks.{MARK, BOTH, RowCalls, Looping, Harmless, Shaped, Grown, Closed, MarksSound, Spread, Plain, Each, bare, keep, Open, Begun}
-use Rattle.program.proofs.Cases.{by_lt, by_le, by_eq}
-use Rattle.call_graph.proofs.Scans.{below_or}
-use Rattle.call_graph.proofs.Settling.{at_set}
-use Rattle.call_graph.proofs.Marking.{inside, calling_more, shaped_kept}
+use Rattle.call_graph.specs.Words.{FLAG, Exhausted}
+use Rattle.call_graph.specs.Marks.{BOTH, RowCalls, Looping, Closed}
+use Rattle.call_graph.proofs.Marking.{inside}
 use Rattle.call_graph.proofs.Ways.{join, no_return}
 use Rattle.call_graph.proofs.Pigeons.{pigeons}
 

@@ -1,22 +1,21 @@
 -- Rows marked, one after another.
 -- Assumes nothing.
-use Prim.Native.Nat.{ℕ, zero, suc, ◌+◌, ◌-◌, ◌≤◌, ◌<◌}
-use mathlib.Core.Path.{◌≡◌, refl, sym, ◌∙◌, subst}
+use Prim.Native.Nat.{ℕ, ◌+◌, ◌-◌, ◌≤◌, ◌<◌}
+use mathlib.Core.Path.{◌≡◌, refl, sym, ◌∙◌}
 use mathlib.Core.Bool.{Bool, true, false}
-use mathlib.Core.List.{List, [], ◌∷◌}
+use mathlib.Core.List.{List}
 use mathlib.Core.Logic.{◌⊎◌, inl, inr, ⊎_elim}
 use native.Mathlib.Omega.{arith}
 use native.Mathlib.Numerals.{add-one}
 use lib.ListN.{length, get_or, set, length-set, get_or-eq_default}
-use lib.Seq.{get_or-set_same, get_or-set_other, ext_get_or}
-use lib.Dec.{ltb, leb, eqb}
-use borrow.Author.Tests.{ltb-true, ltb-false, eqb-true, eqb-false, lt-ltb, le-ltb, le-leb, lt-leb}
-use Rattle.call_graph.specs.Ways.{Way, Reaches, Calling, Longest}
-use Rattle.call_graph.specs.Profile.{Profile, CallsFunction}
-use Rattle.call_graph.specs.Words.{FLAG, count_in, Sized}
-use Rattle.call_graph.specs.Marks.{MARK, BOTH, marked_in, RowCalls, Looping, Harmless, Shaped, Grown, Marking, Slots, always, Closed, Followed, MarksSound, Round, Circled, Spread, Plain, Each, bare, keep, Open, Tested, Begun, end_in, Spot, Spotted}
+use lib.Seq.{get_or-set_same}
+use lib.Dec.{ltb, leb}
+use borrow.Author.Tests.{ltb-true, ltb-false, le-leb, lt-leb}
+use Rattle.call_graph.specs.Ways.{Calling}
+use Rattle.call_graph.specs.Profile.{Profile}
+use Rattle.call_graph.specs.Words.{FLAG}
+use Rattle.call_graph.specs.Marks.{MARK, BOTH, marked_in, RowCalls, Shaped, Grown, Marking, Slots, always, Closed, Followed, MarksSound, Round, Circled, Spread, Begun, end_in, Spot, Spotted}
 use Rattle.ebpf.specs.Choice.{◌if◌else◌}
-use Rattle.program.proofs.Cases.{by_test, by_lt, by_le}
 use Rattle.call_graph.proofs.Scans.{below_or}
 use Rattle.call_graph.proofs.Settling.{at_set, count_le, count_set}
 use Rattle.call_graph.proofs.Ways.{join}

@@ -9,7 +9,6 @@ use lib.Dec.{eqb}
 use borrow.Author.Tests.{eqb-true, eqb-false}
 use Rattle.program.proofs.Cases.{by_eq}
 use Rattle.call_graph.proofs.Scans.{below_or}
-use native.Mathlib.Numerals.{add-one}
 use Rattle.ebpf.specs.Choice.{◌if◌else◌}
 
 find : (m : ℕ) (h : ℕ → ℕ) (v : ℕ) → ((i : ℕ) × (i < m) × (h i ≡ v)) ⊎ ((i : ℕ) → i < m → h i ≡ v → ⊥)

@@ -1,12 +1,11 @@
 -- A row is settled when all that it calls is.
 -- Assumes nothing.
 use Prim.Native.Nat.{ℕ, zero, suc, ◌+◌, ◌-◌, ◌≤◌, ◌<◌}
-use mathlib.Core.Path.{◌≡◌, refl, sym, ◌∙◌, subst}
+use mathlib.Core.Path.{◌≡◌, refl, ◌∙◌}
 use mathlib.Core.Bool.{Bool, true, false}
 use mathlib.Core.List.{List, [], ◌∷◌}
-use mathlib.Core.Logic.{◌⊎◌, inl, inr, ⊎_elim}
+use mathlib.Core.Logic.{⊎_elim}
 use native.Mathlib.Omega.{arith}
-use native.Mathlib.Numerals.{add-one}
 use lib.ListN.{length, get_or, set, length-set, get_or-eq_default}
 use lib.Seq.{get_or-set_same, get_or-set_other}
 use lib.Dec.{ltb, eqb}
@@ -14,7 +13,7 @@ use Rattle.ebpf.specs.Choice.{◌if◌else◌}
 use borrow.Author.Tests.{ltb-true, ltb-false, eqb-true, eqb-false, lt-ltb, le-ltb}
 use Rattle.call_graph.specs.Ways.{Way, Longest}
 use Rattle.call_graph.specs.Profile.{Profile, CallsFunction}
-use Rattle.call_graph.specs.Words.{FLAG, count_in, settled_in, Sized, Good, Stuck, Still, OverSlots, Scan, WordsReady, RowTried, Passing, Stopped}
+use Rattle.call_graph.specs.Words.{FLAG, count_in, settled_in, Sized, Good, Stuck, OverSlots, Scan, WordsReady, RowTried, Passing, Stopped}
 use Rattle.program.proofs.Cases.{by_test}
 use Rattle.call_graph.proofs.Scans.{below_or}
 

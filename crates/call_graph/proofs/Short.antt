@@ -1,13 +1,12 @@
 -- A way through n numbers or more: a shorter one, and a longer one.
 -- Assumes nothing.
 use Prim.Native.Nat.{ℕ, zero, suc, ◌+◌, ◌≤◌, ◌<◌}
-use mathlib.Core.Path.{◌≡◌, refl, sym, ◌∙◌}
+use mathlib.Core.Path.{◌≡◌, refl}
 use mathlib.Core.Bool.{Bool, true, false}
-use mathlib.Core.Logic.{◌⊎◌, inl, inr, ⊎_elim}
 use native.Mathlib.Omega.{arith}
 use lib.Dec.{ltb}
 use borrow.Author.Tests.{ltb-true, ltb-false}
-use Rattle.call_graph.specs.Ways.{Way, Reaches, Calling, Longest}
+use Rattle.call_graph.specs.Ways.{Way, Reaches, Calling}
 use Rattle.call_graph.proofs.Ways.{join}
 use Rattle.call_graph.proofs.Pigeons.{pigeons}
 

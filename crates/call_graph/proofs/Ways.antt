@@ -1,7 +1,7 @@
 -- Ways: joined, gone round again and again, and cut off by a longest chain; by two relations that say the same.
 -- Assumes nothing.
 use Prim.Native.Nat.{ℕ, zero, suc, ◌+◌, ◌≤◌, ◌<◌}
-use mathlib.Core.Path.{◌≡◌, refl, sym}
+use mathlib.Core.Path.{◌≡◌, refl}
 use native.Mathlib.Omega.{arith}
 use Rattle.call_graph.specs.Ways.{Way, Reaches, Calling, Longest, Smallest}
 

@@ -1,5 +1,5 @@
 -- The answer as a computed function, by fuel. What it means is `Answers` (`answer_is` in proofs/Equation.antt).
-use Rattle.std.specs.Prelude.{ℕ, zero, suc, ◌+◌, ◌-◌, ◌≤◌, ◌<◌, max, min, ◌≡◌, refl, Bool, true, false, ◌&&◌, ◌||◌, List, [], ◌∷◌, ltb, eqb}
+use Rattle.std.specs.Prelude.{ℕ, zero, suc, ◌-◌, max, min, ◌≡◌, refl, Bool, false, ◌&&◌, ◌||◌, [], ◌∷◌, ltb, eqb}
 use Rattle.ebpf.specs.Choice.{◌if◌else◌}
 use Rattle.call_graph.specs.Profile.{Profile, profile}
 use Rattle.call_graph.specs.declared.Depth.{Depth}

@@ -1,8 +1,8 @@
 -- Marks on rows that are not settled: 2^30 more in the word.
-use Rattle.std.specs.Prelude.{ℕ, zero, suc, ◌+◌, ◌-◌, ◌≤◌, ◌<◌, ◌≡◌, Bool, true, false, ◌||◌, List, [], ◌∷◌, ◌⊎◌, length, get_or, ltb, leb, eqb}
+use Rattle.std.specs.Prelude.{ℕ, ◌+◌, ◌-◌, ◌≤◌, ◌<◌, ◌≡◌, List, ◌⊎◌, length, get_or, ltb, leb, eqb}
 use Rattle.ebpf.specs.Choice.{◌if◌else◌}
-use Rattle.call_graph.specs.Ways.{Way, Reaches, Calling, Smallest}
-use Rattle.call_graph.specs.Profile.{Profile, CallsFunction}
+use Rattle.call_graph.specs.Ways.{Reaches, Calling}
+use Rattle.call_graph.specs.Profile.{Profile}
 use Rattle.call_graph.specs.Words.{FLAG, Sized, Exhausted, count_in}
 
 abbrev pub MARK : ℕ

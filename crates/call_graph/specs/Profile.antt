@@ -1,5 +1,5 @@
 -- What a loaded program calls. Its functions are the distinct indices of the table's rows.
-use Rattle.std.specs.Prelude.{ℕ, zero, suc, ◌+◌, ◌≤◌, ◌<◌, ◌≡◌, Bool, true, false, ◌&&◌, List, [], ◌∷◌, length, get_or, ltb}
+use Rattle.std.specs.Prelude.{ℕ, ◌≤◌, ◌<◌, ◌≡◌, ◌&&◌, List, [], ◌∷◌, length, get_or, ltb}
 use Rattle.ebpf.specs.Choice.{◌if◌else◌}
 use Rattle.call_graph.specs.Ways.{Longest, Smallest}
 use Rattle.call_graph.specs.declared.Depth.{Depth}

@@ -1,5 +1,5 @@
 -- The work words: one for each row. A settled row's word is the depth of its function; any other is 2^31 and the end of its slots.
-use Rattle.std.specs.Prelude.{ℕ, zero, suc, ◌+◌, ◌≤◌, ◌<◌, ◌≡◌, Bool, true, false, List, [], ◌∷◌, ◌⊎◌, length, get_or, ltb}
+use Rattle.std.specs.Prelude.{ℕ, zero, suc, ◌+◌, ◌≤◌, ◌<◌, ◌≡◌, Bool, List, [], ◌∷◌, ◌⊎◌, length, get_or, ltb}
 use Rattle.ebpf.specs.Choice.{◌if◌else◌}
 use Rattle.call_graph.specs.Ways.{Longest}
 use Rattle.call_graph.specs.Profile.{Profile, CallsFunction}

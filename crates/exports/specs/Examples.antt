@@ -1,5 +1,5 @@
 -- Examples of the words and bits of the C interface: each holds by computation.
-use Rattle.std.specs.Prelude.{ℕ, Bool, true, false, List, [], ◌∷◌, ◌≡◌, refl}
+use Rattle.std.specs.Prelude.{Bool, true, false, List, [], ◌∷◌, ◌≡◌, refl}
 use Rattle.program.specs.declared.Row.{Row}
 use Rattle.program.specs.declared.Found.TheVariants.{At, Nothing}
 use Rattle.loader.specs.declared.validate.Config.{Config}

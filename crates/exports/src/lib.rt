@@ -1,5 +1,5 @@
 #![tactic(auto)]
-// The C interface, over numbers and lent slices: a slice is a pointer and a length. Each answer but a
+// What C and Rust can ask, over numbers and lent slices; `exports_c` hands it to C. Each answer but a
 // hash, a name, an index and a row's number is 24 words, the number first, as `specs/Answers.antt` says; the
 // number is the result too.
 // A lent slice of fewer words takes the first of them, one of more has zeros behind them.
@@ -36,8 +36,7 @@ mod names;
 mod wrote;
 
 // The hash of a name.
-#[unsafe(no_mangle)]
-pub extern "C" fn sbpf_hash(name: &[u8]) -> u32
+pub fn sbpf_hash(name: &[u8]) -> u32
     ensures { result ≡ murmur3 name.now }
 {
     hash_symbol_name(name)
@@ -45,48 +44,42 @@ pub extern "C" fn sbpf_hash(name: &[u8]) -> u32
 
 // The name of the refusal with a number: its bytes in the lent slice, as many as there is room for and
 // zeros behind them, and as the result its whole length, 0 where no refusal has the number.
-#[unsafe(no_mangle)]
-pub extern "C" fn sbpf_refusal_name(number: u32, name: &mut [u8]) -> u32
+pub fn sbpf_refusal_name(number: u32, name: &mut [u8]) -> u32
     ensures { Named (refusal_name number) name result }
 {
     refusal_name(name, number)
 }
 
 // Where things stand in a file, or why it is refused.
-#[unsafe(no_mangle)]
-pub extern "C" fn sbpf_parse(file: &[u8], answer: &mut [u64]) -> u32
+pub fn sbpf_parse(file: &[u8], answer: &mut [u64]) -> u32
     ensures { Gives (parse_answer (parsed file.now)) answer result }
 {
     give(answer, parse_answer(parse(file)))
 }
 
 // Where the contents of a section stand.
-#[unsafe(no_mangle)]
-pub extern "C" fn sbpf_section_place(file: &[u8], index: u32, answer: &mut [u64]) -> u32
+pub fn sbpf_section_place(file: &[u8], index: u32, answer: &mut [u64]) -> u32
     ensures { GivesAsked file (λ f l. place_answer (section_place_of f l index)) answer result }
 {
     give(answer, section_place_answer(file, parse(file), index))
 }
 
 // Where the section name at a string offset stands.
-#[unsafe(no_mangle)]
-pub extern "C" fn sbpf_section_name(file: &[u8], sh_name: u32, answer: &mut [u64]) -> u32
+pub fn sbpf_section_name(file: &[u8], sh_name: u32, answer: &mut [u64]) -> u32
     ensures { GivesAsked file (λ f l. place_answer (section_name f l sh_name)) answer result }
 {
     give(answer, section_name_answer(file, parse(file), sh_name))
 }
 
 // Where the symbol name at a string offset stands.
-#[unsafe(no_mangle)]
-pub extern "C" fn sbpf_symbol_name(file: &[u8], st_name: u32, answer: &mut [u64]) -> u32
+pub fn sbpf_symbol_name(file: &[u8], st_name: u32, answer: &mut [u64]) -> u32
     ensures { GivesAsked file (λ f l. place_answer (symbol_name f l st_name)) answer result }
 {
     give(answer, symbol_name_answer(file, parse(file), st_name))
 }
 
 // Where the dynamic symbol name at a string offset stands.
-#[unsafe(no_mangle)]
-pub extern "C" fn sbpf_dynamic_symbol_name(file: &[u8], st_name: u32, answer: &mut [u64]) -> u32
+pub fn sbpf_dynamic_symbol_name(file: &[u8], st_name: u32, answer: &mut [u64]) -> u32
     ensures { GivesAsked file (λ f l. place_answer (dynamic_symbol_name f l st_name)) answer result }
 {
     give(
@@ -96,24 +89,21 @@ pub extern "C" fn sbpf_dynamic_symbol_name(file: &[u8], st_name: u32, answer: &m
 }
 
 // Where the symbols of .symtab stand: none where there is no such section.
-#[unsafe(no_mangle)]
-pub extern "C" fn sbpf_symbol_table(file: &[u8], answer: &mut [u64]) -> u32
+pub fn sbpf_symbol_table(file: &[u8], answer: &mut [u64]) -> u32
     ensures { GivesAsked file (λ f l. table_answer (symbol_table_of f l)) answer result }
 {
     give(answer, symbol_table_answer(file, parse(file)))
 }
 
 // The dynamic symbol with a name, through the file's hash table: whether there is one, and its number.
-#[unsafe(no_mangle)]
-pub extern "C" fn sbpf_find_symbol(file: &[u8], name: &[u8], answer: &mut [u64]) -> u32
+pub fn sbpf_find_symbol(file: &[u8], name: &[u8], answer: &mut [u64]) -> u32
     ensures { GivesAsked file (λ f l. symbol_answer (find_symbol f l name.now)) answer result }
 {
     give(answer, find_symbol_answer(file, parse(file), name))
 }
 
 // The first used row with the key, whatever the five slices hold; at most the rows lent count.
-#[unsafe(no_mangle)]
-pub extern "C" fn sbpf_lookup(
+pub fn sbpf_lookup(
     keys: &[u32],
     indices: &[u32],
     kinds: &[u32],
@@ -133,8 +123,7 @@ pub extern "C" fn sbpf_lookup(
 
 // The row with the key that a binary search over the used keys comes to: what `sbpf_lookup` answers
 // where the rows ascend, as a load leaves them. At most the rows lent count.
-#[unsafe(no_mangle)]
-pub extern "C" fn sbpf_lookup_ascending(
+pub fn sbpf_lookup_ascending(
     keys: &[u32],
     indices: &[u32],
     kinds: &[u32],
@@ -154,8 +143,7 @@ pub extern "C" fn sbpf_lookup_ascending(
 
 // The index of that row, by the columns of keys and indices alone; the largest word where there is
 // none. At most the rows lent count, that is as many as the shorter column has.
-#[unsafe(no_mangle)]
-pub extern "C" fn sbpf_index_ascending(keys: &[u32], indices: &[u32], used: u64, key: u32) -> u64
+pub fn sbpf_index_ascending(keys: &[u32], indices: &[u32], used: u64, key: u32) -> u64
     ensures { result ≡ index_word (index_ascending_in keys.now indices.now used key) }
 {
     index_word(index_ascending(keys, indices, used as usize, key))
@@ -163,16 +151,14 @@ pub extern "C" fn sbpf_index_ascending(keys: &[u32], indices: &[u32], used: u64,
 
 // The number of that row, by the column of keys alone; the largest word where there is none. At most
 // as many rows count as the column has numbers.
-#[unsafe(no_mangle)]
-pub extern "C" fn sbpf_row_ascending(keys: &[u32], used: u64, key: u32) -> u64
+pub fn sbpf_row_ascending(keys: &[u32], used: u64, key: u32) -> u64
     ensures { result ≡ row_word (row_ascending_in keys.now used key) }
 {
     row_word(row_ascending(keys, used as usize, key))
 }
 
 // A load, as `loader::load`, with the settings by their bits.
-#[unsafe(no_mangle)]
-pub extern "C" fn sbpf_load(
+pub fn sbpf_load(
     file: &[u8],
     builtins: &[u32],
     settings: u32,
@@ -204,21 +190,14 @@ pub extern "C" fn sbpf_load(
 
 // Who wrote a byte of the image that a load of this file made, by the words of that load's answer: 0,
 // and in the words 4 and 5 the kind of the writer and its number; the load's own refusal; or 45.
-#[unsafe(no_mangle)]
-pub extern "C" fn sbpf_who_wrote(
-    file: &[u8],
-    loaded: &[u64],
-    offset: u64,
-    answer: &mut [u64],
-) -> u32
+pub fn sbpf_who_wrote(file: &[u8], loaded: &[u64], offset: u64, answer: &mut [u64]) -> u32
     ensures { Gives (who_wrote_answer file.now loaded.now offset) answer result }
 {
     give(answer, who_wrote_answer(file, loaded, offset))
 }
 
 // Who wrote each byte, one number a byte of the file.
-#[unsafe(no_mangle)]
-pub extern "C" fn sbpf_who_wrote_all(
+pub fn sbpf_who_wrote_all(
     file: &[u8],
     loaded: &[u64],
     numbers: &mut [u32],
@@ -232,8 +211,7 @@ pub extern "C" fn sbpf_who_wrote_all(
 
 // A load, as `sbpf_load`, and who wrote a byte of its image: the words of the load's answer, and behind
 // them the writer's two.
-#[unsafe(no_mangle)]
-pub extern "C" fn sbpf_load_who_wrote(
+pub fn sbpf_load_who_wrote(
     file: &[u8],
     builtins: &[u32],
     settings: u32,
@@ -270,8 +248,7 @@ pub extern "C" fn sbpf_load_who_wrote(
 // Where the text stands among the read-only bytes of a load: by how many bytes are lent that hold
 // them, their offset, start and number, and the text's address and length, all but the first from
 // the answer of the load.
-#[unsafe(no_mangle)]
-pub extern "C" fn sbpf_text_place(
+pub fn sbpf_text_place(
     lent: u64,
     ro_offset: u64,
     ro_start: u64,

@@ -1,5 +1,5 @@
 -- Finding a symbol in small files: each holds by computation.
-use Rattle.std.specs.Prelude.{ℕ, ◌+◌, ◌*◌, ◌^◌, List, [], ◌∷◌, ◌++◌, ◌≡◌, refl, replicate}
+use Rattle.std.specs.Prelude.{ℕ, List, [], ◌∷◌, ◌++◌, ◌≡◌, refl, replicate}
 use Rattle.ebpf.specs.Choice.{◌if◌else◌}
 use Rattle.ebpf.specs.LittleEndian.{le, bytes_of}
 use Rattle.elf_parser.specs.declared.layout.Layout.{Layout}
@@ -12,7 +12,6 @@ use Rattle.elf_parser.specs.Records.{entry_at}
 use Rattle.elf_parser.specs.SectionNames.{same_bytes}
 use Rattle.elf_parser.specs.Strings.{string_in, string_check, gives, terminated, before_zero}
 use Rattle.elf_parser.specs.Types.{section_header, sym}
-use Rattle.hash_table.specs.declared.FoundSymbol.{FoundSymbol}
 use Rattle.hash_table.specs.declared.FoundSymbol.TheVariants.{At, Nothing, BadHashTable}
 use Rattle.hash_table.specs.Hash.{hash_from}
 use Rattle.hash_table.specs.Find.{table_at, hash_table_of, carried_at, link_at, on_link, walked, find_symbol}

@@ -1,5 +1,5 @@
 -- What an answer of `find_symbol` says.
-use Prim.Native.Nat.{ℕ, zero, suc, ◌+◌, ◌≤◌, ◌<◌}
+use Prim.Native.Nat.{ℕ, zero, suc, ◌+◌, ◌<◌}
 use native.Mathlib.Omega.{arith}
 use Rattle.std.specs.Prelude.{Bool, true, false, List, ◌↔◌, leb, eqb}
 use Rattle.std.proofs.Math.Path.{◌≡◌, refl, sym}
@@ -17,10 +17,9 @@ use Rattle.hash_table.specs.declared.FoundSymbol.{FoundSymbol}
 use Rattle.hash_table.specs.declared.FoundSymbol.TheVariants.{At, Nothing, BadHashTable}
 use Rattle.hash_table.specs.declared.Carried.{Carried}
 use Rattle.hash_table.specs.declared.Carried.TheVariants.{Yes, No, Unreadable}
-use Rattle.hash_table.specs.declared.Link.{Link}
-use Rattle.hash_table.specs.declared.Link.TheVariants.{Ends, Next}
+use Rattle.hash_table.specs.declared.Link.TheVariants.{Ends}
 use Rattle.hash_table.specs.Hash.{elf_hash}
-use Rattle.hash_table.specs.Find.{hash_table_of, bucket_at, chain_at, name_at, carried_at, carried, link_by, link_at, walked, on_link, found_in, find_symbol}
+use Rattle.hash_table.specs.Find.{hash_table_of, bucket_at, chain_at, name_at, carried_at, carried, link_by, link_at, walked, on_link, find_symbol}
 
 -- the symbol number i, which is not symbol 0, carries the name
 pub record Carries (s : List ℕ) (l : Layout) (t : HashTable) (name : List ℕ) (i : ℕ) : Type 0 where

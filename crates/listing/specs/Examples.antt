@@ -55,7 +55,7 @@ section name kind flags addr offset size align =
     ++ bytes_of 8 align
     ++ replicate 8 0
 
--- the input of `crates/loadlist`, of version 2: the file header; two zero slots; the names.text and .shstrtab; the section headers of none, .text at
+-- the input of `crates/loadlist`, of version 2: the file header; two zero slots; the names .text and .shstrtab; the section headers of none, .text at
 -- 0x100000000, where the entry is, and .shstrtab
 file : List ℕ
 file =

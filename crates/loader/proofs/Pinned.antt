@@ -35,7 +35,7 @@ use Rattle.loader.specs.Relocations.{relocation_at, header_at, first_from, used_
 use Rattle.loader.specs.Sections.{section_at, starts_with, unsupported, outside_file, survey_step, survey_from}
 use Rattle.loader.specs.Trace.{and_then, each, settle}
 use Rattle.loader.specs.Validate.{size_check, ascends, header_check as loader-headerCheck, sections_check, text_check, job_of, ◌then◌, validated, prepared}
-use Prim.Native.Nat.{ℕ, zero, suc, ◌+◌, ◌-◌, ◌<◌}
+use Prim.Native.Nat.{ℕ, zero, suc, ◌-◌, ◌<◌}
 use native.Mathlib.Omega.{arith}
 use mathlib.Core.Bool.{Bool, true, false, true≢false}
 use mathlib.Core.List.{List, [], ◌∷◌, ◌++◌, map}

@@ -1,11 +1,11 @@
 -- What the inner functions of this crate ask and promise; the public ones ask nothing.
-use Rattle.std.specs.Prelude.{ℕ, ◌+◌, ◌-◌, ◌*◌, ◌≤◌, ◌<◌, ◌^◌, ◌≡◌, List, Bool, true, false, length}
+use Rattle.std.specs.Prelude.{ℕ, ◌+◌, ◌-◌, ◌*◌, ◌≤◌, ◌^◌, ◌≡◌, List, Bool, true, false, length}
 use Rattle.std.specs.Borrow.{Bor, MutBor}
 use Rattle.loader.specs.declared.validate.Job.{Job}
 use Rattle.program.specs.declared.Row.{Row}
 use Rattle.program.specs.declared.Registered.{Registered}
 use Rattle.program.specs.declared.Registered.TheVariants.{Inserted, Repeat, Collision, Full}
-use Rattle.program.specs.Table.{Slices, Lent, Shared, table_of, table_before, table_after, capacity, rows_of, Ready, Alike}
+use Rattle.program.specs.Table.{Slices, Lent, Shared, table_of, table_before, table_after, capacity, rows_of, Ready}
 use Rattle.loader.specs.declared.error.ElfError.TheVariants.{SymbolHashCollision, TableFull, ValueOutOfBounds}
 use Rattle.loader.specs.declared.deeds.Outcome.{Outcome}
 use Rattle.loader.specs.declared.deeds.Outcome.TheVariants.{Holds, Refused}

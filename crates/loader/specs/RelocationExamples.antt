@@ -256,7 +256,7 @@ stops : place_of true (Header 0 0x100 0xffff_ffff_ffff_fff0) 0x20 ≡ At 0xffff_
 unfolding place_of ◌if◌else◌
 stops = refl
 
--- type 10 in version 2, by a symbol without a name: of what type and value, at which address, and with which built_ins
+-- type 10 in version 2, by a symbol without a name: of what type and value, at which address, and with which built-ins
 abbrev called : ℕ → ℕ → ℕ → List ℕ → Deed
 called info value r-offset builtins = relocation_deed (file (relocation r-offset 10) (relocation 0 0) (symbol info value)) builtins (job true) 0 image
 

@@ -83,7 +83,7 @@ rodata_names =
     0 ∷ 46 ∷ 116 ∷ 101 ∷ 120 ∷ 116 ∷ 0 ∷ 46 ∷ 114 ∷ 111 ∷ 100 ∷ 97 ∷ 116 ∷ 97 ∷ 0
     ∷ 46 ∷ 115 ∷ 104 ∷ 115 ∷ 116 ∷ 114 ∷ 116 ∷ 97 ∷ 98 ∷ 0 ∷ bytes_of 7 0
 
--- A.RODATA: 368 bytes, version 1. An empty slot at byte 64, which is the text and its entry; .rodata, eight bytes at 72, its header of this type; .shstrtab at 80;
+-- A .RODATA: 368 bytes, version 1. An empty slot at byte 64, which is the text and its entry; .rodata, eight bytes at 72, its header of this type; .shstrtab at 80;
 -- four section headers from 112 on
 abbrev pub with_rodata : ℕ → List ℕ
 with_rodata type =

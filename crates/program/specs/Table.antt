@@ -241,7 +241,7 @@ row_of_found t (AtRow n) = At (row_at t n)
 row_of_found t NoRow = Nothing
 
 -- the index alone, by the columns of keys and indices; as many rows count as the shorter has numbers. On every table it is the index of the row that
--- `lookup_ascending_in` gives (`index-Agrees` in proofs/Tables.antt)
+-- `lookup_ascending_in` gives (`index_agrees` in proofs/Tables.antt)
 abbrev pub index_of_row : List ℕ → FoundRow → FoundIndex
 index_of_row indices (AtRow n) = AtIndex (get_or indices n 0)
 index_of_row indices NoRow = NoIndex

@@ -20,7 +20,6 @@ use Rattle.loader.specs.declared.answer.Accepted.{Accepted}
 use Rattle.loader.specs.declared.answer.Load.TheVariants.{Accepted as Accepts}
 use Rattle.loader.specs.declared.read_only.Placing.{Placing}
 use Rattle.loader.specs.declared.read_only.Placing.TheVariants.{Borrowed, Owned, Refused as NotPlaced}
-use Rattle.loader.specs.declared.sections.Survey.{Survey}
 use Rattle.loader.specs.declared.validate.Config.{Config}
 use Rattle.loader.specs.declared.validate.Job.{Job}
 use Rattle.loader.specs.declared.validate.Prepared.{Prepared}
@@ -32,14 +31,13 @@ use Rattle.loader.specs.Parts.{job_trace}
 use Rattle.loader.specs.ReadOnly.{placing}
 use Rattle.loader.specs.Sections.{section_at, survey}
 use Rattle.loader.specs.Trace.{Settled, accepted, refused, settle}
-use Rattle.loader.specs.Validate.{size_check, ascends, header_check, job_of, file_check, is_version2, validated, parsed_then, prepared}
+use Rattle.loader.specs.Validate.{size_check, header_check, job_of, file_check, is_version2, validated, parsed_then, prepared}
 use Rattle.loader.proofs.Ends.{Ends}
 use Rattle.loader.proofs.Imaged.{zeros_behind}
 use Rattle.loader.proofs.Readied.{not_passed, not_ready, then_first, ready_by_lem, prepared_by_lem, readied}
 use Rattle.loader.proofs.Traces.{settle_ends}
 use Rattle.writers.specs.declared.Writer.TheVariants.{File}
-use Rattle.writers.specs.declared.Wrote.{Wrote}
-use Rattle.writers.specs.declared.Wrote.TheVariants.{By, NoSuchIndex, Refused}
+use Rattle.writers.specs.declared.Wrote.TheVariants.{By, NoSuchIndex}
 use Rattle.writers.specs.declared.text.TextOf.TheVariants.{Is}
 use Rattle.writers.specs.Asked.{text_in, text_of, asked}
 use Rattle.writers.specs.Writers.{writer_of, wrote_by, wrote_of}

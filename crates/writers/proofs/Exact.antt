@@ -5,12 +5,12 @@ use native.Mathlib.Omega.{arith}
 use native.Mathlib.Decide.{ℕ_discrete}
 use mathlib.Core.Path.{◌≡◌, refl, sym, ◌∙◌}
 use mathlib.Core.Bool.{Bool, true, false, ◌&&◌, ◌||◌, true≢false}
-use mathlib.Core.Logic.{◌⊎◌, inl, inr}
+use mathlib.Core.Logic.{inl}
 use mathlib.Core.List.{List}
 use lib.ListN.{length, get_or, set, length-set}
 use lib.Seq.{get_or-set_same}
 use lib.Dec.{ltb}
-use Rattle.program.proofs.Cases.{by_le, by_lt, by_test}
+use Rattle.program.proofs.Cases.{by_le, by_lt}
 use Rattle.loader.specs.declared.deeds.Deed.{Deed}
 use Rattle.loader.specs.declared.deeds.Deed.TheVariants.{Skip, Refuse, Halves, Word, Key, Register, RegisterOnly, RegisterOutside}
 use Rattle.loader.specs.Bytes.{put, length_put}

@@ -9,7 +9,7 @@ use mathlib.Core.List.{List}
 use lib.ListN.{length, get_or, set, length-set}
 use lib.Seq.{get_or-set_same, get_or-set_other}
 use lib.Dec.{ltb}
-use borrow.Author.Tests.{lt-ltb, le-ltb}
+use borrow.Author.Tests.{lt-ltb}
 use Rattle.ebpf.specs.Choice.{◌if◌else◌, yes as picks, no_go}
 use Rattle.program.proofs.Cases.{by_lt}
 use Rattle.loader.specs.Deeds.{is_in}

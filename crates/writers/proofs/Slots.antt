@@ -1,19 +1,18 @@
 -- At most one slot of a text has a byte in its immediate. Assumes nothing.
-use Prim.Native.Nat.{ℕ, zero, suc, ◌+◌, ◌-◌, ◌*◌, ◌/◌, ◌%◌, ◌≤◌, ◌<◌}
+use Prim.Native.Nat.{ℕ, zero, suc, ◌+◌, ◌-◌, ◌%◌, ◌≤◌, ◌<◌}
 use native.Mathlib.Omega.{arith}
 use native.Mathlib.Numerals.{add-one}
 use native.Mathlib.Decide.{ℕ_discrete}
-use mathlib.Core.Path.{◌≡◌, refl, sym, ◌∙◌}
+use mathlib.Core.Path.{◌≡◌, refl, sym}
 use mathlib.Core.Bool.{Bool, true, false, ◌&&◌}
 use mathlib.Core.Logic.{◌⊎◌, inl, inr}
 use mathlib.Core.List.{List}
 use lib.Dec.{ltb, leb}
 use borrow.Author.Tests.{le-leb, lt-leb, lt-ltb, le-ltb}
 use Rattle.ebpf.specs.Choice.{◌if◌else◌}
-use Rattle.program.proofs.Cases.{by_le, by_lt, by_test}
+use Rattle.program.proofs.Cases.{by_le, by_lt}
 use Rattle.loader.specs.Deeds.{is_in}
 use Rattle.loader.proofs.Kept.{not_in, in_places}
-use Rattle.writers.specs.declared.Writer.{Writer}
 use Rattle.writers.specs.declared.Writer.TheVariants.{File, Call}
 use Rattle.writers.specs.declared.text.Text.{Text}
 use Rattle.writers.specs.Named.{is_call, immediate_of, slot_of, in_immediate, call_to, last_of}

@@ -1,11 +1,10 @@
 -- Who wrote a byte, by what a load's parts write, is who wrote it by the bytes that calls and relocations name. Assumes nothing.
-use Prim.Native.Nat.{ℕ, ◌+◌, ◌/◌, ◌%◌, ◌^◌, ◌≤◌, ◌<◌}
+use Prim.Native.Nat.{ℕ, ◌^◌, ◌≤◌, ◌<◌}
 use native.Mathlib.Omega.{arith}
-use mathlib.Core.Path.{◌≡◌, refl, sym, ap, ◌∙◌}
+use mathlib.Core.Path.{◌≡◌, refl, ◌∙◌}
 use mathlib.Core.Bool.{Bool, true, false, ◌&&◌, true≢false}
 use mathlib.Core.List.{List}
 use lib.ListN.{length, get_or}
-use Rattle.ebpf.specs.Instructions.{insn_at}
 use Rattle.program.specs.declared.FunctionName.TheVariants.{OfIndex}
 use Rattle.program.specs.declared.Legacy.{Legacy}
 use Rattle.program.specs.declared.Legacy.TheVariants.{Free, Taken}
@@ -13,10 +12,10 @@ use Rattle.program.proofs.Cases.{zero_one}
 use Rattle.loader.specs.declared.calls.Call.{Call as Calling}
 use Rattle.loader.specs.declared.calls.Call.TheVariants.{None, To, Outside}
 use Rattle.loader.specs.declared.validate.Job.{Job}
-use Rattle.loader.specs.Calls.{call_at, local_call_in, text_of, slot_count, immediate, call_row, call_by, call_deed, slot_trace}
+use Rattle.loader.specs.Calls.{call_at, text_of, slot_count, immediate, call_row, call_by, call_deed, slot_trace}
 use Rattle.loader.specs.InnerContracts.{InFile}
 use Rattle.loader.specs.Deeds.{is_in, writes}
-use Rattle.loader.specs.Demand.{info_of, addend_of, names}
+use Rattle.loader.specs.Demand.{info_of, addend_of}
 use Rattle.loader.specs.Functions.{row_for}
 use Rattle.loader.specs.Parts.{job_trace}
 use Rattle.loader.specs.Relocations.{relocation_count, place_at, relocation_deed, relocation_trace}

@@ -35,7 +35,7 @@ use Rattle.loader.specs.Relocations.{relocation_at, header_at, first_from, used_
 use Rattle.loader.specs.Sections.{section_at, starts_with, unsupported, outside_file, survey_step, survey_from}
 use Rattle.loader.specs.Trace.{and_then, each, settle}
 use Rattle.loader.specs.Validate.{size_check, ascends, header_check as loader-headerCheck, sections_check, text_check, job_of, ◌then◌, validated, prepared}
-use Rattle.std.specs.Prelude.{ℕ, zero, suc, true, false, List, [], ◌∷◌, map, ◌≡◌, refl, length}
+use Rattle.std.specs.Prelude.{ℕ, zero, suc, List, [], ◌∷◌, map, ◌≡◌, refl}
 use Rattle.loader.specs.SmallFiles.{all_on, version_1, version_2}
 use Rattle.loader.specs.declared.deeds.Deed.{Deed}
 use Rattle.loader.specs.declared.deeds.Deed.TheVariants.{Halves, Word, Key}
@@ -44,9 +44,8 @@ use Rattle.loader.specs.Load.{answer_of}
 use Rattle.writers.specs.declared.Filled.TheVariants.{Whole, Refused as NotFilled}
 use Rattle.writers.specs.declared.Writer.{Writer}
 use Rattle.writers.specs.declared.Writer.TheVariants.{File, Call, Relocation}
-use Rattle.writers.specs.declared.Wrote.{Wrote}
 use Rattle.writers.specs.declared.Wrote.TheVariants.{By, NoSuchIndex, Refused as NotLoaded}
-use Rattle.writers.specs.Writers.{image_after, writer_after, image_of_all, writer_of, wrote_of}
+use Rattle.writers.specs.Writers.{image_after, writer_after, writer_of, wrote_of}
 use Rattle.writers.specs.Named.{call_to, last_of, by_names}
 use Rattle.writers.specs.Asked.{text_in, text_of, asked}
 use Rattle.writers.specs.Whole.{code_by, filled_of}

@@ -1,5 +1,5 @@
 -- Who wrote each byte of the file, as one number a byte.
-use Rattle.std.specs.Prelude.{ℕ, ◌+◌, ◌≡◌, Bool, true, false, ◌&&◌, List, length, get_or, ltb, eqb}
+use Rattle.std.specs.Prelude.{ℕ, ◌+◌, ◌≡◌, Bool, ◌&&◌, List, length, get_or, ltb, eqb}
 use Rattle.ebpf.specs.Choice.{◌if◌else◌}
 use Rattle.program.specs.Table.{Lent, Shared}
 use Rattle.loader.specs.declared.answer.Load.{Load}

@@ -1,5 +1,5 @@
 -- WHO WROTE A BYTE, by what the parts of a load write, one after another: the last one that writes it, whatever value it has before and afterwards.
-use Rattle.std.specs.Prelude.{ℕ, zero, suc, ◌+◌, Bool, true, false, List, length, ltb}
+use Rattle.std.specs.Prelude.{ℕ, zero, suc, ◌+◌, List, length, ltb}
 use Rattle.ebpf.specs.Choice.{◌if◌else◌}
 use Rattle.loader.specs.declared.deeds.Deed.{Deed}
 use Rattle.loader.specs.declared.validate.Config.{Config}

@@ -1,9 +1,7 @@
 -- `call_depth::call_depth` meets its contract: by what the load answered.
 -- Assumes nothing.
-use mathlib.Core.Path.{refl, sym, ◌∙◌, ap}
-use Prim.Native.Nat.{ℕ}
+use mathlib.Core.Path.{refl}
 use Rattle.program.specs.Table.{capacity}
-use borrow.Author.Rules.{rules}
 use Rattle.call_depth.proofs.call_depth.Goals as goal
 
 pub depth_by-requires : goal.depth_by-requires

@@ -1,14 +1,8 @@
-use lib.ListN.{length, get_or}
 use native.Mathlib.Omega.{arith}
 use Rattle.call_graph.specs.declared.Depth.TheVariants.{Deep, Recursive}
 use Rattle.call_graph.proofs.Equation.{answer_is}
-use borrow.Author.Rules.{rules}
-use Rattle.call_depth.specs.Called.{profile_in, slots_in, callee_in}
+use Rattle.call_depth.specs.Called.{profile_in}
 use Rattle.call_depth.proofs.Sizes.{sized_of}
-use Rattle.call_depth.proofs.depth_from.Reads as reads
-use Rattle.call_depth.proofs.depth_from.Lts as lts
-use Rattle.call_depth.proofs.recursion.recursive.Reads as recursive-reads
-use Rattle.call_depth.proofs.settling.settle.Reads as settle-reads
 use Rattle.call_depth.proofs.depth_from.Goals as goal
 
 -- src/lib.rt:340:9

@@ -1,8 +1,8 @@
 -- `call_depth::depth_in` meets its contract: from the first row with the entry's index.
 -- Assumes nothing.
 use Prim.Native.Nat.{◌≤◌, ◌<◌}
-use mathlib.Core.Path.{◌≡◌, refl, ◌∙◌, ap}
-use lib.ListN.{length, get_or}
+use mathlib.Core.Path.{◌≡◌, refl}
+use lib.ListN.{length}
 use borrow.Author.Tests.{le-leb, lt-leb}
 use Rattle.ebpf.specs.Choice.{◌if◌else◌}
 use Rattle.program.specs.Search.{index_of}
@@ -10,7 +10,6 @@ use Rattle.call_graph.specs.Answer.{depth_of}
 use Rattle.call_depth.specs.Called.{profile_in}
 use Rattle.call_depth.specs.Asked.{depth_in}
 use Rattle.call_depth.proofs.Entries.{first_at}
-use borrow.Author.Rules.{rules}
 use Rattle.call_depth.proofs.depth_in.Goals as goal
 
 pub returns-then-indices-row : goal.returns-then-indices-row

@@ -1,7 +1,6 @@
 -- `call_depth::fits_in` meets its contract: its four tests.
 -- Assumes nothing.
 use Rattle.call_depth.specs.Asked.{fits_in}
-use borrow.Author.Rules.{rules}
 use Rattle.call_depth.proofs.fits_in.Goals as goal
 
 pub returns : goal.returns

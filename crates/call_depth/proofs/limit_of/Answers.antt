@@ -2,7 +2,6 @@
 -- Assumes nothing.
 use Rattle.ebpf.specs.Choice.{◌if◌else◌}
 use Rattle.call_depth.specs.Asked.{limit_of}
-use borrow.Author.Rules.{rules}
 use Rattle.call_depth.proofs.limit_of.Goals as goal
 
 pub returns-then-limit : goal.returns-then-limit

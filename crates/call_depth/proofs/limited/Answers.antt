@@ -2,7 +2,6 @@
 -- Assumes nothing.
 use borrow.Author.Tests.{lt-ltb, le-ltb}
 use Rattle.ebpf.specs.Choice.{◌if◌else◌}
-use borrow.Author.Rules.{rules}
 use Rattle.call_depth.proofs.limited.Goals as goal
 
 pub returns-then-limit-d : goal.returns-then-limit-d

@@ -9,7 +9,6 @@ use Rattle.program.proofs.Tables.{SameLens, capacity_same}
 use Rattle.call_depth.specs.Asked.{depth_asked}
 use Rattle.call_depth.proofs.After.{Made}
 use Rattle.call_depth.proofs.Meaning.{depth_means}
-use borrow.Author.Rules.{rules}
 use Rattle.call_depth.proofs.load_call_depth.Goals as goal
 
 pub returns : goal.returns

@@ -1,10 +1,6 @@
 -- `call_depth::row_with` meets its contract. The loop's invariant: the first row is r rows and the first in what is left.
 -- Assumes nothing.
-use Prim.Native.Nat.{◌≤◌, ◌+◌, ◌-◌}
-use mathlib.Core.Path.{◌≡◌}
 use native.Mathlib.Omega.{arith}
-use lib.ListN.{length, drop}
-use Rattle.program.specs.Search.{index_of}
 use Rattle.call_depth.proofs.Entries.{first_hit, first_miss, first_none}
 use borrow.Author.Rules.{rules}
 use Rattle.call_depth.proofs.row_with.Goals as goal

@@ -2,11 +2,8 @@
 -- Assumes nothing.
 use Prim.Native.Nat.{◌≤◌, ◌+◌, ◌-◌}
 use mathlib.Core.Path.{◌≡◌}
-use native.Mathlib.Omega.{arith}
 use lib.ListN.{length, drop}
 use Rattle.program.specs.Search.{index_of}
-use Rattle.call_depth.proofs.Entries.{first_hit, first_miss, first_none}
-use borrow.Author.Rules.{rules}
 use Rattle.call_depth.proofs.row_with.Given as goal
 
 abbrev pub invariant-loop-r : goal.invariant-loop-r

@@ -1,6 +1,5 @@
 -- `exports::sbpf_find_symbol` meets its contract: the answer to the question is given.
 -- Assumes nothing.
-use borrow.Author.Rules.{rules}
 use Rattle.exports.proofs.sbpf_find_symbol.Goals as goal
 
 pub returns : goal.returns

@@ -3,7 +3,6 @@
 use Rattle.program.specs.Table.{Slices, slices}
 use Rattle.exports.specs.Answers.{config_of}
 use Rattle.exports.proofs.Giving.{loaded_by, keyed_by, used_by, given_by}
-use borrow.Author.Rules.{rules}
 use Rattle.exports.proofs.sbpf_load.Goals as goal
 
 pub returns : goal.returns

@@ -1,13 +1,12 @@
 -- `exports::sbpf_load_who_wrote` meets its contract: a load with the question, and both answers given.
 -- Assumes nothing.
-use mathlib.Core.Path.{◌≡◌, refl, sym, ◌∙◌}
+use mathlib.Core.Path.{◌≡◌, refl, ◌∙◌}
 use lib.ListN.{length}
 use Rattle.program.specs.Table.{Slices, slices, capacity}
 use Rattle.writers.specs.Writers.{wrote_of}
 use Rattle.exports.specs.Answers.{config_of}
 use Rattle.exports.proofs.Giving.{loaded_by, keyed_by, used_by}
 use Rattle.exports.proofs.GivingBoth.{wrote_by, both_given}
-use borrow.Author.Rules.{rules}
 use Rattle.exports.proofs.sbpf_load_who_wrote.Goals as goal
 
 pub returns : goal.returns

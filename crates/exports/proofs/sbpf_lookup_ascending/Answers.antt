@@ -1,6 +1,5 @@
 -- `exports::sbpf_lookup_ascending` meets its contract: the answer to the lookup is given.
 -- Assumes nothing.
-use borrow.Author.Rules.{rules}
 use Rattle.exports.proofs.sbpf_lookup_ascending.Goals as goal
 
 pub returns : goal.returns

@@ -1,6 +1,5 @@
 -- `exports::sbpf_parse` meets its contract: the answer to the parse is given.
 -- Assumes nothing.
-use borrow.Author.Rules.{rules}
 use Rattle.exports.proofs.sbpf_parse.Goals as goal
 
 pub returns : goal.returns

@@ -1,6 +1,5 @@
 -- `exports::sbpf_row_ascending` meets its contract: the row's number as a word.
 -- Assumes nothing.
-use borrow.Author.Rules.{rules}
 use Rattle.exports.proofs.sbpf_row_ascending.Goals as goal
 
 pub returns : goal.returns

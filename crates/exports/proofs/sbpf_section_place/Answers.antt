@@ -1,6 +1,5 @@
 -- `exports::sbpf_section_place` meets its contract: the answer to the question is given.
 -- Assumes nothing.
-use borrow.Author.Rules.{rules}
 use Rattle.exports.proofs.sbpf_section_place.Goals as goal
 
 pub returns : goal.returns

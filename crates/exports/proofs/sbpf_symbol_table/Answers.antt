@@ -1,6 +1,5 @@
 -- `exports::sbpf_symbol_table` meets its contract: the answer to the question is given.
 -- Assumes nothing.
-use borrow.Author.Rules.{rules}
 use Rattle.exports.proofs.sbpf_symbol_table.Goals as goal
 
 pub returns : goal.returns

@@ -1,6 +1,5 @@
 -- `exports::sbpf_text_place` meets its contract: the answer to the place is given.
 -- Assumes nothing.
-use borrow.Author.Rules.{rules}
 use Rattle.exports.proofs.sbpf_text_place.Goals as goal
 
 pub returns : goal.returns

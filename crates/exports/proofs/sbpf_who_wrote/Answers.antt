@@ -1,6 +1,5 @@
 -- `exports::sbpf_who_wrote` meets its contract: the question, and its answer given.
 -- Assumes nothing.
-use borrow.Author.Rules.{rules}
 use Rattle.exports.proofs.sbpf_who_wrote.Goals as goal
 
 pub returns : goal.returns

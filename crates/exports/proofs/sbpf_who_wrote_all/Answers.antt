@@ -1,6 +1,5 @@
 -- `exports::sbpf_who_wrote_all` meets its contract: the numbers, and the answer given.
 -- Assumes nothing.
-use borrow.Author.Rules.{rules}
 use Rattle.exports.proofs.sbpf_who_wrote_all.Goals as goal
 
 pub returns : goal.returns

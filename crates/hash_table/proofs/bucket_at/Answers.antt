@@ -2,7 +2,6 @@
 -- Assumes nothing.
 use native.Mathlib.Nat.{zero-add}
 use native.Mathlib.Omega.{arith}
-use borrow.Author.Rules.{rules}
 use Rattle.hash_table.proofs.bucket_at.Goals as goal
 
 pub bucket_of-bucket-requires : goal.bucket_of-bucket-requires

@@ -2,7 +2,6 @@
 -- Assumes nothing.
 use Rattle.ebpf.specs.Choice.{◌if◌else◌}
 use Rattle.hash_table.specs.Find.{carried_at}
-use borrow.Author.Rules.{rules}
 use Rattle.hash_table.proofs.carried_at.Goals as goal
 
 pub returns-then-same_bytes : goal.returns-then-same_bytes

@@ -1,6 +1,5 @@
 -- `hash_table::carries_name` meets its contract: by the place of its name.
 -- Assumes nothing.
-use borrow.Author.Rules.{rules}
 use Rattle.hash_table.proofs.carries_name.Goals as goal
 
 pub returns : goal.returns

@@ -1,13 +1,12 @@
 -- `hash_table::elf_hash` meets its contract: the loop's invariant is that the bytes that are left give the hash of all.
 -- Assumes nothing.
-use Prim.Native.Nat.{ℕ, suc, ◌+◌, ◌-◌, ◌≤◌, ◌<◌}
+use Prim.Native.Nat.{ℕ, suc, ◌+◌, ◌≤◌, ◌<◌}
 use native.Mathlib.Omega.{arith}
 use mathlib.Core.List.{List}
 use mathlib.Core.Path.{◌≡◌, refl}
 use lib.ListN.{length, drop, get_or, drop_of_length-le}
 use lib.Seq.{drop-cons}
 use Rattle.hash_table.specs.Hash.{hash_with, hash_from}
-use borrow.Author.Rules.{rules}
 use Rattle.hash_table.proofs.elf_hash.Goals as goal
 
 -- a byte more

@@ -15,7 +15,6 @@ use Rattle.elf_parser.specs.Dynamic.{file_offset}
 use Rattle.hash_table.specs.declared.HashTable.{HashTable}
 use Rattle.hash_table.specs.declared.Table.TheVariants.{At as Is, Bad}
 use Rattle.hash_table.specs.Find.{table_at, table_by, hash_table_of, Usable}
-use borrow.Author.Rules.{rules}
 use Rattle.hash_table.proofs.find_symbol.Goals as goal
 
 not_is : (t : HashTable) → Bad ≡ Is t → ⊥

@@ -3,7 +3,6 @@
 use Rattle.ebpf.specs.Choice.{◌if◌else◌}
 use borrow.Author.Tests.{eq-eqb, ne_eqb}
 use Rattle.hash_table.specs.Find.{hash_table_of}
-use borrow.Author.Rules.{rules}
 use Rattle.hash_table.proofs.hash_table.Goals as goal
 
 pub returns-then-vaddr-eq0 : goal.returns-then-vaddr-eq0

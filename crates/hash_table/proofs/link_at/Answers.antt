@@ -3,7 +3,6 @@
 use Rattle.ebpf.specs.Choice.{◌if◌else◌}
 use borrow.Author.Tests.{eq-eqb, ne_eqb, le-leb, lt-leb}
 use Rattle.hash_table.specs.Find.{link_at}
-use borrow.Author.Rules.{rules}
 use Rattle.hash_table.proofs.link_at.Goals as goal
 
 pub returns-then-index-eq0 : goal.returns-then-index-eq0

@@ -1,6 +1,5 @@
 -- `hash_table::name_at` meets its contract: by the symbol.
 -- Assumes nothing.
-use borrow.Author.Rules.{rules}
 use Rattle.hash_table.proofs.name_at.Goals as goal
 
 pub returns-in-Symbol : goal.returns-in-Symbol

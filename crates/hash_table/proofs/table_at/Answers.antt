@@ -9,7 +9,6 @@ use mathlib.Core.Path.{◌≡◌, sym, ◌∙◌}
 use lib.Dec.{eqb}
 use Rattle.ebpf.specs.Choice.{◌if◌else◌, eq_not, ne_not}
 use Rattle.hash_table.specs.Find.{table_at}
-use borrow.Author.Rules.{rules}
 use Rattle.hash_table.proofs.table_at.Goals as goal
 
 pub returns-then-past : goal.returns-then-past

@@ -1,5 +1,5 @@
 -- `hash_table::walk` meets its contract.
-use Rattle.std.proofs.Common.{ℕ, zero, suc, ◌+◌, ◌-◌, ◌≤◌, ◌<◌, ◌≡◌, List, refl, arith}
+use Rattle.std.proofs.Common.{ℕ, zero, suc, ◌-◌, ◌≤◌, ◌<◌, ◌≡◌, List, refl, arith}
 use Rattle.elf_parser.specs.declared.layout.Layout.{Layout}
 use Rattle.hash_table.specs.declared.HashTable.{HashTable}
 use Rattle.hash_table.specs.declared.FoundSymbol.{FoundSymbol}

@@ -2,7 +2,6 @@
 -- Assumes nothing.
 use native.Mathlib.Omega.{arith}
 use Rattle.listing.proofs.Listed.{lines_long, lines_load, lines_listed}
-use borrow.Author.Rules.{rules}
 use Rattle.listing.proofs.list_file.Goals as goal
 
 pub returns-then-file-gt-LONGEST : goal.returns-then-file-gt-LONGEST

@@ -1,7 +1,6 @@
 -- `listing::list_load` meets its contract: what the load leaves gives the load's lines.
 -- Assumes nothing.
 use Rattle.listing.proofs.Listed.{listed_used, listed_stored}
-use borrow.Author.Rules.{rules}
 use Rattle.listing.proofs.list_load.Goals as goal
 
 pub put_load-requires : goal.put_load-requires

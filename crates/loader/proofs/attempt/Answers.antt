@@ -8,7 +8,6 @@ use Rattle.program.proofs.Tables.{SameLens}
 use Rattle.loader.specs.InnerContracts.{InFile}
 use Rattle.loader.specs.Load.{all_count}
 use Rattle.loader.proofs.Loading.{behind_fits, behind_front, behind_rest, load_stops, job_in_file, file_fits, empty, as_lent, tried}
-use borrow.Author.Rules.{rules}
 use Rattle.loader.proofs.attempt.Goals.{After-rows_lent-rows}
 use Rattle.loader.proofs.attempt.Goals as goal
 

@@ -10,7 +10,6 @@ use Rattle.loader.specs.Demand.{Demand3}
 use Rattle.loader.specs.Loads.{OnUsed}
 use Rattle.loader.proofs.Loading.{load_held, load_refused}
 use Rattle.loader.proofs.Demanded.{demanded, ascended}
-use borrow.Author.Rules.{rules}
 use Rattle.loader.proofs.load.Goals as goal
 
 pub returns-in-Accepted : goal.returns-in-Accepted

@@ -1,15 +1,12 @@
 -- `program::answer_of` meets its contract: each way out is a law of `Steps`, at the place that the search came to.
 -- Assumes nothing.
 use mathlib.Core.Path.{◌≡◌}
-use mathlib.Core.Logic.{⊎_elim}
 use Prim.Native.Nat.{◌<◌}
-use native.Mathlib.Nat.{not-le_of_lt}
 use native.Mathlib.Omega.{arith}
 use lib.ListN.{get_or}
 use Rattle.program.specs.Rows.{rank}
 use Rattle.program.specs.Table.{Slices, slices}
 use Rattle.program.proofs.Steps.{Counts, counts_rows, place_within, repeats, collides, full, inserts}
-use borrow.Author.Rules.{rules}
 use Rattle.program.proofs.answer_of.Goals.{Joined-at-n, then-at-n+else-keys-at, else-at-n}
 use Rattle.program.proofs.answer_of.Goals as goal
 

@@ -6,7 +6,6 @@ use native.Mathlib.Nat.{not-le_of_lt}
 use Rattle.program.specs.declared.Found.TheVariants.{At}
 use Rattle.program.specs.Table.{Slices, slices}
 use Rattle.program.proofs.Steps.{Counts, counts_rows, row_within, finds_nothing, finds_row}
-use borrow.Author.Rules.{rules}
 use Rattle.program.proofs.lookup_ascending.Goals as goal
 
 pub returns-then-n-at : goal.returns-then-n-at

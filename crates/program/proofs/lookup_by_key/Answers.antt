@@ -5,7 +5,6 @@ use native.Mathlib.Omega.{arith}
 use Rattle.program.specs.declared.Found.TheVariants.{At}
 use Rattle.program.specs.Table.{Slices, slices}
 use Rattle.program.proofs.Steps.{Counts, counts_rows, row_within, looks_up, finds_none}
-use borrow.Author.Rules.{rules}
 use Rattle.program.proofs.lookup_by_key.Goals as goal
 
 pub returns-then-n-at : goal.returns-then-n-at

@@ -5,7 +5,6 @@ use native.Mathlib.Omega.{arith}
 use Rattle.program.specs.declared.Registered.TheVariants.{Inserted}
 use Rattle.program.specs.Table.{Slices, slices, opened_row, register_in}
 use Rattle.program.proofs.Steps.{inserted, stays, enters}
-use borrow.Author.Rules.{rules}
 use Rattle.program.proofs.register_function.Goals as goal
 
 pub returns-in_default : goal.returns-in_default

@@ -1,7 +1,6 @@
 -- `program::row_ascending` meets its contract: each way out is a law of `Steps`, at the place that the search came to.
 -- Assumes nothing.
 use Rattle.program.proofs.Steps.{row_past, row_other, row_here}
-use borrow.Author.Rules.{rules}
 use Rattle.program.proofs.row_ascending.Goals as goal
 
 pub returns-then-n-at : goal.returns-then-n-at

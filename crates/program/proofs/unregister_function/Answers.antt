@@ -4,7 +4,6 @@
 use native.Mathlib.Nat.{not-le_of_lt}
 use Rattle.program.specs.Table.{Slices, slices}
 use Rattle.program.proofs.Steps.{Counts, counts_rows, absent, gone}
-use borrow.Author.Rules.{rules}
 use Rattle.program.proofs.unregister_function.Goals as goal
 
 pub returns-then-n-at : goal.returns-then-n-at

@@ -7,7 +7,6 @@ use Rattle.writers.specs.declared.text.Text.{Text}
 use Rattle.writers.specs.declared.text.TextOf.TheVariants.{Is, Refused as NoText}
 use Rattle.writers.specs.Asked.{text_of}
 use Rattle.writers.proofs.Telling.{askable, refused_tells, short_filled, short_tells, whole_filled, whole_tells}
-use borrow.Author.Rules.{rules}
 use Rattle.writers.proofs.fill_by.Goals as goal
 
 pub returns-then-numbers-file : goal.returns-then-numbers-file

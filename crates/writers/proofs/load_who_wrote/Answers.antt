@@ -5,7 +5,6 @@ use lib.ListN.{length}
 use Rattle.program.specs.Table.{slices, capacity}
 use Rattle.writers.specs.Writers.{wrote_of}
 use Rattle.writers.proofs.Agreeing.{agrees, kept}
-use borrow.Author.Rules.{rules}
 use Rattle.writers.proofs.load_who_wrote.Goals as goal
 
 pub returns : goal.returns

@@ -1,6 +1,5 @@
 -- `writers::who_wrote` meets its contract: by the load's answer.
 -- Assumes nothing.
-use borrow.Author.Rules.{rules}
 use Rattle.writers.proofs.who_wrote.Goals as goal
 
 pub returns-in-Refused : goal.returns-in-Refused

@@ -5,7 +5,6 @@ use lib.Dec.{ltb}
 use lib.ListN.{length}
 use Rattle.writers.proofs.Marking.{only_zero}
 use Rattle.writers.proofs.Telling.{cleared, as_long}
-use borrow.Author.Rules.{rules}
 use Rattle.writers.proofs.who_wrote_all.Goals as goal
 
 pub returns-in-Refused : goal.returns-in-Refused

@@ -3,7 +3,6 @@
 use mathlib.Core.Path.{◌≡◌, ◌∙◌}
 use lib.ListN.{length}
 use Rattle.writers.proofs.Telling.{cleared, as_long}
-use borrow.Author.Rules.{rules}
 use Rattle.writers.proofs.who_wrote_all_by.Goals as goal
 
 pub fill_by-requires : goal.fill_by-requires

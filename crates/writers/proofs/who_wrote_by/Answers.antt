@@ -1,10 +1,9 @@
 -- `writers::who_wrote_by` meets its contract: by the text, if there is one, and the offset.
 -- Assumes nothing.
-use mathlib.Core.Path.{refl, sym, ◌∙◌}
+use mathlib.Core.Path.{sym, ◌∙◌}
 use borrow.Author.Tests.{lt-ltb, le-ltb}
 use Rattle.ebpf.specs.Choice.{◌if◌else◌}
 use Rattle.writers.proofs.Telling.{askable}
-use borrow.Author.Rules.{rules}
 use Rattle.writers.proofs.who_wrote_by.Goals as goal
 
 pub returns-then-file-offset : goal.returns-then-file-offset

@@ -1,10 +1,6 @@
 use mathlib.Core.Path.{refl}
-use native.Mathlib.Omega.{arith}
 use borrow.Author.Tests.{le-leb, lt-leb}
-use borrow.Author.Rules.{rules}
 use Rattle.ebpf.specs.Choice.{◌if◌else◌}
-use Rattle.call_depth.proofs.marking.end_in.Reads as reads
-use Rattle.call_depth.proofs.marking.end_in.Lts as lts
 use Rattle.call_depth.proofs.marking.end_in.Goals as goal
 
 -- src/lib.rt:131:1

@@ -1,15 +1,8 @@
-use Prim.Native.Nat.{ℕ, ◌≤◌, ◌-◌}
-use native.Mathlib.Omega.{arith}
-use borrow.Author.Rules.{rules}
+use Prim.Native.Nat.{ℕ, ◌-◌}
 use lib.ListN.{length}
 use Rattle.call_graph.specs.Ways.{Calling}
-use Rattle.call_graph.specs.Profile.{Profile}
 use Rattle.call_graph.specs.Marks.{Begun, Grown, RowCalls, marked_in}
-use Rattle.call_graph.proofs.Marking.{grown_same, grown_then, round_done, begun_kept, marking_less}
-use Rattle.call_depth.specs.Called.{profile_in, slots_in, callee_in}
-use Rattle.call_depth.proofs.marking.mark_all.Reads as reads
-use Rattle.call_depth.proofs.marking.mark_all.Lts as lts
-use Rattle.call_depth.proofs.marking.mark_pass.Reads as mark-pass-reads
+use Rattle.call_depth.specs.Called.{profile_in, slots_in}
 use Rattle.call_depth.proofs.marking.mark_all.Given as goal
 
 abbrev pub invariant-loop-version2 : goal.invariant-loop-version2

@@ -1,13 +1,5 @@
-use native.Mathlib.Omega.{arith}
-use lib.ListN.{length}
 use Rattle.call_graph.proofs.Marking.{spot_none, spot_some, slots_within, slots_of}
-use borrow.Author.Rules.{rules}
-use Rattle.call_depth.specs.Called.{profile_in, slots_in, callee_in}
-use Rattle.call_depth.proofs.marking.mark_called.Reads as reads
-use Rattle.call_depth.proofs.marking.mark_called.Lts as lts
-use Rattle.call_depth.proofs.marking.end_in.Reads as end-in-reads
-use Rattle.call_depth.proofs.slots.mark_slots.Reads as mark-slots-reads
-use Rattle.call_depth.proofs.slots.wide.Reads as wide-reads
+use Rattle.call_depth.specs.Called.{profile_in, slots_in}
 use Rattle.call_depth.proofs.marking.mark_called.Goals as goal
 
 -- src/lib.rt:328:9

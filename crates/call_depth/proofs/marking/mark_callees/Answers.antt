@@ -1,14 +1,11 @@
-use Prim.Native.Nat.{ℕ, ◌≤◌, ◌-◌}
+use Prim.Native.Nat.{ℕ}
 use mathlib.Core.Path.{◌≡◌, subst}
 use native.Mathlib.Omega.{arith}
 use borrow.Author.Rules.{rules}
 use lib.ListN.{length}
 use Rattle.call_graph.specs.Marks.{Spotted}
 use Rattle.call_graph.proofs.Marking.{spotted_start, spotted_next, shaped_kept}
-use Rattle.call_depth.specs.Called.{profile_in, slots_in, callee_in}
-use Rattle.call_depth.proofs.marking.mark_callees.Reads as reads
-use Rattle.call_depth.proofs.marking.mark_callees.Lts as lts
-use Rattle.call_depth.proofs.marking.mark_called.Reads as mark-called-reads
+use Rattle.call_depth.specs.Called.{profile_in, slots_in}
 use Rattle.call_depth.proofs.marking.mark_callees.Goals as goal
 
 -- src/lib.rt:339:5

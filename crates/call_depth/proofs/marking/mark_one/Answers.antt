@@ -1,13 +1,6 @@
 use native.Mathlib.Omega.{arith}
-use lib.ListN.{length}
 use Rattle.call_graph.proofs.Marking.{not_followed, followed, slots_within, slots_of}
-use borrow.Author.Rules.{rules}
-use Rattle.call_depth.specs.Called.{profile_in, slots_in, callee_in}
-use Rattle.call_depth.proofs.marking.mark_one.Reads as reads
-use Rattle.call_depth.proofs.marking.mark_one.Lts as lts
-use Rattle.call_depth.proofs.marking.end_in.Reads as end-in-reads
-use Rattle.call_depth.proofs.slots.mark_slots.Reads as mark-slots-reads
-use Rattle.call_depth.proofs.slots.wide.Reads as wide-reads
+use Rattle.call_depth.specs.Called.{profile_in, slots_in}
 use Rattle.call_depth.proofs.marking.mark_one.Goals as goal
 
 -- src/lib.rt:155:9

@@ -1,18 +1,7 @@
-use Prim.Native.Nat.{ℕ, ◌≤◌, ◌-◌}
-use mathlib.Core.Path.{◌≡◌, subst}
-use native.Mathlib.Omega.{arith}
-use borrow.Author.Rules.{rules}
+use Prim.Native.Nat.{◌≤◌, ◌-◌}
 use lib.ListN.{length}
-use Rattle.call_graph.specs.Profile.{Profile}
 use Rattle.call_graph.specs.Marks.{Round}
-use Rattle.call_graph.proofs.Marking.{round_start, round_next, round_last, slots_within, slots_of, marking_few, shaped_kept, begun_kept}
-use Rattle.call_depth.specs.Called.{profile_in, slots_in, callee_in}
-use Rattle.call_depth.proofs.marking.mark_pass.Reads as reads
-use Rattle.call_depth.proofs.marking.mark_pass.Lts as lts
-use Rattle.call_depth.proofs.marking.end_in.Reads as end-in-reads
-use Rattle.call_depth.proofs.marking.mark_one.Reads as mark-one-reads
-use Rattle.call_depth.proofs.slots.mark_slots.Reads as mark-slots-reads
-use Rattle.call_depth.proofs.slots.wide.Reads as wide-reads
+use Rattle.call_depth.specs.Called.{profile_in}
 use Rattle.call_depth.proofs.marking.mark_pass.Given as goal
 
 abbrev pub invariant-loop-r : goal.invariant-loop-r

@@ -1,9 +1,6 @@
 use mathlib.Core.Path.{refl}
 use borrow.Author.Tests.{le-leb, lt-leb}
-use borrow.Author.Rules.{rules}
 use Rattle.ebpf.specs.Choice.{◌if◌else◌}
-use Rattle.call_depth.proofs.recursion.bare.Reads as reads
-use Rattle.call_depth.proofs.recursion.bare.Lts as lts
 use Rattle.call_depth.proofs.recursion.bare.Goals as goal
 
 -- src/lib.rt:223:1

@@ -1,13 +1,10 @@
-use Prim.Native.Nat.{ℕ, ◌≤◌, ◌-◌}
+use Prim.Native.Nat.{ℕ}
 use mathlib.Core.Path.{◌≡◌, subst}
 use native.Mathlib.Omega.{arith}
 use borrow.Author.Rules.{rules}
 use lib.ListN.{length}
-use Rattle.call_graph.specs.Marks.{Each, bare, keep}
+use Rattle.call_graph.specs.Marks.{Each, keep}
 use Rattle.call_graph.proofs.Least.{each_start, each_next}
-use Rattle.call_depth.proofs.recursion.keep_marked.Reads as reads
-use Rattle.call_depth.proofs.recursion.keep_marked.Lts as lts
-use Rattle.call_depth.proofs.recursion.kept.Reads as kept-reads
 use Rattle.call_depth.proofs.recursion.keep_marked.Goals as goal
 
 -- src/lib.rt:260:5

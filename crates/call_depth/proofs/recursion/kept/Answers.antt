@@ -1,9 +1,6 @@
 use mathlib.Core.Path.{refl}
 use borrow.Author.Tests.{le-leb, lt-leb, lt-ltb, le-ltb, eq-eqb, ne_eqb}
-use borrow.Author.Rules.{rules}
 use Rattle.ebpf.specs.Choice.{◌if◌else◌}
-use Rattle.call_depth.proofs.recursion.kept.Reads as reads
-use Rattle.call_depth.proofs.recursion.kept.Lts as lts
 use Rattle.call_depth.proofs.recursion.kept.Goals as goal
 
 -- src/lib.rt:244:9

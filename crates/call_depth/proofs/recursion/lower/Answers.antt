@@ -1,10 +1,7 @@
 use native.Mathlib.Omega.{arith}
 use Rattle.call_graph.proofs.Least.{lowest_settled, lowest_kept, lowest_new}
-use borrow.Author.Rules.{rules}
 use lib.ListN.{length}
 use Rattle.call_graph.specs.Profile.{nth_of}
-use Rattle.call_depth.proofs.recursion.lower.Reads as reads
-use Rattle.call_depth.proofs.recursion.lower.Lts as lts
 use Rattle.call_depth.proofs.recursion.lower.Goals as goal
 
 -- src/lib.rt:285:9

@@ -1,12 +1,5 @@
-use native.Mathlib.Omega.{arith}
-use lib.ListN.{length}
 use Rattle.call_graph.proofs.Least.{tested, plain_begun}
-use borrow.Author.Rules.{rules}
-use Rattle.call_depth.specs.Called.{profile_in, slots_in, callee_in}
-use Rattle.call_depth.proofs.recursion.marks_itself.Reads as reads
-use Rattle.call_depth.proofs.recursion.marks_itself.Lts as lts
-use Rattle.call_depth.proofs.marking.mark_all.Reads as mark-all-reads
-use Rattle.call_depth.proofs.recursion.unmark.Reads as unmark-reads
+use Rattle.call_depth.specs.Called.{profile_in, slots_in}
 use Rattle.call_depth.proofs.recursion.marks_itself.Goals as goal
 
 -- src/lib.rt:271:5

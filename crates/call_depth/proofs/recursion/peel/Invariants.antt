@@ -1,14 +1,7 @@
-use Prim.Native.Nat.{ℕ, ◌≤◌, ◌-◌}
-use mathlib.Core.Path.{◌≡◌, sym, ◌∙◌}
-use native.Mathlib.Omega.{arith}
-use borrow.Author.Rules.{rules}
+use Prim.Native.Nat.{◌≤◌, ◌-◌}
 use lib.ListN.{length}
 use Rattle.call_graph.specs.Marks.{Open}
-use Rattle.call_depth.specs.Called.{profile_in, slots_in, callee_in}
-use Rattle.call_depth.proofs.recursion.peel.Reads as reads
-use Rattle.call_depth.proofs.recursion.peel.Lts as lts
-use Rattle.call_depth.proofs.recursion.peel_once.Reads as peel-once-reads
-use Rattle.call_depth.proofs.recursion.rows_left.Reads as rows-left-reads
+use Rattle.call_depth.specs.Called.{profile_in, slots_in}
 use Rattle.call_depth.proofs.recursion.peel.Given as goal
 
 abbrev pub invariant-loop-i : goal.invariant-loop-i

@@ -1,11 +1,5 @@
-use lib.ListN.{length}
 use Rattle.call_graph.proofs.Least.{open_left}
-use borrow.Author.Rules.{rules}
-use Rattle.call_depth.specs.Called.{profile_in, slots_in, callee_in}
-use Rattle.call_depth.proofs.recursion.peel_once.Reads as reads
-use Rattle.call_depth.proofs.recursion.peel_once.Lts as lts
-use Rattle.call_depth.proofs.recursion.keep_marked.Reads as keep-marked-reads
-use Rattle.call_depth.proofs.marking.mark_callees.Reads as mark-callees-reads
+use Rattle.call_depth.specs.Called.{profile_in, slots_in}
 use Rattle.call_depth.proofs.recursion.peel_once.Goals as goal
 
 -- src/lib.rt:346:1

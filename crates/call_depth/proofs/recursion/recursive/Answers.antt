@@ -1,13 +1,5 @@
-use lib.ListN.{length}
 use Rattle.call_graph.proofs.Least.{short_begun, short_open, short_kept}
-use borrow.Author.Rules.{rules}
-use Rattle.call_depth.specs.Called.{profile_in, slots_in, callee_in}
-use Rattle.call_depth.proofs.recursion.recursive.Reads as reads
-use Rattle.call_depth.proofs.recursion.recursive.Lts as lts
-use Rattle.call_depth.proofs.recursion.keep_marked.Reads as keep-marked-reads
-use Rattle.call_depth.proofs.marking.mark_all.Reads as mark-all-reads
-use Rattle.call_depth.proofs.recursion.peel.Reads as peel-reads
-use Rattle.call_depth.proofs.recursion.smallest.Reads as smallest-reads
+use Rattle.call_depth.specs.Called.{profile_in, slots_in}
 use Rattle.call_depth.proofs.recursion.recursive.Goals as goal
 
 -- src/lib.rt:403:5

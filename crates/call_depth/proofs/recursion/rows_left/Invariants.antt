@@ -1,10 +1,5 @@
 use Prim.Native.Nat.{◌≤◌, ◌-◌}
-use native.Mathlib.Omega.{arith}
-use borrow.Author.Rules.{rules}
-use mathlib.Core.Logic.{⊎_elim}
 use lib.ListN.{length}
-use Rattle.call_depth.proofs.recursion.rows_left.Reads as reads
-use Rattle.call_depth.proofs.recursion.rows_left.Lts as lts
 use Rattle.call_depth.proofs.recursion.rows_left.Given as goal
 
 abbrev pub invariant-loop-r : goal.invariant-loop-r

@@ -1,13 +1,10 @@
-use Prim.Native.Nat.{ℕ, ◌≤◌, ◌-◌}
+use Prim.Native.Nat.{ℕ}
 use mathlib.Core.Path.{◌≡◌, subst}
 use native.Mathlib.Omega.{arith}
 use borrow.Author.Rules.{rules}
 use lib.ListN.{length}
-use Rattle.call_graph.specs.Marks.{Each, bare, keep}
+use Rattle.call_graph.specs.Marks.{Each, bare}
 use Rattle.call_graph.proofs.Least.{each_start, each_next}
-use Rattle.call_depth.proofs.recursion.unmark.Reads as reads
-use Rattle.call_depth.proofs.recursion.unmark.Lts as lts
-use Rattle.call_depth.proofs.recursion.bare.Reads as bare-reads
 use Rattle.call_depth.proofs.recursion.unmark.Goals as goal
 
 -- src/lib.rt:234:5

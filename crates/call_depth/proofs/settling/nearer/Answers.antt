@@ -1,7 +1,5 @@
 use mathlib.Core.Path.{refl}
 use Rattle.ebpf.specs.Choice.{◌if◌else◌}
-use Rattle.call_depth.proofs.settling.nearer.Reads as reads
-use Rattle.call_depth.proofs.settling.nearer.Lts as lts
 use Rattle.call_depth.proofs.settling.nearer.Goals as goal
 
 -- src/lib.rt:191:1

@@ -1,11 +1,6 @@
 use Rattle.call_graph.proofs.Least.{ready_of}
-use borrow.Author.Rules.{rules}
 use Rattle.call_depth.specs.Called.{profile_in, slots_in}
 use Rattle.call_depth.proofs.Sizes.{sized_of}
-use Rattle.call_depth.proofs.settling.settle.Reads as reads
-use Rattle.call_depth.proofs.settling.settle.Lts as lts
-use Rattle.call_depth.proofs.settling.prepare.Reads as prepare-reads
-use Rattle.call_depth.proofs.settling.settle_all.Reads as settle-all-reads
 use Rattle.call_depth.proofs.settling.settle.Goals as goal
 
 -- src/lib.rt:317:5

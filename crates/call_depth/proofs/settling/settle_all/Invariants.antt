@@ -1,13 +1,7 @@
 use Prim.Native.Nat.{◌-◌}
-use native.Mathlib.Omega.{arith}
-use borrow.Author.Rules.{rules}
 use lib.ListN.{length}
 use Rattle.call_graph.specs.Words.{WordsReady, settled_in}
-use Rattle.call_graph.proofs.Settling.{stopped_still, stopped_settled, passing_less}
 use Rattle.call_depth.specs.Called.{profile_in, slots_in}
-use Rattle.call_depth.proofs.settling.settle_all.Reads as reads
-use Rattle.call_depth.proofs.settling.settle_all.Lts as lts
-use Rattle.call_depth.proofs.settling.settle_pass.Reads as settle-pass-reads
 use Rattle.call_depth.proofs.settling.settle_all.Given as goal
 
 abbrev pub invariant-loop-version2 : goal.invariant-loop-version2

@@ -1,15 +1,10 @@
 use native.Mathlib.Omega.{arith}
 use Prim.Native.Nat.{◌-◌}
-use lib.ListN.{length, get_or}
+use lib.ListN.{get_or}
 use Rattle.call_graph.specs.Words.{FLAG}
 use Rattle.call_graph.proofs.Settling.{tried_kept, tried_zero, tried_some, end_within}
 use Rattle.call_depth.specs.Called.{profile_in, slots_in}
 use Rattle.call_depth.proofs.Sizes.{scan_as}
-use borrow.Author.Rules.{rules}
-use Rattle.call_depth.proofs.settling.settle_one.Reads as reads
-use Rattle.call_depth.proofs.settling.settle_one.Lts as lts
-use Rattle.call_depth.proofs.slots.depth_over.Reads as depth-over-reads
-use Rattle.call_depth.proofs.slots.wide.Reads as wide-reads
 use Rattle.call_depth.proofs.settling.settle_one.Goals as goal
 
 -- src/lib.rt:74:9

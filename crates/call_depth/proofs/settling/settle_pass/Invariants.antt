@@ -1,14 +1,7 @@
-use Prim.Native.Nat.{ℕ, ◌≤◌, ◌-◌}
-use mathlib.Core.Path.{◌≡◌, subst}
-use native.Mathlib.Omega.{arith}
-use borrow.Author.Rules.{rules}
+use Prim.Native.Nat.{◌≤◌, ◌-◌}
 use lib.ListN.{length}
 use Rattle.call_graph.specs.Words.{Passing}
-use Rattle.call_graph.proofs.Settling.{passing_start, passing_next, passing_few}
-use Rattle.call_depth.specs.Called.{profile_in, slots_in, callee_in}
-use Rattle.call_depth.proofs.settling.settle_pass.Reads as reads
-use Rattle.call_depth.proofs.settling.settle_pass.Lts as lts
-use Rattle.call_depth.proofs.settling.settle_one.Reads as settle-one-reads
+use Rattle.call_depth.specs.Called.{profile_in}
 use Rattle.call_depth.proofs.settling.settle_pass.Given as goal
 
 abbrev pub invariant-loop-r : goal.invariant-loop-r

@@ -2,7 +2,6 @@
 -- Assumes nothing.
 use mathlib.Core.Path.{refl, sym, ◌∙◌}
 use Rattle.ebpf.specs.Choice.{◌if◌else◌}
-use borrow.Author.Rules.{rules}
 use Rattle.call_depth.proofs.slots.callee_by.Goals as goal
 
 pub returns-then-calls_key : goal.returns-then-calls_key

@@ -4,7 +4,6 @@ use mathlib.Core.Path.{◌∙◌, ap}
 use native.Mathlib.Omega.{arith}
 use Rattle.call_depth.specs.Called.{callee_by, callee_in}
 use Rattle.call_depth.proofs.Entries.{no_call}
-use borrow.Author.Rules.{rules}
 use Rattle.call_depth.proofs.slots.callee_of.Goals as goal
 
 pub bounds-text-s : goal.bounds-text-s

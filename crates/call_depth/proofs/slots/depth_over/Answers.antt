@@ -1,16 +1,10 @@
-use Prim.Native.Nat.{ℕ, ◌≤◌, ◌-◌}
-use mathlib.Core.Path.{◌≡◌, ap, ◌∙◌}
+use Prim.Native.Nat.{ℕ}
+use mathlib.Core.Path.{ap, ◌∙◌}
 use borrow.Author.Rules.{rules}
 use native.Mathlib.Omega.{arith}
 use lib.ListN.{get_or}
-use Rattle.call_graph.specs.Words.{OverSlots}
 use Rattle.call_graph.proofs.Scans.{over_start, over_next, scan_stop, scan_end}
 use Rattle.call_depth.specs.Called.{callee_in}
-use Rattle.call_depth.proofs.slots.depth_over.Reads as reads
-use Rattle.call_depth.proofs.slots.depth_over.Lts as lts
-use Rattle.call_depth.proofs.slots.callee_of.Reads as callee-of-reads
-use Rattle.call_depth.proofs.slots.larger.Reads as larger-reads
-use Rattle.call_depth.proofs.slots.word_at.Reads as word-at-reads
 use Rattle.call_depth.proofs.slots.depth_over.Goals as goal
 
 -- src/lib.rt:57:5

@@ -1,9 +1,5 @@
-use native.Mathlib.Omega.{arith}
 use mathlib.Core.Logic.{inl, inr}
 use Rattle.call_graph.proofs.Marking.{row_past, row_kept, row_marked}
-use borrow.Author.Rules.{rules}
-use Rattle.call_depth.proofs.slots.mark_row.Reads as reads
-use Rattle.call_depth.proofs.slots.mark_row.Lts as lts
 use Rattle.call_depth.proofs.slots.mark_row.Goals as goal
 
 -- src/lib.rt:103:9

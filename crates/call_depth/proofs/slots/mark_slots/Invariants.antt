@@ -1,13 +1,6 @@
 use Prim.Native.Nat.{◌≤◌, ◌-◌}
-use native.Mathlib.Omega.{arith}
-use borrow.Author.Rules.{rules}
 use Rattle.call_depth.specs.Called.{callee_in}
 use Rattle.call_graph.specs.Marks.{Slots}
-use Rattle.call_graph.proofs.Marking.{slots_start, slots_next, slots_end, marking_few}
-use Rattle.call_depth.proofs.slots.mark_slots.Reads as reads
-use Rattle.call_depth.proofs.slots.mark_slots.Lts as lts
-use Rattle.call_depth.proofs.slots.callee_of.Reads as callee-of-reads
-use Rattle.call_depth.proofs.slots.mark_row.Reads as mark-row-reads
 use Rattle.call_depth.proofs.slots.mark_slots.Given as goal
 
 abbrev pub invariant-loop-s : goal.invariant-loop-s

@@ -1,7 +1,6 @@
 -- `call_depth::slots::row_under` meets its contract: by what the lookup finds.
 -- Assumes nothing.
 use mathlib.Core.Path.{refl}
-use borrow.Author.Rules.{rules}
 use Rattle.call_depth.proofs.slots.row_under.Goals as goal
 
 pub returns-in-At : goal.returns-in-At

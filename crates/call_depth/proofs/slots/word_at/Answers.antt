@@ -1,8 +1,5 @@
-use borrow.Author.Rules.{rules}
 use mathlib.Core.Path.{sym}
 use lib.ListN.{get_or-eq_default}
-use Rattle.call_depth.proofs.slots.word_at.Reads as reads
-use Rattle.call_depth.proofs.slots.word_at.Lts as lts
 use Rattle.call_depth.proofs.slots.word_at.Goals as goal
 
 -- src/lib.rt:22:1

@@ -1,6 +1,5 @@
 -- `ebpf::index_keys::key_of` meets its contract: the three calls' results, put together.
 -- Assumes nothing.
-use borrow.Author.Rules.{rules}
 use Rattle.ebpf.proofs.index_keys.key_of.Goals as goal
 
 pub returns : goal.returns

@@ -1,6 +1,5 @@
 -- `ebpf::murmur3::fmix` meets its contract: the two products' results, put together.
 -- Assumes nothing.
-use borrow.Author.Rules.{rules}
 use Rattle.ebpf.proofs.murmur3.fmix.Goals as goal
 
 pub returns : goal.returns

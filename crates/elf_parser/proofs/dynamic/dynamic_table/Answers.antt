@@ -1,7 +1,6 @@
 -- `elf_parser::dynamic::dynamic_table` meets its contract: the segment, or the section.
 -- Assumes nothing.
 use Rattle.elf_parser.specs.Dynamic.{or_else}
-use borrow.Author.Rules.{rules}
 use Rattle.elf_parser.proofs.dynamic.dynamic_table.Goals as goal
 
 pub returns-in-At : goal.returns-in-At

@@ -1,11 +1,8 @@
 -- `elf_parser::dynamic::dynamic_values` meets its contract. The loop's invariant: what is left gives the whole, and lies in the file.
 -- Assumes nothing.
-use Prim.Native.Nat.{◌+◌, ◌*◌, ◌≤◌}
 use native.Mathlib.Omega.{arith}
-use mathlib.Core.Path.{◌≡◌, refl, sym, ◌∙◌}
-use lib.ListN.{length}
-use Rattle.elf_parser.specs.Dynamic.{values_from, dynamic_values, values_next, values_stop, values_end}
-use borrow.Author.Rules.{rules}
+use mathlib.Core.Path.{refl, sym, ◌∙◌}
+use Rattle.elf_parser.specs.Dynamic.{values_next, values_stop, values_end}
 use Rattle.elf_parser.proofs.dynamic.dynamic_values.Goals as goal
 
 pub loop-left-init : goal.loop-left-init

@@ -1,11 +1,9 @@
 -- `elf_parser::dynamic::dynamic_values` meets its contract. The loop's invariant: what is left gives the whole, and lies in the file.
 -- Assumes nothing.
 use Prim.Native.Nat.{◌+◌, ◌*◌, ◌≤◌}
-use native.Mathlib.Omega.{arith}
-use mathlib.Core.Path.{◌≡◌, refl, sym, ◌∙◌}
+use mathlib.Core.Path.{◌≡◌}
 use lib.ListN.{length}
-use Rattle.elf_parser.specs.Dynamic.{values_from, dynamic_values, values_next, values_stop, values_end}
-use borrow.Author.Rules.{rules}
+use Rattle.elf_parser.specs.Dynamic.{values_from, dynamic_values}
 use Rattle.elf_parser.proofs.dynamic.dynamic_values.Given as goal
 
 abbrev pub invariant-loop-left : goal.invariant-loop-left

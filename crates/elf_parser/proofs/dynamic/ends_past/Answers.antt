@@ -7,7 +7,6 @@ use mathlib.Core.Bool.{Bool, true, false}
 use mathlib.Core.Path.{◌≡◌, refl, sym}
 use lib.Dec.{ltb}
 use borrow.Author.Tests.{ltb-true, ltb-false, lt-ltb, le-ltb}
-use borrow.Author.Rules.{rules}
 use Rattle.elf_parser.proofs.dynamic.ends_past.Goals as goal
 
 behind : (len offset count width : ℕ) → len < offset → true ≡ ltb len (offset + width * count)

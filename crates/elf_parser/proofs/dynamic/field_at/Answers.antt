@@ -1,6 +1,5 @@
 -- `elf_parser::dynamic::field_at` meets its contract: a read of either width.
 -- Assumes nothing.
-use borrow.Author.Rules.{rules}
 use Rattle.elf_parser.proofs.dynamic.field_at.Goals as goal
 
 pub returns-then-wide : goal.returns-then-wide

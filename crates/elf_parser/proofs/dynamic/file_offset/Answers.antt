@@ -2,7 +2,6 @@
 -- Assumes nothing.
 use mathlib.Core.Path.{sym, ◌∙◌}
 use borrow.Author.Tests.{ltb-false}
-use borrow.Author.Rules.{rules}
 use Rattle.ebpf.specs.Choice.{◌if◌else◌}
 use Rattle.elf_parser.specs.Dynamic.{file_offset}
 use Rattle.elf_parser.proofs.dynamic.file_offset.Goals as goal

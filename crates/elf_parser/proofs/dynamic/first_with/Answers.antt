@@ -1,12 +1,9 @@
 -- `elf_parser::dynamic::first_with` meets its contract. The loop's invariant: what is left gives the whole, and lies in the file.
 -- Assumes nothing.
-use Prim.Native.Nat.{◌+◌, ◌*◌, ◌≤◌}
 use native.Mathlib.Omega.{arith}
-use mathlib.Core.Path.{◌≡◌, refl, sym, ◌∙◌}
-use lib.ListN.{length}
+use mathlib.Core.Path.{refl, sym, ◌∙◌}
 use Rattle.elf_parser.specs.Loops.{one_of}
-use Rattle.elf_parser.specs.Dynamic.{first_with, first_here, first_next, first_end}
-use borrow.Author.Rules.{rules}
+use Rattle.elf_parser.specs.Dynamic.{first_here, first_next, first_end}
 use Rattle.elf_parser.proofs.dynamic.first_with.Goals as goal
 
 pub loop-left-init : goal.loop-left-init

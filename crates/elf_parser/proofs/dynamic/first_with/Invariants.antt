@@ -1,12 +1,9 @@
 -- `elf_parser::dynamic::first_with` meets its contract. The loop's invariant: what is left gives the whole, and lies in the file.
 -- Assumes nothing.
 use Prim.Native.Nat.{◌+◌, ◌*◌, ◌≤◌}
-use native.Mathlib.Omega.{arith}
-use mathlib.Core.Path.{◌≡◌, refl, sym, ◌∙◌}
+use mathlib.Core.Path.{◌≡◌}
 use lib.ListN.{length}
-use Rattle.elf_parser.specs.Loops.{one_of}
-use Rattle.elf_parser.specs.Dynamic.{first_with, first_here, first_next, first_end}
-use borrow.Author.Rules.{rules}
+use Rattle.elf_parser.specs.Dynamic.{first_with}
 use Rattle.elf_parser.proofs.dynamic.first_with.Given as goal
 
 abbrev pub invariant-loop-left : goal.invariant-loop-left

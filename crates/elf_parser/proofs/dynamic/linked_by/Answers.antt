@@ -1,7 +1,6 @@
 -- `elf_parser::dynamic::linked_by` meets its contract, whether a table is refused or not.
 -- Assumes nothing.
 use Rattle.elf_parser.specs.Dynamic.{linking}
-use borrow.Author.Rules.{rules}
 use Rattle.elf_parser.proofs.dynamic.linked_by.Goals as goal
 
 pub returns-in-Refused : goal.returns-in-Refused

@@ -2,7 +2,6 @@
 -- Assumes nothing.
 use mathlib.Core.Path.{sym, ◌∙◌}
 use Rattle.elf_parser.specs.Dynamic.{dynamic_in, table_in_file}
-use borrow.Author.Rules.{rules}
 use Rattle.elf_parser.proofs.dynamic.parse_dynamic.Goals as goal
 
 pub dynamic_values-values-requires : goal.dynamic_values-values-requires

@@ -4,7 +4,6 @@ use native.Mathlib.Omega.{arith}
 use mathlib.Core.Path.{sym, ◌∙◌}
 use Rattle.elf_parser.specs.Types.{section_header}
 use Rattle.elf_parser.specs.Dynamic.{or_section, section_offset, first_within}
-use borrow.Author.Rules.{rules}
 use Rattle.elf_parser.proofs.dynamic.relocation_offset.Goals as goal
 
 pub overflow_add-at : goal.overflow_add-at

@@ -2,7 +2,6 @@
 -- Assumes nothing.
 use Rattle.ebpf.specs.Choice.{choices}
 use Rattle.elf_parser.specs.Dynamic.{relocations_of, relocations_by}
-use borrow.Author.Rules.{rules}
 use Rattle.elf_parser.proofs.dynamic.relocations.Goals as goal
 
 pub returns-then-vaddr-eq0 : goal.returns-then-vaddr-eq0

@@ -2,7 +2,6 @@
 -- Assumes nothing.
 use Rattle.ebpf.specs.Choice.{choices}
 use Rattle.elf_parser.specs.Dynamic.{relocations_at}
-use borrow.Author.Rules.{rules}
 use Rattle.elf_parser.proofs.dynamic.relocations_at.Goals as goal
 
 pub returns-then-offset-size : goal.returns-then-offset-size

@@ -4,7 +4,6 @@ use native.Mathlib.Omega.{arith}
 use mathlib.Core.Path.{sym, ◌∙◌}
 use Rattle.ebpf.specs.Choice.{choices}
 use Rattle.elf_parser.specs.Dynamic.{symbols_of, symbols_by, first_within}
-use borrow.Author.Rules.{rules}
 use Rattle.elf_parser.proofs.dynamic.symbols.Goals as goal
 
 pub returns-then-vaddr-eq0 : goal.returns-then-vaddr-eq0

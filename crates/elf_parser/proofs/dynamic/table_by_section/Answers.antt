@@ -3,7 +3,6 @@
 use native.Mathlib.Omega.{arith}
 use mathlib.Core.Path.{sym, ◌∙◌}
 use Rattle.elf_parser.specs.Dynamic.{section_slice, first_within}
-use borrow.Author.Rules.{rules}
 use Rattle.elf_parser.proofs.dynamic.table_by_section.Goals as goal
 
 pub shdr_at-h-requires : goal.shdr_at-h-requires

@@ -3,7 +3,6 @@
 use native.Mathlib.Omega.{arith}
 use mathlib.Core.Path.{sym, ◌∙◌}
 use Rattle.elf_parser.specs.Dynamic.{segment_slice, first_within}
-use borrow.Author.Rules.{rules}
 use Rattle.elf_parser.proofs.dynamic.table_by_segment.Goals as goal
 
 pub phdr_at-h-requires : goal.phdr_at-h-requires

@@ -2,7 +2,6 @@
 -- Assumes nothing.
 use Rattle.ebpf.specs.Choice.{choices}
 use Rattle.elf_parser.specs.Dynamic.{with_tag}
-use borrow.Author.Rules.{rules}
 use Rattle.elf_parser.proofs.dynamic.with_tag.Goals as goal
 
 pub returns-then-d_tag : goal.returns-then-d_tag

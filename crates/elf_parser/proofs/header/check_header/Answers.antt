@@ -2,7 +2,6 @@
 -- Assumes nothing.
 use Rattle.ebpf.specs.Choice.{choices}
 use Rattle.elf_parser.specs.FileHeader.{header_check}
-use borrow.Author.Rules.{rules}
 use Rattle.elf_parser.proofs.header.check_header.Goals as goal
 
 pub returns-then-file-lt64 : goal.returns-then-file-lt64

@@ -2,7 +2,6 @@
 -- Assumes nothing.
 use Rattle.ebpf.specs.Choice.{choices}
 use Rattle.elf_parser.specs.FileHeader.{tables_check}
-use borrow.Author.Rules.{rules}
 use Rattle.elf_parser.proofs.header.check_tables.Goals as goal
 
 pub returns-then-e_phoff-phsize : goal.returns-then-e_phoff-phsize

@@ -8,7 +8,6 @@ use Rattle.elf_parser.specs.declared.error.Check.TheVariants.{Pass}
 use Rattle.elf_parser.specs.Errors.{then_stop, then_go}
 use Rattle.elf_parser.specs.FileHeader.{header_check, tables_within}
 use Rattle.elf_parser.specs.Parse.{file_check, first_refused, first_passes, some_section}
-use borrow.Author.Rules.{rules}
 use Rattle.elf_parser.proofs.layout.check_file.Goals.{In_default, In_default-check_tables}
 use Rattle.elf_parser.proofs.layout.check_file.Goals as goal
 

@@ -1,6 +1,5 @@
 -- `elf_parser::layout::linked_layout` meets its contract: by what the dynamic table leads to.
 -- Assumes nothing.
-use borrow.Author.Rules.{rules}
 use Rattle.elf_parser.proofs.layout.linked_layout.Goals as goal
 
 pub returns-in-Refused : goal.returns-in-Refused

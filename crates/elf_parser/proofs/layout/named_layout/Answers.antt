@@ -2,7 +2,6 @@
 -- Assumes nothing.
 use Rattle.ebpf.specs.Choice.{choices}
 use Rattle.elf_parser.specs.Parse.{named_layout}
-use borrow.Author.Rules.{rules}
 use Rattle.elf_parser.proofs.layout.named_layout.Goals as goal
 
 pub returns-then-h-eq0 : goal.returns-then-h-eq0

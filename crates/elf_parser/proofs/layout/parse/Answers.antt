@@ -3,7 +3,6 @@
 use mathlib.Core.Path.{◌≡◌, sym, ◌∙◌}
 use Rattle.elf_parser.specs.declared.error.Check.TheVariants.{Pass}
 use Rattle.elf_parser.specs.Parse.{parsed, room}
-use borrow.Author.Rules.{rules}
 use Rattle.elf_parser.proofs.layout.parse.Goals as goal
 
 pub named_layout-requires : goal.named_layout-requires

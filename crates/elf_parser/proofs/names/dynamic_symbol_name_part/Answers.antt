@@ -1,6 +1,5 @@
 -- `elf_parser::names::dynamic_symbol_name_part` meets its contract: the part at the place.
 -- Assumes nothing.
-use borrow.Author.Rules.{rules}
 use Rattle.elf_parser.proofs.names.dynamic_symbol_name_part.Goals as goal
 
 pub returns : goal.returns

@@ -4,7 +4,6 @@ use Rattle.ebpf.specs.Choice.{choices}
 use mathlib.Core.Path.{sym, ◌∙◌}
 use borrow.Author.Tests.{ltb-false}
 use Rattle.elf_parser.specs.Names.{name_by}
-use borrow.Author.Rules.{rules}
 use Rattle.elf_parser.proofs.names.name_by.Goals as goal
 
 pub returns-then-header_at-eq0 : goal.returns-then-header_at-eq0

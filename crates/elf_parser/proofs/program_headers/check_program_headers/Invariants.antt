@@ -1,13 +1,11 @@
 -- `elf_parser::program_headers::check_program_headers` meets its contract. The loop's invariant: the headers that are left, from the state now,
 -- give what all give from the start.
 -- Assumes nothing.
-use native.Mathlib.Omega.{arith}
-use mathlib.Core.Path.{◌≡◌, refl, ap, sym, ◌∙◌}
+use mathlib.Core.Path.{◌≡◌}
 use Prim.Native.Nat.{◌+◌, ◌*◌, ◌≤◌}
 use lib.ListN.{length}
-use Rattle.elf_parser.specs.Loops.{over, over_next, over_stop, over_end}
+use Rattle.elf_parser.specs.Loops.{over}
 use Rattle.elf_parser.specs.ProgramHeaders.{turn_of, check_of, load_step, loads_check}
-use borrow.Author.Rules.{rules}
 use Rattle.elf_parser.proofs.program_headers.check_program_headers.Given as goal
 
 abbrev pub invariant-loop-left : goal.invariant-loop-left

@@ -7,7 +7,6 @@ use mathlib.Core.Path.{◌≡◌}
 use borrow.Author.Tests.{lt-leb}
 use Rattle.ebpf.specs.Choice.{past_word, choices}
 use Rattle.elf_parser.specs.ProgramHeaders.{contains_step}
-use borrow.Author.Rules.{rules}
 use Rattle.elf_parser.proofs.program_headers.contains_step.Goals as goal
 
 -- where an address of a segment stands in the file, if that fits 64 bits

@@ -1,12 +1,9 @@
 -- `elf_parser::program_headers::header_for_vaddr` meets its contract. The loop's invariant: what is left gives the whole, and lies in the file.
 -- Assumes nothing.
-use Prim.Native.Nat.{◌+◌, ◌*◌, ◌≤◌}
 use native.Mathlib.Omega.{arith}
-use mathlib.Core.Path.{◌≡◌, refl, sym, ap, ◌∙◌}
-use lib.ListN.{length}
+use mathlib.Core.Path.{refl, sym, ap, ◌∙◌}
 use Rattle.elf_parser.specs.Loops.{over_next, over_stop, over_end}
-use Rattle.elf_parser.specs.ProgramHeaders.{header_for_vaddr, mapped_turn, mapped_by}
-use borrow.Author.Rules.{rules}
+use Rattle.elf_parser.specs.ProgramHeaders.{mapped_turn, mapped_by}
 use Rattle.elf_parser.proofs.program_headers.header_for_vaddr.Goals as goal
 
 pub loop-left-init : goal.loop-left-init

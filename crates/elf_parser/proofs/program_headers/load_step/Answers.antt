@@ -2,7 +2,6 @@
 -- Assumes nothing.
 use Rattle.ebpf.specs.Choice.{choices}
 use Rattle.elf_parser.specs.ProgramHeaders.{load_step}
-use borrow.Author.Rules.{rules}
 use Rattle.elf_parser.proofs.program_headers.load_step.Goals as goal
 
 pub returns-then-h-ne-PT_LOAD : goal.returns-then-h-ne-PT_LOAD

@@ -2,7 +2,6 @@
 -- Assumes nothing.
 use Rattle.ebpf.specs.Choice.{choices}
 use Rattle.elf_parser.specs.Records.{contents_place}
-use borrow.Author.Rules.{rules}
 use Rattle.elf_parser.proofs.records.contents_in_file.Goals as goal
 
 pub returns-then-header-eq-SHT_NULL : goal.returns-then-header-eq-SHT_NULL

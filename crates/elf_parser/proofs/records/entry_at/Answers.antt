@@ -7,7 +7,6 @@ use borrow.Author.Tests.{ltb-false}
 use mathlib.Core.Path.{sym, ◌∙◌}
 use Rattle.elf_parser.specs.Records.{entry_at}
 use Rattle.elf_parser.proofs.Orders.{few}
-use borrow.Author.Rules.{rules}
 use Rattle.elf_parser.proofs.records.entry_at.Goals as goal
 
 pub returns-then-table-index : goal.returns-then-table-index

@@ -1,6 +1,5 @@
 -- `elf_parser::records::file_range` meets its contract: by the header.
 -- Assumes nothing.
-use borrow.Author.Rules.{rules}
 use Rattle.elf_parser.proofs.records.file_range.Goals as goal
 
 pub returns-in-Header : goal.returns-in-Header

@@ -2,7 +2,6 @@
 -- Assumes nothing.
 use Rattle.ebpf.specs.Choice.{choices}
 use Rattle.elf_parser.specs.Records.{file_range}
-use borrow.Author.Rules.{rules}
 use Rattle.elf_parser.proofs.records.range_in_file.Goals as goal
 
 pub returns-then-header-eq-SHT_NOBITS : goal.returns-then-header-eq-SHT_NOBITS

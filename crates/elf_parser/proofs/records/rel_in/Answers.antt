@@ -2,7 +2,6 @@
 -- Assumes nothing.
 use mathlib.Core.Path.{sym, ◌∙◌}
 use Rattle.elf_parser.specs.Records.{entry_within}
-use borrow.Author.Rules.{rules}
 use Rattle.elf_parser.proofs.records.rel_in.Goals as goal
 
 pub rel_at-requires : goal.rel_at-requires

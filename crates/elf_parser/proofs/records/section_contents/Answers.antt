@@ -1,6 +1,5 @@
 -- `elf_parser::records::section_contents` meets its contract: the part at the place.
 -- Assumes nothing.
-use borrow.Author.Rules.{rules}
 use Rattle.elf_parser.proofs.records.section_contents.Goals as goal
 
 pub returns : goal.returns

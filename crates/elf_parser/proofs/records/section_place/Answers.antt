@@ -1,6 +1,5 @@
 -- `elf_parser::records::section_place` meets its contract: by the header.
 -- Assumes nothing.
-use borrow.Author.Rules.{rules}
 use Rattle.elf_parser.proofs.records.section_place.Goals as goal
 
 pub returns-in-Header : goal.returns-in-Header

@@ -2,7 +2,6 @@
 -- Assumes nothing.
 use mathlib.Core.Path.{sym, ◌∙◌}
 use Rattle.elf_parser.specs.Records.{entry_within}
-use borrow.Author.Rules.{rules}
 use Rattle.elf_parser.proofs.records.shdr_in.Goals as goal
 
 pub shdr_at-requires : goal.shdr_at-requires

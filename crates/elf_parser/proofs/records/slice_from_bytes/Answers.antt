@@ -2,7 +2,6 @@
 -- Assumes nothing.
 use Rattle.ebpf.specs.Choice.{choices}
 use Rattle.elf_parser.specs.Records.{sliced}
-use borrow.Author.Rules.{rules}
 use Rattle.elf_parser.proofs.records.slice_from_bytes.Goals as goal
 
 pub returns-then-offset-size : goal.returns-then-offset-size

@@ -2,7 +2,6 @@
 -- Assumes nothing.
 use mathlib.Core.Path.{sym, ◌∙◌}
 use Rattle.elf_parser.specs.Records.{entry_within}
-use borrow.Author.Rules.{rules}
 use Rattle.elf_parser.proofs.records.symbol.Goals as goal
 
 pub sym_at-requires : goal.sym_at-requires

@@ -4,7 +4,6 @@ use Rattle.ebpf.specs.Choice.{choices}
 use mathlib.Core.Path.{sym, ◌∙◌}
 use borrow.Author.Tests.{ltb-false}
 use Rattle.elf_parser.specs.Records.{symbol_table_of}
-use borrow.Author.Rules.{rules}
 use Rattle.elf_parser.proofs.records.symbol_table.Goals as goal
 
 pub returns-then-header_at-eq0 : goal.returns-then-header_at-eq0

@@ -2,7 +2,6 @@
 -- Assumes nothing.
 use Rattle.ebpf.specs.Choice.{choices}
 use Rattle.elf_parser.specs.Records.{symbol_table_in}
-use borrow.Author.Rules.{rules}
 use Rattle.elf_parser.proofs.records.symbol_table_in.Goals as goal
 
 pub returns-then-header : goal.returns-then-header

@@ -2,7 +2,6 @@
 -- Assumes nothing.
 use Rattle.ebpf.specs.Choice.{choices}
 use Rattle.elf_parser.specs.SectionHeaders.{section_check}
-use borrow.Author.Rules.{rules}
 use Rattle.elf_parser.proofs.section_headers.check_section.Goals as goal
 
 pub returns-then-sh_offset-sh_size : goal.returns-then-sh_offset-sh_size

@@ -2,13 +2,9 @@
 -- give what all give from the start.
 -- Assumes nothing.
 use native.Mathlib.Omega.{arith}
-use mathlib.Core.Path.{◌≡◌, refl, ap, sym, ◌∙◌}
-use Prim.Native.Nat.{◌+◌, ◌*◌, ◌≤◌}
-use lib.ListN.{length}
-use Rattle.elf_parser.specs.Loops.{over, over_next, over_stop, over_end}
+use mathlib.Core.Path.{refl, ap, sym, ◌∙◌}
+use Rattle.elf_parser.specs.Loops.{over_next, over_stop, over_end}
 use Rattle.elf_parser.specs.ProgramHeaders.{turn_of, check_of}
-use Rattle.elf_parser.specs.SectionHeaders.{section_step, sections_check}
-use borrow.Author.Rules.{rules}
 use Rattle.elf_parser.proofs.section_headers.check_section_headers.Goals as goal
 
 pub loop-left-init : goal.loop-left-init

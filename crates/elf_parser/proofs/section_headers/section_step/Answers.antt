@@ -5,7 +5,6 @@ use mathlib.Core.Path.{◌≡◌, sym, ◌∙◌}
 use native.Mathlib.Omega.{arith}
 use Rattle.elf_parser.specs.declared.error.Check.TheVariants.{Pass, Refused}
 use Rattle.elf_parser.specs.SectionHeaders.{section_step, leaves, section_within}
-use borrow.Author.Rules.{rules}
 use Rattle.elf_parser.proofs.section_headers.section_step.Goals as goal
 
 pub returns-then-h-eq-SHT_NOBITS : goal.returns-then-h-eq-SHT_NOBITS

@@ -2,12 +2,9 @@
 -- so far, give what all give from the start.
 -- Assumes nothing.
 use native.Mathlib.Omega.{arith}
-use mathlib.Core.Path.{◌≡◌, refl, ap, sym, ◌∙◌}
-use Prim.Native.Nat.{◌+◌, ◌*◌, ◌≤◌}
-use lib.ListN.{length}
-use Rattle.elf_parser.specs.Loops.{over, over_next, over_stop, over_end}
-use Rattle.elf_parser.specs.SectionNames.{naming_turn, naming_by, name_step, names_of}
-use borrow.Author.Rules.{rules}
+use mathlib.Core.Path.{refl, ap, sym, ◌∙◌}
+use Rattle.elf_parser.specs.Loops.{over_next, over_stop, over_end}
+use Rattle.elf_parser.specs.SectionNames.{naming_turn, naming_by}
 use Rattle.elf_parser.proofs.section_names.find_named.Goals as goal
 
 pub loop-left-init : goal.loop-left-init

@@ -1,13 +1,11 @@
 -- `elf_parser::section_names::find_named` meets its contract. The loop's invariant: the headers that are left, from what was found
 -- so far, give what all give from the start.
 -- Assumes nothing.
-use native.Mathlib.Omega.{arith}
-use mathlib.Core.Path.{◌≡◌, refl, ap, sym, ◌∙◌}
+use mathlib.Core.Path.{◌≡◌}
 use Prim.Native.Nat.{◌+◌, ◌*◌, ◌≤◌}
 use lib.ListN.{length}
-use Rattle.elf_parser.specs.Loops.{over, over_next, over_stop, over_end}
+use Rattle.elf_parser.specs.Loops.{over}
 use Rattle.elf_parser.specs.SectionNames.{naming_turn, naming_by, name_step, names_of}
-use borrow.Author.Rules.{rules}
 use Rattle.elf_parser.proofs.section_names.find_named.Given as goal
 
 abbrev pub invariant-loop-left : goal.invariant-loop-left

@@ -1,7 +1,6 @@
 -- `elf_parser::section_names::name_step` meets its contract: by the place of the name.
 -- Assumes nothing.
 use Rattle.elf_parser.specs.SectionNames.{named, named_at}
-use borrow.Author.Rules.{rules}
 use Rattle.elf_parser.proofs.section_names.name_step.Goals as goal
 
 pub returns-in-Refused : goal.returns-in-Refused

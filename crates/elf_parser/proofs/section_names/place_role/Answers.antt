@@ -4,7 +4,6 @@ use Rattle.ebpf.specs.Choice.{choices}
 use mathlib.Core.Path.{◌≡◌}
 use Rattle.elf_parser.specs.declared.section_names.Role.TheVariants.{SymbolTable, SymbolNames, DynamicSymbolNames, Other}
 use Rattle.elf_parser.specs.SectionNames.{placed}
-use borrow.Author.Rules.{rules}
 use Rattle.elf_parser.proofs.section_names.place_role.Goals as goal
 
 pub returns-then-n-ne0 : goal.returns-then-n-ne0

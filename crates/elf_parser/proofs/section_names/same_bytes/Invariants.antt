@@ -1,10 +1,9 @@
 -- `elf_parser::section_names::same_bytes` meets its contract. The loop's invariant: what is left decides.
 -- Assumes nothing.
-use native.Mathlib.Omega.{arith}
-use mathlib.Core.Path.{◌≡◌, refl, sym, ◌∙◌}
+use mathlib.Core.Path.{◌≡◌}
 use Prim.Native.Nat.{◌-◌, ◌≤◌}
 use lib.ListN.{length, drop}
-use Rattle.elf_parser.specs.SectionNames.{same_bytes, same_short, same_next, same_stop, same_end}
+use Rattle.elf_parser.specs.SectionNames.{same_bytes}
 use Rattle.elf_parser.proofs.section_names.same_bytes.Given as goal
 
 abbrev pub invariant-loop-i : goal.invariant-loop-i

@@ -1,9 +1,8 @@
 -- `elf_parser::strings::before_zero` meets its contract. The loop's invariant: the bytes passed are none of them zero.
 -- Assumes nothing.
-use native.Mathlib.Omega.{arith}
 use mathlib.Core.Path.{◌≡◌}
 use Prim.Native.Nat.{◌+◌, ◌-◌, ◌≤◌}
-use Rattle.elf_parser.specs.Strings.{before_zero, zero_here, zero_later, zero_none}
+use Rattle.elf_parser.specs.Strings.{before_zero}
 use Rattle.elf_parser.proofs.strings.before_zero.Given as goal
 
 abbrev pub invariant-loop-at : goal.invariant-loop-at

@@ -4,7 +4,6 @@ use Rattle.ebpf.specs.Choice.{choices, sum_fits}
 use native.Mathlib.Omega.{arith}
 use Prim.Native.Nat.{◌+◌}
 use Rattle.elf_parser.specs.Strings.{string_check}
-use borrow.Author.Rules.{rules}
 use Rattle.elf_parser.proofs.strings.check_string.Goals as goal
 
 pub returns-then-sh_type-ne-SHT_STRTAB : goal.returns-then-sh_type-ne-SHT_STRTAB

@@ -7,7 +7,6 @@ use lib.ListN.{length}
 use Rattle.elf_parser.specs.declared.error.Check.TheVariants.{Pass, Refused}
 use Rattle.ebpf.specs.Choice.{◌if◌else◌}
 use Rattle.elf_parser.specs.Strings.{Readable, readable, string_in, terminated, gives}
-use borrow.Author.Rules.{rules}
 use Rattle.elf_parser.proofs.strings.get_string_in_section.Goals.{In-Pass}
 use Rattle.elf_parser.proofs.strings.get_string_in_section.Goals as goal
 

@@ -1,12 +1,11 @@
 -- `exports::answers::clear_from` meets its contract. The loop's invariant: zeros are stored up to i, and the length is as it was.
 -- Assumes nothing.
 use mathlib.Core.Path.{◌≡◌, refl}
-use Prim.Native.Nat.{◌≤◌, ◌-◌}
 use native.Mathlib.Nat.{le_antisymm}
 use native.Mathlib.Numerals.{add-one}
 use native.Mathlib.Omega.{arith}
 use lib.ListN.{length, length-set}
-use Rattle.exports.proofs.Writing.{clearing, clear_start, clear_turn, clear_end}
+use Rattle.exports.proofs.Writing.{clear_start, clear_turn, clear_end}
 use borrow.Author.Rules.{rules}
 use Rattle.exports.proofs.answers.clear_from.Goals as goal
 

@@ -1,12 +1,11 @@
 -- `exports::answers::fill` meets its contract. The loop's invariant: the first i words are written, and the length is as it was.
 -- Assumes nothing.
 use mathlib.Core.Path.{◌≡◌, refl}
-use Prim.Native.Nat.{◌≤◌, ◌-◌}
 use native.Mathlib.Nat.{le_antisymm}
 use native.Mathlib.Numerals.{add-one}
 use native.Mathlib.Omega.{arith}
 use lib.ListN.{length, length-set}
-use Rattle.exports.proofs.Writing.{so_far, so_far_start, so_far_turn, so_far_end}
+use Rattle.exports.proofs.Writing.{so_far_start, so_far_turn, so_far_end}
 use borrow.Author.Rules.{rules}
 use Rattle.exports.proofs.answers.fill.Goals as goal
 

@@ -1,13 +1,9 @@
 -- `exports::answers::fill` meets its contract. The loop's invariant: the first i words are written, and the length is as it was.
 -- Assumes nothing.
-use mathlib.Core.Path.{◌≡◌, refl}
+use mathlib.Core.Path.{◌≡◌}
 use Prim.Native.Nat.{◌≤◌, ◌-◌}
-use native.Mathlib.Nat.{le_antisymm}
-use native.Mathlib.Numerals.{add-one}
-use native.Mathlib.Omega.{arith}
-use lib.ListN.{length, length-set}
-use Rattle.exports.proofs.Writing.{so_far, so_far_start, so_far_turn, so_far_end}
-use borrow.Author.Rules.{rules}
+use lib.ListN.{length}
+use Rattle.exports.proofs.Writing.{so_far}
 use Rattle.exports.proofs.answers.fill.Given as goal
 
 abbrev pub invariant-loop-i : goal.invariant-loop-i

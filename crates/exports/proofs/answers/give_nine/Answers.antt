@@ -1,9 +1,7 @@
 -- `exports::answers::give_nine` meets its contract: nine words, and zeros behind them.
 -- Assumes nothing.
 use mathlib.Core.Path.{◌∙◌}
-use native.Mathlib.Omega.{arith}
 use Rattle.exports.proofs.Writing.{nine_given}
-use borrow.Author.Rules.{rules}
 use Rattle.exports.proofs.answers.give_nine.Goals as goal
 
 pub returns-then-answer-lt9 : goal.returns-then-answer-lt9

@@ -3,7 +3,6 @@
 use mathlib.Core.Path.{◌≡◌}
 use Rattle.program.specs.declared.Found.TheVariants.{At, Nothing}
 use Rattle.exports.proofs.Writing.{row_given, none_given}
-use borrow.Author.Rules.{rules}
 use Rattle.exports.proofs.answers.give_row.Goals as goal
 
 pub returns-in-At : goal.returns-in-At

@@ -1,7 +1,6 @@
 -- `exports::answers::give_words` meets its contract: the number, and the words behind it.
 -- Assumes nothing.
 use Rattle.exports.proofs.Writing.{behind_length, filled_behind, no_room}
-use borrow.Author.Rules.{rules}
 use Rattle.exports.proofs.answers.give_words.Goals as goal
 
 pub shape_of-answer : goal.shape_of-answer

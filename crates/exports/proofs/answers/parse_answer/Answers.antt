@@ -1,6 +1,5 @@
 -- `exports::answers::parse_answer` meets its contract: a layout or a refusal.
 -- Assumes nothing.
-use borrow.Author.Rules.{rules}
 use Rattle.exports.proofs.answers.parse_answer.Goals as goal
 
 pub returns-in-File : goal.returns-in-File

@@ -1,6 +1,5 @@
 -- `exports::answers::place_answer` meets its contract: a place or a refusal.
 -- Assumes nothing.
-use borrow.Author.Rules.{rules}
 use Rattle.exports.proofs.answers.place_answer.Goals as goal
 
 pub returns-in-At : goal.returns-in-At

@@ -1,6 +1,5 @@
 -- `exports::answers::refused` meets its contract: the report's numbers.
 -- Assumes nothing.
-use borrow.Author.Rules.{rules}
 use Rattle.exports.proofs.answers.refused.Goals as goal
 
 pub returns : goal.returns

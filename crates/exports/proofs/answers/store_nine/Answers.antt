@@ -4,7 +4,6 @@ use mathlib.Core.Path.{refl}
 use native.Mathlib.Omega.{arith}
 use lib.ListN.{length-set}
 use Rattle.exports.proofs.Writing.{nine_stored}
-use borrow.Author.Rules.{rules}
 use Rattle.exports.proofs.answers.store_nine.Goals as goal
 
 pub bounds-to-1 : goal.bounds-to-1

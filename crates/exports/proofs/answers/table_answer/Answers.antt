@@ -1,6 +1,5 @@
 -- `exports::answers::table_answer` meets its contract: a table or a refusal.
 -- Assumes nothing.
-use borrow.Author.Rules.{rules}
 use Rattle.exports.proofs.answers.table_answer.Goals as goal
 
 pub returns-in-At : goal.returns-in-At

@@ -1,6 +1,5 @@
 -- `exports::asked::dynamic_symbol_name_answer` meets its contract: the question, or the refusal of the parse.
 -- Assumes nothing.
-use borrow.Author.Rules.{rules}
 use Rattle.exports.proofs.asked.dynamic_symbol_name_answer.Goals as goal
 
 pub returns-in-File : goal.returns-in-File

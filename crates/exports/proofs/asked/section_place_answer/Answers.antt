@@ -1,6 +1,5 @@
 -- `exports::asked::section_place_answer` meets its contract: the question, or the refusal of the parse.
 -- Assumes nothing.
-use borrow.Author.Rules.{rules}
 use Rattle.exports.proofs.asked.section_place_answer.Goals as goal
 
 pub returns-in-File : goal.returns-in-File

@@ -1,6 +1,5 @@
 -- `exports::asked::symbol_table_answer` meets its contract: the question, or the refusal of the parse.
 -- Assumes nothing.
-use borrow.Author.Rules.{rules}
 use Rattle.exports.proofs.asked.symbol_table_answer.Goals as goal
 
 pub returns-in-File : goal.returns-in-File

@@ -1,7 +1,6 @@
 -- `exports::loading::config_of` meets its contract: bit by bit.
 -- Assumes nothing.
 use mathlib.Core.Path.{refl}
-use borrow.Author.Rules.{rules}
 use Rattle.exports.proofs.loading.config_of.Goals as goal
 
 pub returns : goal.returns

@@ -1,6 +1,5 @@
 -- `exports::loading::loaded_with` meets its contract: word by word.
 -- Assumes nothing.
-use borrow.Author.Rules.{rules}
 use Rattle.exports.proofs.loading.loaded_with.Goals as goal
 
 pub returns : goal.returns

@@ -1,6 +1,5 @@
 -- `exports::loading::text_answer` meets its contract: a place or a refusal.
 -- Assumes nothing.
-use borrow.Author.Rules.{rules}
 use Rattle.exports.proofs.loading.text_answer.Goals as goal
 
 pub returns-in-At : goal.returns-in-At

@@ -4,7 +4,6 @@ use native.Mathlib.Numerals.{sub-one}
 use borrow.Author.Tests.{eq-eqb, ne_eqb}
 use Rattle.ebpf.specs.Choice.{◌if◌else◌}
 use Rattle.exports.specs.Names.{left_behind}
-use borrow.Author.Rules.{rules}
 use Rattle.exports.proofs.names.left_behind.Goals as goal
 
 pub returns-then-byte-eq0 : goal.returns-then-byte-eq0

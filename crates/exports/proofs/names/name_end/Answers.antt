@@ -1,10 +1,8 @@
 -- `exports::names::name_end` meets its contract. The loop's invariant: `at` and what the name has from there on make the end.
 -- Assumes nothing.
-use mathlib.Core.Path.{◌≡◌, ap}
-use Prim.Native.Nat.{◌+◌, ◌≤◌, ◌-◌}
+use mathlib.Core.Path.{ap}
 use native.Mathlib.Omega.{arith}
-use lib.ListN.{length, drop}
-use Rattle.exports.specs.Names.{piece_of}
+use lib.ListN.{length}
 use Rattle.exports.proofs.Naming.{piece_past, piece_ends, piece_goes}
 use borrow.Author.Rules.{rules}
 use Rattle.exports.proofs.names.name_end.Goals as goal

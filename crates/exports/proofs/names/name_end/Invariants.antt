@@ -1,12 +1,9 @@
 -- `exports::names::name_end` meets its contract. The loop's invariant: `at` and what the name has from there on make the end.
 -- Assumes nothing.
-use mathlib.Core.Path.{◌≡◌, ap}
+use mathlib.Core.Path.{◌≡◌}
 use Prim.Native.Nat.{◌+◌, ◌≤◌, ◌-◌}
-use native.Mathlib.Omega.{arith}
 use lib.ListN.{length, drop}
 use Rattle.exports.specs.Names.{piece_of}
-use Rattle.exports.proofs.Naming.{piece_past, piece_ends, piece_goes}
-use borrow.Author.Rules.{rules}
 use Rattle.exports.proofs.names.name_end.Given as goal
 
 abbrev pub invariant-loop-at : goal.invariant-loop-at

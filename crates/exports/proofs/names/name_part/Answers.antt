@@ -1,7 +1,6 @@
 -- `exports::names::name_part` meets its contract: from its start to its end.
 -- Assumes nothing.
 use Rattle.exports.proofs.Naming.{part_within, part_is}
-use borrow.Author.Rules.{rules}
 use Rattle.exports.proofs.names.name_part.Goals as goal
 
 pub slice_bounds-result-end : goal.slice_bounds-result-end

@@ -1,12 +1,9 @@
 -- `exports::names::name_start` meets its contract. The loop's invariant: from `at` on, behind the zeros that are left, stands the name.
 -- Assumes nothing.
-use mathlib.Core.Path.{◌≡◌, refl, sym, ◌∙◌}
+use mathlib.Core.Path.{◌≡◌}
 use Prim.Native.Nat.{◌≤◌, ◌-◌}
-use native.Mathlib.Omega.{arith}
 use lib.ListN.{length, drop}
 use Rattle.exports.specs.Names.{piece_of}
-use Rattle.exports.proofs.Naming.{piece_past, piece_turn}
-use borrow.Author.Rules.{rules}
 use Rattle.exports.proofs.names.name_start.Given as goal
 
 abbrev pub invariant-loop-at : goal.invariant-loop-at

@@ -5,7 +5,6 @@ use Rattle.ebpf.specs.Choice.{◌if◌else◌}
 use Rattle.exports.specs.Names.{names, bytes, name_in, refusal_name, piece_of}
 use Rattle.exports.proofs.Naming.{laid}
 use Rattle.exports.proofs.Named.{past, in_row, in_row_lem, name_short}
-use borrow.Author.Rules.{rules}
 use Rattle.exports.proofs.names.refusal_name.Goals.{After-name_part}
 use Rattle.exports.proofs.names.refusal_name.Goals as goal
 

@@ -1,6 +1,5 @@
 -- `exports::wrote::accepted_wrote` meets its contract: the load's words, and the writer's behind them.
 -- Assumes nothing.
-use borrow.Author.Rules.{rules}
 use Rattle.exports.proofs.wrote.accepted_wrote.Goals as goal
 
 pub returns-in-By : goal.returns-in-By

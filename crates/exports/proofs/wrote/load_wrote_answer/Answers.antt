@@ -1,6 +1,5 @@
 -- `exports::wrote::load_wrote_answer` meets its contract: accepted or refused.
 -- Assumes nothing.
-use borrow.Author.Rules.{rules}
 use Rattle.exports.proofs.wrote.load_wrote_answer.Goals as goal
 
 pub returns-in-Accepted : goal.returns-in-Accepted

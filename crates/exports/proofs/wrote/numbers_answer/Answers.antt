@@ -8,7 +8,6 @@ use borrow.Author.Tests.{eq-eqb, ne_eqb}
 use Rattle.ebpf.specs.Choice.{◌if◌else◌}
 use Rattle.writers.proofs.Telling.{cleared, as_long}
 use Rattle.exports.specs.Wrote.{refusal_in, all_answer, all_number}
-use borrow.Author.Rules.{rules}
 use Rattle.exports.proofs.wrote.numbers_answer.Goals as goal
 
 pub returns-then-refusal_in-ne0 : goal.returns-then-refusal_in-ne0

@@ -1,6 +1,5 @@
 -- `exports::wrote::refused_in` meets its contract: word by word.
 -- Assumes nothing.
-use borrow.Author.Rules.{rules}
 use Rattle.exports.proofs.wrote.refused_in.Goals as goal
 
 pub returns : goal.returns

@@ -6,7 +6,6 @@ use lib.Dec.{eqb}
 use borrow.Author.Tests.{eq-eqb, ne_eqb}
 use Rattle.ebpf.specs.Choice.{◌if◌else◌}
 use Rattle.exports.specs.Wrote.{refusal_in, who_wrote_answer}
-use borrow.Author.Rules.{rules}
 use Rattle.exports.proofs.wrote.who_wrote_answer.Goals as goal
 
 pub returns-then-refusal_in-ne0 : goal.returns-then-refusal_in-ne0

@@ -2,7 +2,6 @@
 -- Assumes nothing.
 use native.Mathlib.Omega.{arith}
 use Rattle.listing.proofs.Listed.{refused_stored, accepted_stored}
-use borrow.Author.Rules.{rules}
 use Rattle.listing.proofs.lines.put_load.Goals as goal
 
 pub put_rows-requires : goal.put_rows-requires

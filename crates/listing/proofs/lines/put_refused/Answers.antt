@@ -1,6 +1,5 @@
 -- `listing::lines::put_refused` meets its contract: the line of a refusal's report.
 -- Assumes nothing.
-use borrow.Author.Rules.{rules}
 use Rattle.listing.proofs.lines.put_refused.Goals as goal
 
 pub returns : goal.returns

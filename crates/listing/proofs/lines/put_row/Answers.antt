@@ -1,7 +1,6 @@
 -- `listing::lines::put_row` meets its contract: three numbers and the end of the line.
 -- Assumes nothing.
 use Rattle.listing.proofs.Stores.{row_stored}
-use borrow.Author.Rules.{rules}
 use Rattle.listing.proofs.lines.put_row.Goals as goal
 
 pub returns : goal.returns

@@ -1,14 +1,11 @@
 -- `listing::lines::put_rows` meets its contract. The loop's invariant: the lines of the rows from i on are left to store, at the next place.
 -- Assumes nothing.
 use Prim.Native.Nat.{◌+◌, ◌-◌, ◌*◌, ◌≤◌}
-use native.Mathlib.Omega.{arith}
 use mathlib.Core.List.{[]}
 use lib.ListN.{drop}
-use Rattle.program.specs.Table.{Slices, slices, rows_of}
+use Rattle.program.specs.Table.{slices, rows_of}
 use Rattle.listing.specs.Lines.{row_lines}
-use Rattle.listing.proofs.Stores.{Storing, storing_start, storing_turn, storing_end}
-use Rattle.listing.proofs.Listed.{lines_from, lines_end}
-use borrow.Author.Rules.{rules}
+use Rattle.listing.proofs.Stores.{Storing}
 use Rattle.listing.proofs.lines.put_rows.Given as goal
 
 abbrev pub invariant-loop-i : goal.invariant-loop-i

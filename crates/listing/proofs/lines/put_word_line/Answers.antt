@@ -1,7 +1,6 @@
 -- `listing::lines::put_word_line` meets its contract: a word, four numbers and the end of the line.
 -- Assumes nothing.
 use Rattle.listing.proofs.Stores.{word_stored}
-use borrow.Author.Rules.{rules}
 use Rattle.listing.proofs.lines.put_word_line.Goals as goal
 
 pub returns : goal.returns

@@ -1,7 +1,6 @@
 -- `listing::storing::put_byte` meets its contract: past the end nothing is stored.
 -- Assumes nothing.
 use Rattle.listing.proofs.Stores.{byte_left, byte_stored}
-use borrow.Author.Rules.{rules}
 use Rattle.listing.proofs.storing.put_byte.Goals as goal
 
 pub returns-then-out-at : goal.returns-then-out-at

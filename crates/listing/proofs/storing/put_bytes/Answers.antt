@@ -1,11 +1,11 @@
 -- `listing::storing::put_bytes` meets its contract. The loop's invariant: the bytes from i on are left to store, at the next place.
 -- Assumes nothing.
-use Prim.Native.Nat.{◌-◌, ◌≤◌, ◌<◌}
+use Prim.Native.Nat.{◌≤◌, ◌<◌}
 use native.Mathlib.Numerals.{add-one}
 use native.Mathlib.Omega.{arith}
-use lib.ListN.{length, drop, length-drop, drop_of_length-le}
+use lib.ListN.{length, length-drop, drop_of_length-le}
 use lib.Seq.{drop-cons}
-use Rattle.listing.proofs.Stores.{Storing, storing_start, storing_turn, storing_end}
+use Rattle.listing.proofs.Stores.{storing_start, storing_turn, storing_end}
 use borrow.Author.Rules.{rules}
 use Rattle.listing.proofs.storing.put_bytes.Goals as goal
 

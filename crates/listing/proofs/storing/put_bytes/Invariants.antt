@@ -1,12 +1,8 @@
 -- `listing::storing::put_bytes` meets its contract. The loop's invariant: the bytes from i on are left to store, at the next place.
 -- Assumes nothing.
-use Prim.Native.Nat.{◌-◌, ◌≤◌, ◌<◌}
-use native.Mathlib.Numerals.{add-one}
-use native.Mathlib.Omega.{arith}
-use lib.ListN.{length, drop, length-drop, drop_of_length-le}
-use lib.Seq.{drop-cons}
-use Rattle.listing.proofs.Stores.{Storing, storing_start, storing_turn, storing_end}
-use borrow.Author.Rules.{rules}
+use Prim.Native.Nat.{◌-◌, ◌≤◌}
+use lib.ListN.{length, drop}
+use Rattle.listing.proofs.Stores.{Storing}
 use Rattle.listing.proofs.storing.put_bytes.Given as goal
 
 abbrev pub invariant-loop-i : goal.invariant-loop-i

@@ -1,7 +1,6 @@
 -- `listing::storing::put_spaced` meets its contract: a space, and a number's digits.
 -- Assumes nothing.
 use Rattle.listing.proofs.Stores.{spaced_stored}
-use borrow.Author.Rules.{rules}
 use Rattle.listing.proofs.storing.put_spaced.Goals as goal
 
 pub returns : goal.returns

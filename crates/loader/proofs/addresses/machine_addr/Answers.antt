@@ -2,7 +2,6 @@
 -- Assumes nothing.
 use Rattle.ebpf.specs.Choice.{choices}
 use Rattle.loader.specs.Addresses.{machine_addr}
-use borrow.Author.Rules.{rules}
 use Rattle.loader.proofs.addresses.machine_addr.Goals as goal
 
 pub returns-then-version2-sh_addr : goal.returns-then-version2-sh_addr

@@ -1,6 +1,5 @@
 -- `loader::answer::accepted_as` meets its contract, field by field.
 -- Assumes nothing.
-use borrow.Author.Rules.{rules}
 use Rattle.loader.proofs.answer.accepted_as.Goals as goal
 
 pub returns : goal.returns

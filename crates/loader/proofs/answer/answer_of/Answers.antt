@@ -2,7 +2,6 @@
 -- Assumes nothing.
 use mathlib.Core.Path.{ap}
 use Rattle.loader.specs.declared.answer.Load.TheVariants.{Accepted as Accepts}
-use borrow.Author.Rules.{rules}
 use Rattle.loader.proofs.answer.answer_of.Goals as goal
 
 pub returns-in-Refused : goal.returns-in-Refused

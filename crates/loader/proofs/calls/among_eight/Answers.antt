@@ -1,7 +1,6 @@
 -- `loader::calls::among_eight` meets its contract: one half, then the other.
 -- Assumes nothing.
 use Rattle.loader.proofs.Eights.{half_first, half_second}
-use borrow.Author.Rules.{rules}
 use Rattle.loader.proofs.calls.among_eight.Goals as goal
 
 pub returns-then-first-at : goal.returns-then-first-at

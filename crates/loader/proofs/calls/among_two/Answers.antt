@@ -1,7 +1,6 @@
 -- `loader::calls::among_two` meets its contract, slot by slot.
 -- Assumes nothing.
 use Rattle.loader.proofs.Eights.{two_first, two_second, two_none}
-use borrow.Author.Rules.{rules}
 use Rattle.loader.proofs.calls.among_two.Goals as goal
 
 pub returns-then-file-place : goal.returns-then-file-place

@@ -4,7 +4,6 @@ use mathlib.Core.Path.{sym, ◌∙◌}
 use native.Mathlib.Omega.{arith}
 use Rattle.loader.specs.Calls.{call_at}
 use Rattle.loader.proofs.Slots.{whole_slot}
-use borrow.Author.Rules.{rules}
 use Rattle.loader.proofs.calls.call_at.Goals as goal
 
 pub call_of-requires : goal.call_of-requires

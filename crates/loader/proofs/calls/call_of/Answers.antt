@@ -2,7 +2,6 @@
 -- Assumes nothing.
 use Rattle.ebpf.specs.Choice.{choices}
 use Rattle.loader.specs.Calls.{call_of}
-use borrow.Author.Rules.{rules}
 use Rattle.loader.proofs.calls.call_of.Goals as goal
 
 pub returns-then-is_local_call : goal.returns-then-is_local_call

@@ -13,7 +13,6 @@ use Rattle.loader.specs.CallLoop.{target_key}
 use Rattle.loader.proofs.Rowing.{same_key}
 use Rattle.loader.proofs.Targets.{to_small}
 use Rattle.loader.proofs.Targeting.{settles_none, settles_outside, settles_target, targets_known, known_hit, held_after}
-use borrow.Author.Rules.{rules}
 use Rattle.loader.proofs.calls.call_step.Goals as goal
 
 pub store_u32-requires : goal.store_u32-requires

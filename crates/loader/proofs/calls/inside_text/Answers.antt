@@ -2,7 +2,6 @@
 -- Assumes nothing.
 use Rattle.ebpf.specs.Choice.{choices}
 use Rattle.loader.specs.Calls.{inside}
-use borrow.Author.Rules.{rules}
 use Rattle.loader.proofs.calls.inside_text.Goals as goal
 
 pub returns-then-to-count : goal.returns-then-to-count

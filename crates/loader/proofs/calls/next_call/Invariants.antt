@@ -1,10 +1,8 @@
 -- `loader::calls::next_call` meets its contract. The loop's invariant: the search from here finds what the whole search finds.
 -- Assumes nothing.
-use native.Mathlib.Omega.{arith}
-use mathlib.Core.Path.{◌≡◌, sym, ◌∙◌}
-use Prim.Native.Nat.{◌+◌, ◌-◌, ◌≤◌}
-use Rattle.loader.specs.Calls.{next_call, call_here, call_later, call_none}
-use borrow.Author.Rules.{rules}
+use mathlib.Core.Path.{◌≡◌}
+use Prim.Native.Nat.{◌-◌, ◌≤◌}
+use Rattle.loader.specs.Calls.{next_call}
 use Rattle.loader.proofs.calls.next_call.Given as goal
 
 abbrev pub invariant-loop-at : goal.invariant-loop-at

@@ -2,7 +2,7 @@
 -- Assumes nothing.
 use mathlib.Core.Path.{refl}
 use native.Mathlib.Omega.{arith}
-use Prim.Native.Nat.{◌+◌, ◌-◌, ◌≤◌}
+use Prim.Native.Nat.{◌+◌, ◌≤◌}
 use Rattle.loader.specs.Calls.{PassesTo}
 use Rattle.loader.proofs.Eights.{eight_more}
 use Rattle.loader.proofs.calls.pass_eights.Goals.{After-among_eight-to}

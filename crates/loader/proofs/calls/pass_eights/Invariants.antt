@@ -1,10 +1,7 @@
 -- `loader::calls::pass_eights` meets its contract. The loop's invariant: the slots before this one hold no call.
 -- Assumes nothing.
-use mathlib.Core.Path.{refl}
-use native.Mathlib.Omega.{arith}
-use Prim.Native.Nat.{◌+◌, ◌-◌, ◌≤◌}
+use Prim.Native.Nat.{◌-◌}
 use Rattle.loader.specs.Calls.{PassesTo}
-use Rattle.loader.proofs.Eights.{eight_more}
 use Rattle.loader.proofs.calls.pass_eights.Given as goal
 
 abbrev pub invariant-loop-at : goal.invariant-loop-at

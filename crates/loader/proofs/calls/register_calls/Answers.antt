@@ -13,13 +13,12 @@ use Rattle.loader.specs.declared.deeds.Outcome.{Outcome}
 use Rattle.loader.specs.declared.deeds.Outcome.TheVariants.{Holds}
 use Rattle.loader.specs.Trace.{Trace}
 use Rattle.loader.specs.Calls.{slot_count, slot_trace, calls_trace}
-use Rattle.loader.specs.CallLoop.{ahead, CallsHeld, StillHeld, Leads}
+use Rattle.loader.specs.CallLoop.{ahead, StillHeld, Leads}
 use Rattle.loader.specs.InnerContracts.{Begins, Settles}
 use Rattle.loader.proofs.Ahead.{ahead_more, ahead_all, ahead_length}
 use Rattle.loader.proofs.Targeting.{none_held}
-use Rattle.loader.proofs.Going.{Going, going_start, going_done, all_begin, all_lead, in_begins_run, in_run, in_run_stop}
+use Rattle.loader.proofs.Going.{going_start, going_done, all_begin, all_lead, in_begins_run, in_run, in_run_stop}
 use Rattle.loader.proofs.Slots.{text_in}
-use borrow.Author.Rules.{rules}
 use Rattle.loader.proofs.calls.register_calls.Goals.{After-run_end-to}
 use Rattle.loader.proofs.calls.register_calls.Goals as goal
 

@@ -14,12 +14,11 @@ use Rattle.loader.specs.declared.deeds.Outcome.{Outcome}
 use Rattle.loader.specs.declared.deeds.Outcome.TheVariants.{Holds, Refused}
 use Rattle.loader.specs.Trace.{Trace}
 use Rattle.loader.specs.Calls.{slot_count, slot_trace}
-use Rattle.loader.specs.CallLoop.{ahead, CallsHeld, StillHeld}
+use Rattle.loader.specs.CallLoop.{ahead, StillHeld}
 use Rattle.loader.specs.InnerContracts.{Settles}
 use Rattle.loader.proofs.Ahead.{ahead_length, slot_ahead}
 use Rattle.loader.proofs.Slots.{next_bounds, calls_ahead, text_in}
-use Rattle.loader.proofs.Going.{GoingIn, in_start, in_begins, in_stop, in_on, in_done}
-use borrow.Author.Rules.{rules}
+use Rattle.loader.proofs.Going.{in_start, in_begins, in_stop, in_on, in_done}
 use Rattle.loader.proofs.calls.register_slots.Goals as goal
 
 small : (i to n file start : ℕ) → i < to → to ≤ n / 8 → start + n ≤ file → file ≤ 2 ^ 24 → Fits w64 (i + 1)

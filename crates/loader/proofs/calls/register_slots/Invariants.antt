@@ -1,25 +1,13 @@
 -- `loader::calls::register_slots` meets its contract. The loop's invariant: the slots that are left, with the rows and moves held now,
 -- settle to what all from `from` on settle to; and what the loop keeps beside the table.
 -- Assumes nothing.
-use mathlib.Core.Path.{◌≡◌, refl, sym, subst, ◌∙◌}
-use mathlib.Core.List.{List}
-use Prim.Native.Nat.{ℕ, ◌+◌, ◌-◌, ◌*◌, ◌/◌, ◌<◌, ◌≤◌, ◌^◌}
-use mir.Syntax.{w64}
-use mir.Val.{Fits}
-use native.Mathlib.Omega.{arith}
+use mathlib.Core.Path.{◌≡◌}
+use Prim.Native.Nat.{◌+◌, ◌-◌, ◌*◌}
 use lib.ListN.{length}
-use Rattle.program.specs.Table.{Slices, slices}
-use Rattle.program.proofs.Tables.{SameLens}
-use Rattle.loader.specs.declared.deeds.Outcome.{Outcome}
-use Rattle.loader.specs.declared.deeds.Outcome.TheVariants.{Holds, Refused}
-use Rattle.loader.specs.Trace.{Trace}
+use Rattle.program.specs.Table.{slices}
 use Rattle.loader.specs.Calls.{slot_count, slot_trace}
-use Rattle.loader.specs.CallLoop.{ahead, CallsHeld, StillHeld}
-use Rattle.loader.specs.InnerContracts.{Settles}
-use Rattle.loader.proofs.Ahead.{ahead_length, slot_ahead}
-use Rattle.loader.proofs.Slots.{next_bounds, calls_ahead, text_in}
-use Rattle.loader.proofs.Going.{GoingIn, in_start, in_begins, in_stop, in_on, in_done}
-use borrow.Author.Rules.{rules}
+use Rattle.loader.specs.CallLoop.{ahead, CallsHeld}
+use Rattle.loader.proofs.Going.{GoingIn}
 use Rattle.loader.proofs.calls.register_slots.Given as goal
 
 abbrev pub invariant-loop-i : goal.invariant-loop-i

@@ -2,7 +2,6 @@
 -- Assumes nothing.
 use Rattle.program.specs.Table.{Slices, slices}
 use Rattle.loader.proofs.Targeting.{target_alike, still_target, targets_taken, targets_free}
-use borrow.Author.Rules.{rules}
 use Rattle.loader.proofs.calls.register_target.Goals as goal
 
 pub returns-then-is_taken : goal.returns-then-is_taken

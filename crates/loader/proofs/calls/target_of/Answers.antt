@@ -2,7 +2,6 @@
 -- Assumes nothing.
 use Rattle.ebpf.specs.Choice.{choices}
 use Rattle.loader.specs.Calls.{target}
-use borrow.Author.Rules.{rules}
 use Rattle.loader.proofs.calls.target_of.Goals as goal
 
 pub returns-then-imm-lt2147483648 : goal.returns-then-imm-lt2147483648

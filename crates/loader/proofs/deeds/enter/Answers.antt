@@ -3,7 +3,6 @@
 use Rattle.program.specs.Table.{Slices, slices, Registration}
 use Rattle.program.proofs.Tables.{registers_ready}
 use Rattle.loader.proofs.Entering.{sums_fit, enters}
-use borrow.Author.Rules.{rules}
 use Rattle.loader.proofs.deeds.enter.Goals as goal
 
 pub entered-requires : goal.entered-requires

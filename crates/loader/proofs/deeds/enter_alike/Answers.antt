@@ -5,7 +5,6 @@ use Rattle.program.proofs.Alike.{alike_registers}
 use Rattle.program.proofs.Tables.{registers_ready}
 use Rattle.loader.proofs.Entering.{sums_fit, enters}
 use Rattle.loader.proofs.Targeting.{still_alike}
-use borrow.Author.Rules.{rules}
 use Rattle.loader.proofs.deeds.enter_alike.Goals as goal
 
 pub entered-requires : goal.entered-requires

@@ -1,7 +1,6 @@
 -- `loader::deeds::entered` meets its contract, answer by answer.
 -- Assumes nothing.
 use Rattle.loader.proofs.Entering.{entered_as, moves_fit}
-use borrow.Author.Rules.{rules}
 use Rattle.loader.proofs.deeds.entered.Goals as goal
 
 pub overflow_add-result-in-Inserted : goal.overflow_add-result-in-Inserted

@@ -1,6 +1,5 @@
 -- `loader::deeds::finished` meets its contract, by the outcome and the test.
 -- Assumes nothing.
-use borrow.Author.Rules.{rules}
 use Rattle.loader.proofs.deeds.finished.Goals as goal
 
 pub returns-then-outside : goal.returns-then-outside

@@ -3,7 +3,6 @@
 use Rattle.program.specs.Table.{Slices, slices}
 use Rattle.loader.specs.declared.deeds.Deed.{Deed}
 use Rattle.loader.proofs.Performing.{performs_nothing, performs_refuse, performs_row}
-use borrow.Author.Rules.{rules}
 use Rattle.loader.proofs.deeds.perform.Goals as goal
 
 pub write-requires : goal.write-requires

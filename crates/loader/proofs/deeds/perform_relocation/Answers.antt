@@ -2,7 +2,6 @@
 -- Assumes nothing.
 use Rattle.program.specs.Table.{slices}
 use Rattle.loader.proofs.Performing.{performs_nothing}
-use borrow.Author.Rules.{rules}
 use Rattle.loader.proofs.deeds.perform_relocation.Goals as goal
 
 pub write-requires : goal.write-requires

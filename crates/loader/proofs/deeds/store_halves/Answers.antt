@@ -4,7 +4,6 @@ use mathlib.Core.Path.{ap, ◌∙◌}
 use mathlib.Core.List.{List}
 use Prim.Native.Nat.{ℕ, ◌/◌, ◌^◌}
 use Rattle.loader.specs.Bytes.{put}
-use borrow.Author.Rules.{rules}
 use Rattle.loader.proofs.deeds.store_halves.Goals as goal
 
 pub returns : goal.returns

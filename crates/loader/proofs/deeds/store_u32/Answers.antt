@@ -4,7 +4,6 @@ use mathlib.Core.Path.{refl}
 use native.Mathlib.Omega.{arith}
 use lib.ListN.{length-set}
 use Rattle.loader.specs.Bytes.{put}
-use borrow.Author.Rules.{rules}
 use Rattle.loader.proofs.deeds.store_u32.Goals as goal
 
 pub bounds-image-at1 : goal.bounds-image-at1

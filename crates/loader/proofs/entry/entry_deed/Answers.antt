@@ -2,7 +2,6 @@
 -- Assumes nothing.
 use Rattle.ebpf.specs.Choice.{choices}
 use Rattle.loader.specs.Entry.{entry_deed}
-use borrow.Author.Rules.{rules}
 use Rattle.loader.proofs.entry.entry_deed.Goals as goal
 
 pub returns-then-offset-ne0 : goal.returns-then-offset-ne0

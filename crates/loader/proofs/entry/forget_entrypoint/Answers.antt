@@ -6,7 +6,6 @@ use mathlib.Core.Bool.{Bool}
 use Rattle.loader.specs.declared.deeds.Outcome.TheVariants.{Holds}
 use Rattle.loader.specs.InnerContracts.{Forgets}
 use Rattle.loader.proofs.Forgetting.{forgets_nothing, gone_sums, forgets}
-use borrow.Author.Rules.{rules}
 use Rattle.loader.proofs.entry.forget_entrypoint.Goals as goal
 
 pub returns-then-version2 : goal.returns-then-version2

@@ -1,7 +1,6 @@
 -- `loader::entry::forgotten` meets its contract, answer by answer.
 -- Assumes nothing.
 use Rattle.loader.proofs.Forgetting.{forgotten_as, gone_fit}
-use borrow.Author.Rules.{rules}
 use Rattle.loader.proofs.entry.forgotten.Goals as goal
 
 pub overflow_add-result : goal.overflow_add-result

@@ -12,7 +12,6 @@ use Rattle.loader.specs.Deeds.{DeedFits, deed_trace}
 use Rattle.loader.specs.Entry.{entry_deed, forget_trace, entry_fits}
 use Rattle.loader.specs.InnerContracts.{Settles}
 use Rattle.loader.proofs.Going.{begins_fewer, begins_then, settles_then, settles_stop}
-use borrow.Author.Rules.{rules}
 use Rattle.loader.proofs.entry.register_entry.Goals as goal
 
 pub entry_deed-deed-requires : goal.entry_deed-deed-requires

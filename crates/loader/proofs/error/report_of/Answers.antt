@@ -1,6 +1,5 @@
 -- `loader::error::report_of` meets its contract, case by case.
 -- Assumes nothing.
-use borrow.Author.Rules.{rules}
 use Rattle.loader.proofs.error.report_of.Goals as goal
 
 pub returns-in-FailedToParse : goal.returns-in-FailedToParse

@@ -1,6 +1,5 @@
 -- `loader::filling::after_placing` meets its contract, by the outcome and the placing.
 -- Assumes nothing.
-use borrow.Author.Rules.{rules}
 use Rattle.loader.proofs.filling.after_placing.Goals as goal
 
 pub returns-in-Refused : goal.returns-in-Refused

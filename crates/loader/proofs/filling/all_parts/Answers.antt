@@ -14,7 +14,6 @@ use Rattle.loader.specs.Parts.{writing_trace, naming_trace}
 use Rattle.loader.specs.InnerContracts.{Settles}
 use Rattle.loader.proofs.Going.{begins_fewer, begins_then}
 use Rattle.loader.proofs.Loading.{parts_stop, parts_all}
-use borrow.Author.Rules.{rules}
 use Rattle.loader.proofs.filling.all_parts.Goals as goal
 
 pub calls_and_relocations-requires : goal.calls_and_relocations-requires

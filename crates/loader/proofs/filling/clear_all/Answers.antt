@@ -1,7 +1,6 @@
 -- `loader::filling::clear_all` meets its contract: five slices of zeros are an empty table.
 -- Assumes nothing.
 use Rattle.program.proofs.Tables.{zeros_lay}
-use borrow.Author.Rules.{rules}
 use Rattle.loader.proofs.filling.clear_all.Goals as goal
 
 pub returns : goal.returns

@@ -1,9 +1,6 @@
 -- `loader::filling::clear_words` meets its contract. The loop's invariant: i numbers are zero.
 -- Assumes nothing.
-use Prim.Native.Nat.{◌-◌}
-use lib.ListN.{length, replicate}
-use Rattle.loader.proofs.Over.{Overs, zeros_start, zeros_turn, overs_end}
-use borrow.Author.Rules.{rules}
+use Rattle.loader.proofs.Over.{zeros_start, zeros_turn, overs_end}
 use Rattle.loader.proofs.filling.clear_words.Goals as goal
 
 pub loop-i-init : goal.loop-i-init

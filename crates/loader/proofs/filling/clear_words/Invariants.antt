@@ -2,8 +2,7 @@
 -- Assumes nothing.
 use Prim.Native.Nat.{◌-◌}
 use lib.ListN.{length, replicate}
-use Rattle.loader.proofs.Over.{Overs, zeros_start, zeros_turn, overs_end}
-use borrow.Author.Rules.{rules}
+use Rattle.loader.proofs.Over.{Overs}
 use Rattle.loader.proofs.filling.clear_words.Given as goal
 
 abbrev pub invariant-loop-i : goal.invariant-loop-i

@@ -1,6 +1,5 @@
 -- `loader::filling::copy_placed` meets its contract, by the placing.
 -- Assumes nothing.
-use borrow.Author.Rules.{rules}
 use Rattle.loader.proofs.filling.copy_placed.Goals as goal
 
 pub returns-in-Owned : goal.returns-in-Owned

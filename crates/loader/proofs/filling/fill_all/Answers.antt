@@ -7,7 +7,6 @@ use Rattle.loader.specs.Parts.{job_trace}
 use Rattle.loader.specs.Load.{all_count}
 use Rattle.loader.specs.InnerContracts.{Settles}
 use Rattle.loader.proofs.Loading.{begins_all}
-use borrow.Author.Rules.{rules}
 use Rattle.loader.proofs.filling.fill_all.Goals as goal
 
 pub keyed_parts-requires : goal.keyed_parts-requires

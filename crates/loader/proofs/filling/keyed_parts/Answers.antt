@@ -1,7 +1,6 @@
 -- `loader::filling::keyed_parts` meets its contract: no table of keys is a right one, and so is that of the first keys.
 -- Assumes nothing.
 use Rattle.loader.proofs.Rowing.{none_keyed, first_keyed}
-use borrow.Author.Rules.{rules}
 use Rattle.loader.proofs.filling.keyed_parts.Goals as goal
 
 pub all_parts-requires : goal.all_parts-requires

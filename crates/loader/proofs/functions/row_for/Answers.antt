@@ -3,7 +3,6 @@
 use mathlib.Core.Path.{◌∙◌}
 use Rattle.loader.proofs.Rowing.{same_row}
 use Rattle.loader.specs.Functions.{row_for}
-use borrow.Author.Rules.{rules}
 use Rattle.loader.proofs.functions.row_for.Goals as goal
 
 pub returns : goal.returns

@@ -1,7 +1,6 @@
 -- `loader::get_bytes::get_ro_section` meets its contract: by where the read-only bytes are.
 -- Assumes nothing.
 use Rattle.ebpf.specs.Choice.{◌if◌else◌}
-use borrow.Author.Rules.{rules}
 use Rattle.loader.proofs.get_bytes.get_ro_section.Goals as goal
 
 pub returns-then-a : goal.returns-then-a

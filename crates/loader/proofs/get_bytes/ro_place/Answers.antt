@@ -2,7 +2,6 @@
 -- Assumes nothing.
 use Rattle.ebpf.specs.Choice.{choices}
 use Rattle.loader.specs.GetBytes.{ro_place}
-use borrow.Author.Rules.{rules}
 use Rattle.loader.proofs.get_bytes.ro_place.Goals as goal
 
 pub returns-then-past : goal.returns-then-past

@@ -4,7 +4,6 @@ use native.Mathlib.Omega.{arith}
 use mathlib.Core.Path.{sym, ◌∙◌}
 use native.Mathlib.Nat.{add-sub_cancel_left}
 use Rattle.loader.specs.GetBytes.{text_within}
-use borrow.Author.Rules.{rules}
 use Rattle.loader.proofs.get_bytes.text_bytes.Goals as goal
 
 pub overflow_add-end : goal.overflow_add-end

@@ -6,7 +6,6 @@ use mathlib.Core.Path.{sym, ◌∙◌}
 use Prim.Native.Nat.{◌+◌, ◌≤◌}
 use borrow.Author.Tests.{ltb-false}
 use Rattle.loader.specs.GetBytes.{text_place}
-use borrow.Author.Rules.{rules}
 use Rattle.loader.proofs.get_bytes.text_place.Goals as goal
 
 pub returns-then-past : goal.returns-then-past

@@ -3,7 +3,7 @@
 -- Assumes nothing.
 use mathlib.Core.Path.{◌≡◌, subst}
 use mathlib.Core.List.{List}
-use Prim.Native.Nat.{ℕ, ◌-◌}
+use Prim.Native.Nat.{ℕ}
 use borrow.Author.Count.{falls}
 use Rattle.program.specs.Table.{Slices, slices}
 use Rattle.program.proofs.Tables.{SameLens}
@@ -12,8 +12,7 @@ use Rattle.loader.specs.declared.deeds.Outcome.TheVariants.{Holds, Refused}
 use Rattle.loader.specs.Labels.{label_symbols, label_trace}
 use Rattle.loader.proofs.Turns.{turn_fits, symbols_fit, label_settles, deed_fits, more_labels, no_more_labels}
 use Rattle.loader.specs.InnerContracts.{Settles}
-use Rattle.loader.proofs.Going.{Going, going_start, going_begins, going_stop, going_on, going_done}
-use borrow.Author.Rules.{rules}
+use Rattle.loader.proofs.Going.{going_start, going_begins, going_stop, going_on, going_done}
 use Rattle.loader.proofs.labelling.register_labels.Goals as goal
 
 pub overflow_cast-count : goal.overflow_cast-count

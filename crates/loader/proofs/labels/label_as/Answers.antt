@@ -1,6 +1,5 @@
 -- `loader::labels::label_as` meets its contract: the row of a symbol.
 -- Assumes nothing.
-use borrow.Author.Rules.{rules}
 use Rattle.loader.proofs.labels.label_as.Goals as goal
 
 pub row_for-requires : goal.row_for-requires

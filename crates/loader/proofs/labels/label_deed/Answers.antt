@@ -1,7 +1,6 @@
 -- `loader::labels::label_deed` meets its contract: by the symbol, if there is one.
 -- Assumes nothing.
 use Rattle.loader.specs.Labels.{label_deed}
-use borrow.Author.Rules.{rules}
 use Rattle.loader.proofs.labels.label_deed.Goals as goal
 
 pub label_of-requires : goal.label_of-requires

@@ -4,7 +4,6 @@ use Rattle.ebpf.specs.Choice.{choices, no_go, eq_not}
 use native.Mathlib.Omega.{arith}
 use Rattle.loader.proofs.Symbols.{in_text_lem}
 use Rattle.loader.specs.Labels.{label_of}
-use borrow.Author.Rules.{rules}
 use Rattle.loader.proofs.labels.label_of.Goals as goal
 
 pub returns-then-y-ne2 : goal.returns-then-y-ne2

@@ -1,6 +1,5 @@
 -- `loader::labels::label_row` meets its contract: by the row, if the key is free.
 -- Assumes nothing.
-use borrow.Author.Rules.{rules}
 use Rattle.loader.proofs.labels.label_row.Goals as goal
 
 pub returns-in-Taken : goal.returns-in-Taken

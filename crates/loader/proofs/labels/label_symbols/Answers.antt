@@ -2,7 +2,6 @@
 -- Assumes nothing.
 use Rattle.ebpf.specs.Choice.{◌if◌else◌}
 use Rattle.loader.specs.Labels.{label_symbols}
-use borrow.Author.Rules.{rules}
 use Rattle.loader.proofs.labels.label_symbols.Goals as goal
 
 pub returns-then-job : goal.returns-then-job

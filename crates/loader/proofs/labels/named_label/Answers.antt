@@ -4,7 +4,6 @@ use mathlib.Core.Path.{sym, ◌∙◌}
 use native.Mathlib.Omega.{arith}
 use Rattle.elf_parser.specs.Parts.{part_within}
 use Rattle.elf_parser.specs.Names.{name_within}
-use borrow.Author.Rules.{rules}
 use Rattle.loader.proofs.labels.named_label.Goals as goal
 
 pub label_as-requires : goal.label_as-requires

@@ -1,6 +1,5 @@
 -- `loader::labels::symbols_of` meets its contract: the table, if it is readable.
 -- Assumes nothing.
-use borrow.Author.Rules.{rules}
 use Rattle.loader.proofs.labels.symbols_of.Goals as goal
 
 pub returns-in-At : goal.returns-in-At

@@ -3,12 +3,11 @@
 -- Assumes nothing.
 use mathlib.Core.Path.{◌≡◌, refl, sym, ◌∙◌}
 use native.Mathlib.Omega.{arith}
-use Prim.Native.Nat.{◌+◌, ◌-◌, ◌≤◌}
-use Rattle.loader.specs.Sections.{section_at, name_of, survey, survey_from, survey_step, survey_next, survey_end}
-use Rattle.loader.specs.ReadOnly.{gather_next, gathered}
+use Prim.Native.Nat.{◌+◌, ◌-◌}
+use Rattle.loader.specs.Sections.{section_at, name_of, survey_step, survey_next, survey_end}
+use Rattle.loader.specs.ReadOnly.{gather_next}
 use Rattle.loader.proofs.Ascents.{texts_step}
-use Rattle.loader.proofs.Onward.{gather_from, gather_all, gather_next_lem, gather_end}
-use borrow.Author.Rules.{rules}
+use Rattle.loader.proofs.Onward.{gather_all, gather_next_lem, gather_end}
 use Rattle.loader.proofs.overview.look_over.Goals as goal
 
 pub loop-i-init : goal.loop-i-init

@@ -1,14 +1,11 @@
 -- `loader::overview::look_over` meets its contract. The loop's invariant: the sections that are left, from what is known and was
 -- gathered so far, give what all give.
 -- Assumes nothing.
-use mathlib.Core.Path.{◌≡◌, refl, sym, ◌∙◌}
-use native.Mathlib.Omega.{arith}
-use Prim.Native.Nat.{◌+◌, ◌-◌, ◌≤◌}
-use Rattle.loader.specs.Sections.{section_at, name_of, survey, survey_from, survey_step, survey_next, survey_end}
-use Rattle.loader.specs.ReadOnly.{gather_next, gathered}
-use Rattle.loader.proofs.Ascents.{texts_step}
-use Rattle.loader.proofs.Onward.{gather_from, gather_all, gather_next_lem, gather_end}
-use borrow.Author.Rules.{rules}
+use mathlib.Core.Path.{◌≡◌}
+use Prim.Native.Nat.{◌-◌, ◌≤◌}
+use Rattle.loader.specs.Sections.{survey, survey_from}
+use Rattle.loader.specs.ReadOnly.{gathered}
+use Rattle.loader.proofs.Onward.{gather_from}
 use Rattle.loader.proofs.overview.look_over.Given as goal
 
 abbrev pub invariant-loop-i : goal.invariant-loop-i

@@ -11,7 +11,6 @@ use Rattle.loader.specs.Calls.{calls_trace, slot_count}
 use Rattle.loader.specs.Relocations.{relocations_trace, relocation_count}
 use Rattle.loader.specs.InnerContracts.{Settles}
 use Rattle.loader.proofs.Going.{begins_fewer, begins_then, settles_then, settles_stop}
-use borrow.Author.Rules.{rules}
 use Rattle.loader.proofs.parts.calls_and_relocations.Goals as goal
 
 pub register_calls-requires : goal.register_calls-requires

@@ -11,7 +11,6 @@ use Rattle.loader.specs.Labels.{labels_trace, label_symbols}
 use Rattle.loader.specs.Entry.{entry_trace}
 use Rattle.loader.specs.InnerContracts.{Settles}
 use Rattle.loader.proofs.Going.{begins_fewer, begins_then, settles_then, settles_stop}
-use borrow.Author.Rules.{rules}
 use Rattle.loader.proofs.parts.labels_and_entry.Goals as goal
 
 pub register_labels-requires : goal.register_labels-requires

@@ -2,7 +2,6 @@
 -- Assumes nothing.
 use Rattle.ebpf.specs.Choice.{choices}
 use Rattle.loader.specs.ReadOnly.{borrowed}
-use borrow.Author.Rules.{rules}
 use Rattle.loader.proofs.read_only.borrow_sections.Goals as goal
 
 pub returns-then-version2-x : goal.returns-then-version2-x

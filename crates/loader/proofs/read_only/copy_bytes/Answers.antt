@@ -2,9 +2,8 @@
 -- Assumes nothing.
 use native.Mathlib.Omega.{arith}
 use mathlib.Core.Path.{◌≡◌, refl, ◌∙◌}
-use Prim.Native.Nat.{◌-◌, ◌≤◌}
-use lib.ListN.{length, drop, length-set}
-use lib.Seq.{paste, paste-zero}
+use lib.ListN.{drop, length-set}
+use lib.Seq.{paste-zero}
 use Rattle.loader.proofs.Copies.{paste_next}
 use Rattle.loader.proofs.read_only.copy_bytes.Goals as goal
 

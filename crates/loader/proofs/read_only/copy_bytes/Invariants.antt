@@ -1,11 +1,9 @@
 -- `loader::read_only::copy_bytes` meets its contract. The loop's invariant: i bytes are pasted.
 -- Assumes nothing.
-use native.Mathlib.Omega.{arith}
-use mathlib.Core.Path.{◌≡◌, refl, ◌∙◌}
+use mathlib.Core.Path.{◌≡◌}
 use Prim.Native.Nat.{◌-◌, ◌≤◌}
-use lib.ListN.{length, drop, length-set}
-use lib.Seq.{paste, paste-zero}
-use Rattle.loader.proofs.Copies.{paste_next}
+use lib.ListN.{length, drop}
+use lib.Seq.{paste}
 use Rattle.loader.proofs.read_only.copy_bytes.Given as goal
 
 abbrev pub invariant-loop-i : goal.invariant-loop-i

@@ -6,7 +6,6 @@ use Prim.Native.Nat.{◌+◌, ◌≤◌}
 use lib.ListN.{length}
 use borrow.Author.Tests.{ltb-false}
 use Rattle.loader.specs.ReadOnly.{copied_to}
-use borrow.Author.Rules.{rules}
 use Rattle.loader.proofs.read_only.copy_inside.Goals as goal
 
 pub returns-then-past : goal.returns-then-past

@@ -2,7 +2,6 @@
 -- Assumes nothing.
 use Rattle.ebpf.specs.Choice.{choices}
 use Rattle.loader.specs.ReadOnly.{copy_step}
-use borrow.Author.Rules.{rules}
 use Rattle.loader.proofs.read_only.copy_section.Goals as goal
 
 pub returns-then-not-is_read_only : goal.returns-then-not-is_read_only

@@ -3,10 +3,8 @@
 -- Assumes nothing.
 use native.Mathlib.Omega.{arith}
 use mathlib.Core.Path.{◌≡◌, refl, sym, ◌∙◌}
-use Prim.Native.Nat.{◌+◌, ◌-◌, ◌≤◌}
-use lib.ListN.{length}
-use Rattle.loader.specs.ReadOnly.{copied_from, copied_next, copied_end}
-use borrow.Author.Rules.{rules}
+use Prim.Native.Nat.{◌+◌, ◌-◌}
+use Rattle.loader.specs.ReadOnly.{copied_next, copied_end}
 use Rattle.loader.proofs.read_only.copy_sections.Goals as goal
 
 pub loop-i-init : goal.loop-i-init

@@ -1,12 +1,10 @@
 -- `loader::read_only::copy_sections` meets its contract. The loop's invariant: the sections that are left, on what
 -- was copied so far, give what all give from the start.
 -- Assumes nothing.
-use native.Mathlib.Omega.{arith}
-use mathlib.Core.Path.{◌≡◌, refl, sym, ◌∙◌}
-use Prim.Native.Nat.{◌+◌, ◌-◌, ◌≤◌}
+use mathlib.Core.Path.{◌≡◌}
+use Prim.Native.Nat.{◌-◌, ◌≤◌}
 use lib.ListN.{length}
-use Rattle.loader.specs.ReadOnly.{copied_from, copied_next, copied_end}
-use borrow.Author.Rules.{rules}
+use Rattle.loader.specs.ReadOnly.{copied_from}
 use Rattle.loader.proofs.read_only.copy_sections.Given as goal
 
 abbrev pub invariant-loop-i : goal.invariant-loop-i

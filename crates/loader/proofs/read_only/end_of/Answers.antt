@@ -2,7 +2,6 @@
 -- Assumes nothing.
 use Rattle.ebpf.specs.Choice.{choices}
 use Rattle.loader.specs.ReadOnly.{end_of}
-use borrow.Author.Rules.{rules}
 use Rattle.loader.proofs.read_only.end_of.Goals as goal
 
 pub returns-then-version2 : goal.returns-then-version2

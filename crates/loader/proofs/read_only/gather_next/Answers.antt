@@ -1,7 +1,6 @@
 -- `loader::read_only::gather_next` meets its contract: by what was gathered, by the name, and by the place of the bytes.
 -- Assumes nothing.
 use Rattle.ebpf.specs.Choice.{choices}
-use borrow.Author.Rules.{rules}
 use Rattle.loader.proofs.read_only.gather_next.Goals as goal
 
 pub returns-in_default : goal.returns-in_default

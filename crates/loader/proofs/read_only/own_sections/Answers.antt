@@ -2,7 +2,6 @@
 -- Assumes nothing.
 use Rattle.ebpf.specs.Choice.{choices}
 use Rattle.loader.specs.ReadOnly.{owned}
-use borrow.Author.Rules.{rules}
 use Rattle.loader.proofs.read_only.own_sections.Goals as goal
 
 pub returns-then-len-length : goal.returns-then-len-length

@@ -2,7 +2,6 @@
 -- Assumes nothing.
 use Rattle.ebpf.specs.Choice.{choices}
 use Rattle.loader.specs.ReadOnly.{placed}
-use borrow.Author.Rules.{rules}
 use Rattle.loader.proofs.read_only.place_extent.Goals as goal
 
 pub returns-then-reject_broken-x : goal.returns-then-reject_broken-x

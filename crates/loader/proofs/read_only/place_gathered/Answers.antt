@@ -1,6 +1,5 @@
 -- `loader::read_only::place_gathered` meets its contract: what was gathered, placed.
 -- Assumes nothing.
-use borrow.Author.Rules.{rules}
 use Rattle.loader.proofs.read_only.place_gathered.Goals as goal
 
 pub returns-in-Next : goal.returns-in-Next

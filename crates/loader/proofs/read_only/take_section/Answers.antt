@@ -2,7 +2,6 @@
 -- Assumes nothing.
 use Rattle.ebpf.specs.Choice.{choices}
 use Rattle.loader.specs.ReadOnly.{taken}
-use borrow.Author.Rules.{rules}
 use Rattle.loader.proofs.read_only.take_section.Goals as goal
 
 pub returns-then-reject_broken-invalid : goal.returns-then-reject_broken-invalid

@@ -1,19 +1,11 @@
 -- `loader::relocating::apply_relocations` meets its contract. The loop's invariant: the relocations that are left, with the rows and
 -- moves held now, settle to what all settle to; and the header is the one used last.
 -- Assumes nothing.
-use mathlib.Core.Path.{◌≡◌, subst, ◌∙◌}
-use mathlib.Core.List.{List}
-use Prim.Native.Nat.{ℕ, ◌-◌}
-use borrow.Author.Count.{falls}
-use Rattle.program.specs.Table.{Slices, slices}
-use Rattle.program.proofs.Tables.{SameLens, same_trans}
-use Rattle.loader.specs.declared.deeds.Outcome.{Outcome}
-use Rattle.loader.specs.declared.deeds.Outcome.TheVariants.{Holds, Refused}
+use mathlib.Core.Path.{◌≡◌}
+use Prim.Native.Nat.{◌-◌}
+use Rattle.program.specs.Table.{slices}
 use Rattle.loader.specs.Relocations.{relocation_trace, relocation_count, used_before}
-use Rattle.loader.proofs.Turns.{turn_fits, relocations_fit, counts_fit, none_before, header_next, relocation_settles, relocation_fits}
-use Rattle.loader.specs.InnerContracts.{Settles}
-use Rattle.loader.proofs.Going.{Going, going_start, going_begins, going_stop, going_on, going_done}
-use borrow.Author.Rules.{rules}
+use Rattle.loader.proofs.Going.{Going}
 use Rattle.loader.proofs.relocating.apply_relocations.Given as goal
 
 abbrev pub invariant-loop-i : goal.invariant-loop-i

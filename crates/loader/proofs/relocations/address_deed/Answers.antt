@@ -2,7 +2,6 @@
 -- Assumes nothing.
 use Rattle.loader.specs.Relocations.{address_deed}
 use Rattle.ebpf.specs.Choice.{◌if◌else◌}
-use borrow.Author.Rules.{rules}
 use Rattle.loader.proofs.relocations.address_deed.Goals as goal
 
 pub returns-then-split : goal.returns-then-split

@@ -2,7 +2,6 @@
 -- Assumes nothing.
 use Rattle.ebpf.specs.Choice.{choices}
 use Rattle.loader.specs.Relocations.{builtin_call}
-use borrow.Author.Rules.{rules}
 use Rattle.loader.proofs.relocations.builtin_call.Goals as goal
 
 pub returns-then-reject_broken-known : goal.returns-then-reject_broken-known

@@ -2,7 +2,6 @@
 -- Assumes nothing.
 use Rattle.loader.specs.Relocations.{call_by_name}
 use Rattle.ebpf.specs.Choice.{◌if◌else◌}
-use borrow.Author.Rules.{rules}
 use Rattle.loader.proofs.relocations.call_by_name.Goals as goal
 
 pub symbol_function-name-requires : goal.symbol_function-name-requires

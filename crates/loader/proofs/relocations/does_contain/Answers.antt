@@ -1,6 +1,5 @@
 -- `loader::relocations::does_contain` meets its contract: by the header, if there is one.
 -- Assumes nothing.
-use borrow.Author.Rules.{rules}
 use Rattle.loader.proofs.relocations.does_contain.Goals as goal
 
 pub returns-in-Header : goal.returns-in-Header

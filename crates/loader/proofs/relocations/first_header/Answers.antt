@@ -1,10 +1,9 @@
 -- `loader::relocations::first_header` meets its contract. The loop's invariant: the headers that are left give what all give.
 -- Assumes nothing.
-use Prim.Native.Nat.{◌+◌, ◌-◌, ◌≤◌}
+use Prim.Native.Nat.{◌+◌, ◌-◌}
 use native.Mathlib.Omega.{arith}
 use mathlib.Core.Path.{◌≡◌, refl, sym, ◌∙◌}
-use Rattle.loader.specs.Relocations.{first_from, first_here, first_later, first_none}
-use borrow.Author.Rules.{rules}
+use Rattle.loader.specs.Relocations.{first_here, first_later, first_none}
 use Rattle.loader.proofs.relocations.first_header.Goals as goal
 
 pub loop-i-init : goal.loop-i-init

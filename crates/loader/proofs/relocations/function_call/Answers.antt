@@ -4,7 +4,6 @@ use Rattle.ebpf.specs.Choice.{choices, no_go}
 use native.Mathlib.Omega.{arith}
 use Rattle.loader.proofs.Symbols.{in_text_lem}
 use Rattle.loader.specs.Relocations.{function_call}
-use borrow.Author.Rules.{rules}
 use Rattle.loader.proofs.relocations.function_call.Goals as goal
 
 pub returns-then-not-in_addresses : goal.returns-then-not-in_addresses

@@ -2,7 +2,6 @@
 -- Assumes nothing.
 use Rattle.ebpf.specs.Choice.{choices}
 use Rattle.loader.specs.Relocations.{halves_deed}
-use borrow.Author.Rules.{rules}
 use Rattle.loader.proofs.relocations.halves_deed.Goals as goal
 
 pub returns-then-past : goal.returns-then-past

@@ -1,7 +1,6 @@
 -- `loader::relocations::header_at` meets its contract: the header, if there is one.
 -- Assumes nothing.
 use Rattle.loader.specs.Relocations.{header_at}
-use borrow.Author.Rules.{rules}
 use Rattle.loader.proofs.relocations.header_at.Goals as goal
 
 pub returns-in-Header : goal.returns-in-Header

@@ -1,7 +1,6 @@
 -- `loader::relocations::immediate_at` meets its contract: a sum.
 -- Assumes nothing.
 use Rattle.loader.specs.Relocations.{immediate_at}
-use borrow.Author.Rules.{rules}
 use Rattle.loader.proofs.relocations.immediate_at.Goals as goal
 
 pub returns : goal.returns

@@ -1,6 +1,5 @@
 -- `loader::relocations::in_addresses` meets its contract: two tests.
 -- Assumes nothing.
-use borrow.Author.Rules.{rules}
 use Rattle.loader.proofs.relocations.in_addresses.Goals as goal
 
 pub returns : goal.returns

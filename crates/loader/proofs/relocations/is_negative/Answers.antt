@@ -1,6 +1,5 @@
 -- `loader::relocations::is_negative` meets its contract: by the addend, if there is one.
 -- Assumes nothing.
-use borrow.Author.Rules.{rules}
 use Rattle.loader.proofs.relocations.is_negative.Goals as goal
 
 pub returns-in-Is : goal.returns-in-Is

@@ -4,7 +4,6 @@ use mathlib.Core.Path.{sym, ◌∙◌}
 use native.Mathlib.Omega.{arith}
 use Rattle.elf_parser.specs.Parts.{part_within}
 use Rattle.elf_parser.specs.Names.{name_within}
-use borrow.Author.Rules.{rules}
 use Rattle.loader.proofs.relocations.named_call.Goals as goal
 
 pub call_by_name-requires : goal.call_by_name-requires

@@ -1,6 +1,5 @@
 -- `loader::relocations::plain_relocation` meets its contract: the relocation, if there is one.
 -- Assumes nothing.
-use borrow.Author.Rules.{rules}
 use Rattle.loader.proofs.relocations.plain_relocation.Goals as goal
 
 pub returns-in-Relocation : goal.returns-in-Relocation

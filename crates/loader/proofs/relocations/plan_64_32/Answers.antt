@@ -1,7 +1,6 @@
 -- `loader::relocations::plan_64_32` meets its contract: by the symbol, if there is one.
 -- Assumes nothing.
 use Rattle.loader.specs.Relocations.{plan6432}
-use borrow.Author.Rules.{rules}
 use Rattle.loader.proofs.relocations.plan_64_32.Goals as goal
 
 pub named_call-requires : goal.named_call-requires

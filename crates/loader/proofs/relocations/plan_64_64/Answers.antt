@@ -2,7 +2,6 @@
 -- Assumes nothing.
 use Rattle.ebpf.specs.Choice.{choices, no_go}
 use Rattle.loader.specs.Relocations.{plan6464}
-use borrow.Author.Rules.{rules}
 use Rattle.loader.proofs.relocations.plan_64_64.Goals as goal
 
 pub returns-then-past : goal.returns-then-past

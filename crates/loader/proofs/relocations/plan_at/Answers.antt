@@ -6,7 +6,6 @@ use mathlib.Core.Path.{◌≡◌}
 use borrow.Author.Tests.{eq-eqb, ne_eqb}
 use Rattle.loader.specs.Relocations.{plan_at, uses_addend, is_negative, uses_eight}
 use Rattle.ebpf.specs.Choice.{◌if◌else◌}
-use borrow.Author.Rules.{rules}
 use Rattle.loader.proofs.relocations.plan_at.Goals as goal
 
 pub returns-then-uses_addend-is_negative : goal.returns-then-uses_addend-is_negative

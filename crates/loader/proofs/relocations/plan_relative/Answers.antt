@@ -3,7 +3,6 @@
 use native.Mathlib.Omega.{arith}
 use Rattle.loader.specs.Relocations.{plan_relative, addend_small}
 use Rattle.ebpf.specs.Choice.{◌if◌else◌}
-use borrow.Author.Rules.{rules}
 use Rattle.loader.proofs.relocations.plan_relative.Goals as goal
 
 pub returns-then-in_text : goal.returns-then-in_text

@@ -1,6 +1,5 @@
 -- `loader::relocations::plan_relocation` meets its contract: by the place, if it is mapped.
 -- Assumes nothing.
-use borrow.Author.Rules.{rules}
 use Rattle.loader.proofs.relocations.plan_relocation.Goals as goal
 
 pub plan_at-requires : goal.plan_at-requires

@@ -2,7 +2,6 @@
 -- Assumes nothing.
 use Rattle.ebpf.specs.Choice.{choices}
 use Rattle.loader.specs.Relocations.{program_address}
-use borrow.Author.Rules.{rules}
 use Rattle.loader.proofs.relocations.program_address.Goals as goal
 
 pub returns-then-a-lt-MM_PROGRAM_START : goal.returns-then-a-lt-MM_PROGRAM_START

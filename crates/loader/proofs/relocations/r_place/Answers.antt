@@ -2,7 +2,6 @@
 -- Assumes nothing.
 use Rattle.loader.specs.Relocations.{place_of}
 use Rattle.ebpf.specs.Choice.{◌if◌else◌}
-use borrow.Author.Rules.{rules}
 use Rattle.loader.proofs.relocations.r_place.Goals as goal
 
 pub returns-then-not-version2 : goal.returns-then-not-version2

@@ -1,7 +1,6 @@
 -- `loader::relocations::register_deed` meets its contract: by the row, if the key is free.
 -- Assumes nothing.
 use Rattle.ebpf.specs.Choice.{choices}
-use borrow.Author.Rules.{rules}
 use Rattle.loader.proofs.relocations.register_deed.Goals as goal
 
 pub returns-then-past : goal.returns-then-past

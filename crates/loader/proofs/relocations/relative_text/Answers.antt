@@ -2,7 +2,6 @@
 -- Assumes nothing.
 use Rattle.ebpf.specs.Choice.{choices}
 use Rattle.loader.specs.Relocations.{relative_text}
-use borrow.Author.Rules.{rules}
 use Rattle.loader.proofs.relocations.relative_text.Goals as goal
 
 pub returns-then-past : goal.returns-then-past

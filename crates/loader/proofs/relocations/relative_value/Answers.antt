@@ -2,7 +2,6 @@
 -- Assumes nothing.
 use Rattle.ebpf.specs.Choice.{choices}
 use Rattle.loader.specs.Relocations.{relative_value}
-use borrow.Author.Rules.{rules}
 use Rattle.loader.proofs.relocations.relative_value.Goals as goal
 
 pub returns-then-version2 : goal.returns-then-version2

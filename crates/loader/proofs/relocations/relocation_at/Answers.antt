@@ -6,7 +6,6 @@ use lib.Dec.{ltb}
 use borrow.Author.Tests.{lt-ltb, le-ltb}
 use Rattle.loader.specs.Relocations.{relocation_at}
 use Rattle.ebpf.specs.Choice.{◌if◌else◌}
-use borrow.Author.Rules.{rules}
 use Rattle.loader.proofs.relocations.relocation_at.Goals as goal
 
 pub returns-then-number-older : goal.returns-then-number-older

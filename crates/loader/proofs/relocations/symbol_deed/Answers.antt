@@ -1,6 +1,5 @@
 -- `loader::relocations::symbol_deed` meets its contract: by the symbol, if there is one.
 -- Assumes nothing.
-use borrow.Author.Rules.{rules}
 use Rattle.loader.proofs.relocations.symbol_deed.Goals as goal
 
 pub returns-in-Symbol : goal.returns-in-Symbol

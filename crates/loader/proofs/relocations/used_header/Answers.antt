@@ -3,7 +3,6 @@
 use native.Mathlib.Omega.{arith}
 use Rattle.ebpf.specs.Choice.{choices, no_go}
 use Rattle.loader.specs.Relocations.{used_header}
-use borrow.Author.Rules.{rules}
 use Rattle.loader.proofs.relocations.used_header.Goals as goal
 
 pub returns-then-not-version2 : goal.returns-then-not-version2

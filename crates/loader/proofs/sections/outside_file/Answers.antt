@@ -2,7 +2,6 @@
 -- Assumes nothing.
 use Rattle.ebpf.specs.Choice.{choices}
 use Rattle.loader.specs.Sections.{outside_file}
-use borrow.Author.Rules.{rules}
 use Rattle.loader.proofs.sections.outside_file.Goals as goal
 
 pub returns-then-sh_offset-sh_size : goal.returns-then-sh_offset-sh_size

@@ -1,7 +1,6 @@
 -- `loader::sections::section_at` meets its contract: the header, or a blank one.
 -- Assumes nothing.
 use Rattle.loader.specs.Sections.{section_at}
-use borrow.Author.Rules.{rules}
 use Rattle.loader.proofs.sections.section_at.Goals as goal
 
 pub returns-in-Header : goal.returns-in-Header

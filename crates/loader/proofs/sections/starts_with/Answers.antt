@@ -5,7 +5,6 @@ use lib.ListN.{length}
 use lib.Seq.{length-take-le}
 use Rattle.loader.proofs.Ascents.{prefix_short}
 use Rattle.loader.specs.Sections.{starts_with}
-use borrow.Author.Rules.{rules}
 use Rattle.loader.proofs.sections.starts_with.Goals as goal
 
 pub returns-then-name-n : goal.returns-then-name-n

@@ -3,7 +3,6 @@
 use mathlib.Core.Path.{◌≡◌}
 use Rattle.loader.specs.declared.validate.Verdict.TheVariants.{Pass}
 use Rattle.loader.specs.Validate.{◌then◌}
-use borrow.Author.Rules.{rules}
 use Rattle.loader.proofs.validate.check_file.Goals as goal
 
 pub returns-in-Refused : goal.returns-in-Refused

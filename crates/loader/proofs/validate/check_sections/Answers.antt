@@ -2,7 +2,6 @@
 -- Assumes nothing.
 use Rattle.ebpf.specs.Choice.{choices}
 use Rattle.loader.specs.Validate.{sections_check}
-use borrow.Author.Rules.{rules}
 use Rattle.loader.proofs.validate.check_sections.Goals as goal
 
 pub returns-then-v-ne1 : goal.returns-then-v-ne1

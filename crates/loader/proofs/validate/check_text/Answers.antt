@@ -2,7 +2,6 @@
 -- Assumes nothing.
 use Rattle.ebpf.specs.Choice.{choices}
 use Rattle.loader.specs.Validate.{text_check}
-use borrow.Author.Rules.{rules}
 use Rattle.loader.proofs.validate.check_text.Goals as goal
 
 pub returns-then-e_entry-h : goal.returns-then-e_entry-h

@@ -4,8 +4,7 @@ use mathlib.Core.Path.{◌≡◌, refl, sym, ◌∙◌}
 use native.Mathlib.Omega.{arith}
 use Prim.Native.Nat.{ℕ, ◌+◌, ◌-◌, ◌≤◌}
 use mathlib.Core.List.{List}
-use lib.ListN.{length, drop}
-use Rattle.loader.specs.Validate.{ascends}
+use lib.ListN.{length}
 use Rattle.loader.proofs.Ascents.{ascends_none, ascends_next, ascends_stop, ascends_end}
 use borrow.Author.Rules.{rules, scaled_Fits}
 use Rattle.loader.proofs.validate.is_ascending.Goals as goal

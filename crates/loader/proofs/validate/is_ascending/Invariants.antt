@@ -1,13 +1,9 @@
 -- `loader::validate::is_ascending` meets its contract. The loop's invariant: what is left decides.
 -- Assumes nothing.
-use mathlib.Core.Path.{◌≡◌, refl, sym, ◌∙◌}
-use native.Mathlib.Omega.{arith}
-use Prim.Native.Nat.{ℕ, ◌+◌, ◌-◌, ◌≤◌}
-use mathlib.Core.List.{List}
+use mathlib.Core.Path.{◌≡◌}
+use Prim.Native.Nat.{◌-◌, ◌≤◌}
 use lib.ListN.{length, drop}
 use Rattle.loader.specs.Validate.{ascends}
-use Rattle.loader.proofs.Ascents.{ascends_none, ascends_next, ascends_stop, ascends_end}
-use borrow.Author.Rules.{rules, scaled_Fits}
 use Rattle.loader.proofs.validate.is_ascending.Given as goal
 
 abbrev pub invariant-loop-i : goal.invariant-loop-i

@@ -1,7 +1,6 @@
 -- `loader::validate::job_of` meets its contract: the fields, one by one.
 -- Assumes nothing.
 use Rattle.loader.specs.Validate.{job_of}
-use borrow.Author.Rules.{rules}
 use Rattle.loader.proofs.validate.job_of.Goals as goal
 
 pub returns : goal.returns

@@ -4,7 +4,6 @@ use mathlib.Core.Path.{◌≡◌, refl}
 use Rattle.ebpf.specs.Choice.{yes, no_go}
 use Rattle.loader.specs.declared.validate.Verdict.TheVariants.{Pass}
 use Rattle.loader.specs.Validate.{prepared}
-use borrow.Author.Rules.{rules}
 use Rattle.loader.proofs.validate.prepare.Goals as goal
 
 pub returns-in-Refused : goal.returns-in-Refused

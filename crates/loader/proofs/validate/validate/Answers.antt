@@ -4,7 +4,6 @@ use mathlib.Core.Path.{◌≡◌}
 use Rattle.loader.specs.declared.validate.Verdict.TheVariants.{Pass}
 use Rattle.loader.specs.ReadOnly.{placing}
 use Rattle.loader.specs.Validate.{validated}
-use borrow.Author.Rules.{rules}
 use Rattle.loader.proofs.validate.validate.Goals as goal
 
 pub returns-in-Refused : goal.returns-in-Refused

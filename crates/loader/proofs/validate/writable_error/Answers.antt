@@ -1,6 +1,5 @@
 -- `loader::validate::writable_error` meets its contract: by the place of the name.
 -- Assumes nothing.
-use borrow.Author.Rules.{rules}
 use Rattle.loader.proofs.validate.writable_error.Goals as goal
 
 pub returns-in-At : goal.returns-in-At

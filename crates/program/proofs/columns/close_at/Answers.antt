@@ -1,10 +1,9 @@
 -- `program::columns::close_at` meets its contract. The loop's invariant: the numbers behind `at` up to i stand one place nearer, and the length is as it was.
 -- Assumes nothing.
-use mathlib.Core.Path.{◌≡◌, refl, sym}
-use Prim.Native.Nat.{◌≤◌, ◌-◌}
+use mathlib.Core.Path.{refl, sym}
 use native.Mathlib.Nat.{le_antisymm}
-use lib.ListN.{length, length-set}
-use Rattle.program.proofs.Shift.{closing, closing_start, closing_turn, closing_finish}
+use lib.ListN.{length-set}
+use Rattle.program.proofs.Shift.{closing_start, closing_turn, closing_finish}
 use native.Mathlib.Omega.{arith}
 use borrow.Author.Rules.{rules}
 use Rattle.program.proofs.columns.close_at.Goals as goal

@@ -1,7 +1,6 @@
 -- `program::columns::close_row` meets its contract: the five columns, by a call each.
 -- Assumes nothing.
 use Rattle.program.specs.Table.{closed_row}
-use borrow.Author.Rules.{rules}
 use Rattle.program.proofs.columns.close_row.Goals as goal
 
 pub returns : goal.returns

@@ -2,7 +2,6 @@
 -- Assumes nothing.
 use lib.ListN.{set}
 use Rattle.program.specs.Table.{opened_alike}
-use borrow.Author.Rules.{rules}
 use Rattle.program.proofs.columns.open_alike.Goals as goal
 
 pub returns : goal.returns

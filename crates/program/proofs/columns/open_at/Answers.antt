@@ -1,11 +1,10 @@
 -- `program::columns::open_at` meets its contract. The loop's invariant: the place i is open, and the length is as it was.
 -- Assumes nothing.
-use mathlib.Core.Path.{◌≡◌, refl, sym}
-use Prim.Native.Nat.{◌≤◌}
+use mathlib.Core.Path.{refl, sym}
 use native.Mathlib.Nat.{le_antisymm}
 use native.Mathlib.Omega.{arith}
-use lib.ListN.{length, length-set}
-use Rattle.program.proofs.Shift.{opening, opening_start, opening_turn, opening_end}
+use lib.ListN.{length-set}
+use Rattle.program.proofs.Shift.{opening_start, opening_turn, opening_end}
 use borrow.Author.Rules.{rules}
 use Rattle.program.proofs.columns.open_at.Goals as goal
 

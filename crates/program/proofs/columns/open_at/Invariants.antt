@@ -1,12 +1,9 @@
 -- `program::columns::open_at` meets its contract. The loop's invariant: the place i is open, and the length is as it was.
 -- Assumes nothing.
-use mathlib.Core.Path.{◌≡◌, refl, sym}
+use mathlib.Core.Path.{◌≡◌}
 use Prim.Native.Nat.{◌≤◌}
-use native.Mathlib.Nat.{le_antisymm}
-use native.Mathlib.Omega.{arith}
-use lib.ListN.{length, length-set}
-use Rattle.program.proofs.Shift.{opening, opening_start, opening_turn, opening_end}
-use borrow.Author.Rules.{rules}
+use lib.ListN.{length}
+use Rattle.program.proofs.Shift.{opening}
 use Rattle.program.proofs.columns.open_at.Given as goal
 
 abbrev pub invariant-loop-i : goal.invariant-loop-i

@@ -2,7 +2,6 @@
 -- Assumes nothing.
 use native.Mathlib.Omega.{arith}
 use Rattle.program.specs.Table.{least}
-use borrow.Author.Rules.{rules}
 use Rattle.program.proofs.columns.rows_lent.Goals as goal
 
 pub returns : goal.returns

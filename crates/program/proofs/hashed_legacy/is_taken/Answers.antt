@@ -2,7 +2,6 @@
 -- Assumes nothing.
 use Rattle.ebpf.specs.Choice.{◌if◌else◌, choices}
 use Rattle.program.specs.HashedLegacy.{is_taken}
-use borrow.Author.Rules.{rules}
 use Rattle.program.proofs.hashed_legacy.is_taken.Goals as goal
 
 pub returns-then-version2 : goal.returns-then-version2

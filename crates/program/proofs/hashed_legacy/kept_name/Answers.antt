@@ -1,7 +1,6 @@
 -- `program::hashed_legacy::kept_name` meets its contract: an arm for each kind of name.
 -- Assumes nothing.
 use Rattle.ebpf.specs.Choice.{◌if◌else◌}
-use borrow.Author.Rules.{rules}
 use Rattle.program.proofs.hashed_legacy.kept_name.Goals as goal
 
 pub returns-in-Symbol : goal.returns-in-Symbol

@@ -3,7 +3,6 @@
 use Rattle.ebpf.specs.Choice.{◌if◌else◌, choices}
 use Rattle.program.specs.HashedLegacy.{legacy_key}
 use Rattle.program.proofs.Keys.{entrypoint_key}
-use borrow.Author.Rules.{rules}
 use Rattle.program.proofs.hashed_legacy.legacy_key.Goals as goal
 
 pub returns-then-version2 : goal.returns-then-version2

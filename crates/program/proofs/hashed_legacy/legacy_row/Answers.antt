@@ -2,7 +2,6 @@
 -- Assumes nothing.
 use Rattle.ebpf.specs.Choice.{◌if◌else◌}
 use Rattle.program.specs.HashedLegacy.{legacy_row}
-use borrow.Author.Rules.{rules}
 use Rattle.program.proofs.hashed_legacy.legacy_row.Goals as goal
 
 pub returns-then-is_taken : goal.returns-then-is_taken

@@ -1,7 +1,6 @@
 -- `program::search::binary_search` meets its contract: the number that is left, or the next one.
 -- Assumes nothing.
 use Rattle.program.proofs.Searches.{search_none, search_next, search_here}
-use borrow.Author.Rules.{rules}
 use Rattle.program.proofs.search.binary_search.Goals as goal
 
 pub returns-then-n-eq0 : goal.returns-then-n-eq0

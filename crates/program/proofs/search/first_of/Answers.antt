@@ -1,9 +1,6 @@
 -- `program::search::first_of` meets its contract: behind the eights that are passed over, number by number. The loop's invariant: the first index is i and the first index in what is left.
 -- Assumes nothing.
-use mathlib.Core.Path.{◌≡◌, sym, ◌∙◌}
-use Prim.Native.Nat.{◌≤◌, ◌-◌, ◌+◌}
-use lib.ListN.{take, drop}
-use Rattle.program.specs.Search.{index_of}
+use mathlib.Core.Path.{sym, ◌∙◌}
 use Rattle.program.proofs.Searches.{index_hit, index_miss, index_none}
 use native.Mathlib.Omega.{arith}
 use borrow.Author.Rules.{rules}

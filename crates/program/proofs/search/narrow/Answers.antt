@@ -1,12 +1,10 @@
 -- `program::search::narrow` meets its contract. The loop's invariant: the numbers that are left come to what all come to.
 -- Assumes nothing.
-use mathlib.Core.Path.{◌≡◌, refl, sym, ◌∙◌}
-use Prim.Native.Nat.{◌+◌, ◌-◌, ◌/◌, ◌≤◌, ◌<◌}
+use mathlib.Core.Path.{refl, sym, ◌∙◌}
+use Prim.Native.Nat.{◌+◌, ◌/◌}
 use lib.ListN.{get_or}
 use native.Mathlib.Omega.{arith}
-use Rattle.program.specs.Search.{narrowed}
 use Rattle.program.proofs.Searches.{half_le, turn, left_within}
-use borrow.Author.Rules.{rules}
 use Rattle.program.proofs.search.narrow.Goals as goal
 
 pub loop-size-init : goal.loop-size-init

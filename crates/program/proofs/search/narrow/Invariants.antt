@@ -1,12 +1,8 @@
 -- `program::search::narrow` meets its contract. The loop's invariant: the numbers that are left come to what all come to.
 -- Assumes nothing.
-use mathlib.Core.Path.{◌≡◌, refl, sym, ◌∙◌}
-use Prim.Native.Nat.{◌+◌, ◌-◌, ◌/◌, ◌≤◌, ◌<◌}
-use lib.ListN.{get_or}
-use native.Mathlib.Omega.{arith}
+use mathlib.Core.Path.{◌≡◌}
+use Prim.Native.Nat.{◌+◌, ◌≤◌, ◌<◌}
 use Rattle.program.specs.Search.{narrowed}
-use Rattle.program.proofs.Searches.{half_le, turn, left_within}
-use borrow.Author.Rules.{rules}
 use Rattle.program.proofs.search.narrow.Given as goal
 
 abbrev pub invariant-loop-size : goal.invariant-loop-size

@@ -3,7 +3,6 @@
 use native.Mathlib.Omega.{arith}
 use Prim.Native.Nat.{◌-◌, ◌/◌}
 use Rattle.program.proofs.Searches.{four_turns, stays}
-use borrow.Author.Rules.{rules}
 use Rattle.program.proofs.search.narrow_few.Goals as goal
 
 -- where what is left behind three turns lies

@@ -6,7 +6,6 @@ use lib.ListN.{get_or}
 use lib.Dec.{eqb}
 use Rattle.program.specs.Search.{one_of}
 use Rattle.program.proofs.Searches.{join_eight}
-use borrow.Author.Rules.{rules}
 use Rattle.program.proofs.search.one_of_eight.Goals as goal
 
 pub returns : goal.returns

@@ -1,11 +1,8 @@
 -- `program::search::pass_eights` meets its contract. The loop's invariant: the numbers before the place are passed over.
 -- Assumes nothing.
-use Prim.Native.Nat.{◌-◌}
 use mathlib.Core.Path.{◌∙◌}
 use native.Mathlib.Omega.{arith}
-use Rattle.program.specs.Search.{PassesTo}
 use Rattle.program.proofs.Searches.{index_past}
-use borrow.Author.Rules.{rules}
 use Rattle.program.proofs.search.pass_eights.Goals as goal
 
 pub loop-at-init : goal.loop-at-init

@@ -1,12 +1,8 @@
 -- `writers::calls::call_writer` meets its contract: the slot of the byte, if it is a call and has it in its immediate.
 -- Assumes nothing.
-use Prim.Native.Nat.{◌-◌, ◌/◌, ◌%◌}
-use mathlib.Core.Path.{◌≡◌, sym, ◌∙◌}
 use borrow.Author.Tests.{le-leb, lt-leb, lt-ltb, le-ltb}
 use Rattle.ebpf.specs.Choice.{◌if◌else◌}
 use Rattle.writers.specs.Named.{call_to}
-use Rattle.writers.proofs.Slots.{and_off}
-use borrow.Author.Rules.{rules}
 use Rattle.writers.proofs.calls.call_writer.Goals as goal
 
 pub returns-then-b-start : goal.returns-then-b-start

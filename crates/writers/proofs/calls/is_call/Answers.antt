@@ -1,7 +1,6 @@
 -- `writers::calls::is_call` meets its contract: by the slot.
 -- Assumes nothing.
 use native.Mathlib.Nat.{add-sub_cancel_left}
-use borrow.Author.Rules.{rules}
 use Rattle.writers.proofs.calls.is_call.Goals as goal
 
 pub returns-in-Past : goal.returns-in-Past

@@ -6,7 +6,6 @@ use mathlib.Core.Path.{sym}
 use mathlib.Core.Logic.{inl}
 use Rattle.loader.proofs.Kept.{not_in}
 use Rattle.writers.proofs.Places.{behind}
-use borrow.Author.Rules.{rules}
 use Rattle.writers.proofs.naming.four_behind.Goals as goal
 
 pub returns-then-b-r : goal.returns-then-b-r

@@ -2,7 +2,6 @@
 -- Assumes nothing.
 use mathlib.Core.Path.{refl}
 use Rattle.ebpf.specs.Choice.{yes, no_go}
-use borrow.Author.Rules.{rules}
 use Rattle.writers.proofs.naming.halves_or_word.Goals as goal
 
 pub returns-then-halves : goal.returns-then-halves

@@ -1,13 +1,10 @@
 -- `writers::naming::last_naming` meets its contract. The loop's invariant: the header used last, and the writer by the relocations so far.
 -- Assumes nothing.
-use Prim.Native.Nat.{◌+◌, ◌-◌, ◌≤◌}
 use native.Mathlib.Omega.{arith}
 use mathlib.Core.Path.{◌≡◌, sym, ◌∙◌}
-use Rattle.loader.specs.Relocations.{used_before}
 use Rattle.writers.specs.declared.Writer.TheVariants.{Relocation}
-use Rattle.writers.specs.Named.{names_byte, call_writer, last_of, count_of, by_names}
+use Rattle.writers.specs.Named.{names_byte, call_writer, count_of, by_names}
 use Rattle.writers.proofs.Turns.{last_none, none_used, next_used, next_last}
-use borrow.Author.Rules.{rules}
 use Rattle.writers.proofs.naming.last_naming.Goals as goal
 
 pub relocation_count-count-requires : goal.relocation_count-count-requires

@@ -4,7 +4,6 @@ use mathlib.Core.Path.{refl}
 use borrow.Author.Tests.{eq-eqb, ne_eqb}
 use Rattle.ebpf.specs.Choice.{◌if◌else◌}
 use Rattle.loader.specs.Demand.{named_by}
-use borrow.Author.Rules.{rules}
 use Rattle.writers.proofs.naming.named_by.Goals as goal
 
 pub returns-then-kind-eq-R_BPF_64_64 : goal.returns-then-kind-eq-R_BPF_64_64

@@ -1,7 +1,6 @@
 -- `writers::naming::named_in` meets its contract: by the place, if there is one.
 -- Assumes nothing.
 use mathlib.Core.Path.{refl}
-use borrow.Author.Rules.{rules}
 use Rattle.writers.proofs.naming.named_in.Goals as goal
 
 pub returns-in-Refused : goal.returns-in-Refused

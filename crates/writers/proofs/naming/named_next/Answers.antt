@@ -1,6 +1,5 @@
 -- `writers::naming::named_next` meets its contract: the header, then the place, then the bytes.
 -- Assumes nothing.
-use borrow.Author.Rules.{rules}
 use Rattle.writers.proofs.naming.named_next.Goals as goal
 
 pub returns : goal.returns

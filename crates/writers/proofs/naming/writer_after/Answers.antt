@@ -2,7 +2,6 @@
 -- Assumes nothing.
 use mathlib.Core.Path.{refl}
 use Rattle.ebpf.specs.Choice.{yes, no_go}
-use borrow.Author.Rules.{rules}
 use Rattle.writers.proofs.naming.writer_after.Goals as goal
 
 pub returns-then-named : goal.returns-then-named

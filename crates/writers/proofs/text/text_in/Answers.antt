@@ -2,7 +2,6 @@
 -- Assumes nothing.
 use Rattle.ebpf.specs.Choice.{◌if◌else◌}
 use Rattle.writers.specs.Asked.{text_in}
-use borrow.Author.Rules.{rules}
 use Rattle.writers.proofs.text.text_in.Goals as goal
 
 pub returns-then-version2-headers : goal.returns-then-version2-headers

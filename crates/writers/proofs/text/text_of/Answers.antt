@@ -3,7 +3,6 @@
 use borrow.Author.Tests.{lt-ltb, le-ltb}
 use Rattle.ebpf.specs.Choice.{◌if◌else◌}
 use Rattle.writers.specs.Asked.{text_of}
-use borrow.Author.Rules.{rules}
 use Rattle.writers.proofs.text.text_of.Goals as goal
 
 pub returns-then-len-gt16777216 : goal.returns-then-len-gt16777216

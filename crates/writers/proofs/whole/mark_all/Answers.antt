@@ -1,7 +1,7 @@
 -- `writers::whole::mark_all` meets its contract. The loop's invariant: the numbers are those of the last among the first i relocations,
 -- else of the calls; and the header is the one used last.
 -- Assumes nothing.
-use Prim.Native.Nat.{ℕ, ◌+◌, ◌-◌, ◌^◌, ◌≤◌, ◌<◌}
+use Prim.Native.Nat.{ℕ, ◌+◌, ◌^◌, ◌<◌}
 use native.Mathlib.Omega.{arith}
 use mir.Syntax.{w32}
 use mir.Val.{Fits}
@@ -10,16 +10,13 @@ use mathlib.Core.List.{List}
 use lib.ListN.{length}
 use borrow.Author.Count.{falls}
 use Rattle.ebpf.specs.Choice.{◌if◌else◌}
-use Rattle.loader.specs.Relocations.{used_before}
-use Rattle.writers.specs.declared.Writer.{Writer}
 use Rattle.writers.specs.declared.Writer.TheVariants.{Relocation}
 use Rattle.writers.specs.declared.text.Text.{Text}
-use Rattle.writers.specs.Named.{is_named, names_byte, call_writer, last_of, by_names, count_of}
+use Rattle.writers.specs.Named.{is_named, names_byte, call_writer, by_names, count_of}
 use Rattle.writers.specs.Asked.{Askable}
 use Rattle.writers.specs.Whole.{Holds}
 use Rattle.writers.proofs.Marking.{holds_as, holds_next}
 use Rattle.writers.proofs.Turns.{last_none, none_used, next_used, next_last}
-use borrow.Author.Rules.{rules}
 use Rattle.writers.proofs.whole.mark_all.Invariants.{up_to}
 use Rattle.writers.proofs.whole.mark_all.Goals as goal
 
@@ -61,13 +58,12 @@ pub loop-i-smaller : goal.loop-i-smaller
 loop-i-smaller c = falls _ _ c.loop-i-test.true
 
 pub loop-i-preserved : goal.loop-i-preserved
-loop-i-preserved c =
-    (
-      omega (arith, c.loop-i-test.true),
-      next_used c.args.file.now c.args.text c.loop-i.header c.loop-i.i c.named_next-next.result c.loop-i.invariant.1 c.named_next-next.ensures,
-      holds_as (length c.args.file.now) (λ b. Relocation c.loop-i.i if is_named c.named_next-next.result.named b else up_to c.args.file.now c.args.text c.loop-i.i b) (up_to c.args.file.now c.args.text (c.loop-i.i + 1)) c.mark_calls.new.numbers c.mark_named.new.numbers (λ b. next_last c.args.file.now c.args.text c.loop-i.header c.loop-i.i c.named_next-next.result c.loop-i.invariant.1 c.named_next-next.ensures b (call_writer c.args.file.now c.args.text b))
-          (holds_next (length c.args.file.now) (up_to c.args.file.now c.args.text c.loop-i.i) (Relocation c.loop-i.i) (is_named c.named_next-next.result.named) c.mark_calls.new.numbers c.loop-i.numbers c.mark_named.new.numbers c.loop-i.invariant.2 c.mark_named.ensures),
-    )
+loop-i-preserved c = (
+  omega (arith, c.loop-i-test.true),
+  next_used c.args.file.now c.args.text c.loop-i.header c.loop-i.i c.named_next-next.result c.loop-i.invariant.1 c.named_next-next.ensures,
+  holds_as (length c.args.file.now) (λ b. Relocation c.loop-i.i if is_named c.named_next-next.result.named b else up_to c.args.file.now c.args.text c.loop-i.i b) (up_to c.args.file.now c.args.text (c.loop-i.i + 1)) c.mark_calls.new.numbers c.mark_named.new.numbers (λ b. next_last c.args.file.now c.args.text c.loop-i.header c.loop-i.i c.named_next-next.result c.loop-i.invariant.1 c.named_next-next.ensures b (call_writer c.args.file.now c.args.text b))
+      (holds_next (length c.args.file.now) (up_to c.args.file.now c.args.text c.loop-i.i) (Relocation c.loop-i.i) (is_named c.named_next-next.result.named) c.mark_calls.new.numbers c.loop-i.numbers c.mark_named.new.numbers c.loop-i.invariant.2 c.mark_named.ensures),
+)
 
 pub shape_of-numbers : goal.shape_of-numbers
 shape_of-numbers c = c.loop-i.invariant.2.length_as ∙ c.mark_calls.ensures.length_as

@@ -1,25 +1,16 @@
 -- `writers::whole::mark_all` meets its contract. The loop's invariant: the numbers are those of the last among the first i relocations,
 -- else of the calls; and the header is the one used last.
 -- Assumes nothing.
-use Prim.Native.Nat.{ℕ, ◌+◌, ◌-◌, ◌^◌, ◌≤◌, ◌<◌}
-use native.Mathlib.Omega.{arith}
-use mir.Syntax.{w32}
-use mir.Val.{Fits}
-use mathlib.Core.Path.{◌≡◌, refl, sym, subst, ◌∙◌}
+use Prim.Native.Nat.{ℕ, ◌-◌, ◌≤◌}
+use mathlib.Core.Path.{◌≡◌}
 use mathlib.Core.List.{List}
 use lib.ListN.{length}
-use borrow.Author.Count.{falls}
-use Rattle.ebpf.specs.Choice.{◌if◌else◌}
 use Rattle.loader.specs.Relocations.{used_before}
 use Rattle.writers.specs.declared.Writer.{Writer}
 use Rattle.writers.specs.declared.Writer.TheVariants.{Relocation}
 use Rattle.writers.specs.declared.text.Text.{Text}
-use Rattle.writers.specs.Named.{is_named, names_byte, call_writer, last_of, by_names, count_of}
-use Rattle.writers.specs.Asked.{Askable}
+use Rattle.writers.specs.Named.{names_byte, call_writer, last_of}
 use Rattle.writers.specs.Whole.{Holds}
-use Rattle.writers.proofs.Marking.{holds_as, holds_next}
-use Rattle.writers.proofs.Turns.{last_none, none_used, next_used, next_last}
-use borrow.Author.Rules.{rules}
 use Rattle.writers.proofs.whole.mark_all.Given as goal
 
 -- who wrote b, with the first n relocations only

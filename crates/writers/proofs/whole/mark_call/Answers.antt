@@ -5,7 +5,6 @@ use lib.ListN.{length}
 use Rattle.loader.specs.Deeds.{is_in}
 use Rattle.writers.specs.Named.{is_call, immediate_of}
 use Rattle.writers.proofs.Marking.{marked_if, marked_not}
-use borrow.Author.Rules.{rules}
 use Rattle.writers.proofs.whole.mark_call.Goals as goal
 
 pub returns-then-is_call : goal.returns-then-is_call

@@ -1,6 +1,6 @@
 -- `writers::whole::mark_calls` meets its contract. The loop's invariant: the numbers are those of the calls in the first i slots.
 -- Assumes nothing.
-use Prim.Native.Nat.{ℕ, ◌+◌, ◌-◌, ◌/◌, ◌≤◌}
+use Prim.Native.Nat.{ℕ, ◌+◌, ◌/◌}
 use native.Mathlib.Omega.{arith}
 use mathlib.Core.Path.{◌≡◌, sym, subst}
 use mathlib.Core.Bool.{◌&&◌}
@@ -13,7 +13,6 @@ use Rattle.writers.specs.Named.{is_call, immediate_of, call_to}
 use Rattle.writers.specs.Whole.{Holds}
 use Rattle.writers.proofs.Slots.{call_next, no_slot}
 use Rattle.writers.proofs.Marking.{holds_as, holds_starts, holds_next}
-use borrow.Author.Rules.{rules}
 use Rattle.writers.proofs.whole.mark_calls.Goals as goal
 
 pub loop-i-init : goal.loop-i-init

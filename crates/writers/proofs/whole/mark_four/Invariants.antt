@@ -1,12 +1,8 @@
 -- `writers::whole::mark_four` meets its contract. The loop's invariant: of the four places k are marked.
 -- Assumes nothing.
-use Prim.Native.Nat.{ℕ, ◌+◌, ◌-◌, ◌≤◌}
-use native.Mathlib.Omega.{arith}
-use mathlib.Core.Path.{◌≡◌, subst}
+use Prim.Native.Nat.{◌+◌, ◌-◌, ◌≤◌}
 use Rattle.loader.specs.Deeds.{is_in}
 use Rattle.writers.specs.Whole.{Marked}
-use Rattle.writers.proofs.Marking.{marked_past, run_starts, run_goes}
-use borrow.Author.Rules.{rules}
 use Rattle.writers.proofs.whole.mark_four.Given as goal
 
 abbrev pub invariant-loop-k : goal.invariant-loop-k

@@ -11,7 +11,6 @@ use Rattle.writers.specs.Named.{is_named}
 use Rattle.writers.specs.Whole.{Marked}
 use Rattle.writers.proofs.Places.{eight}
 use Rattle.writers.proofs.Marking.{marked_none, marked_as, marked_both}
-use borrow.Author.Rules.{rules}
 use Rattle.writers.proofs.whole.mark_named.Goals as goal
 
 module _ (code len : ℕ) (x : Named) where

@@ -1,7 +1,6 @@
 -- `writers::whole::mark_one` meets its contract: the place is marked by a store, or is past `len`.
 -- Assumes nothing.
 use Rattle.writers.proofs.Marking.{marked_one, marked_past}
-use borrow.Author.Rules.{rules}
 use Rattle.writers.proofs.whole.mark_one.Goals as goal
 
 pub returns-then-at-len : goal.returns-then-at-len
