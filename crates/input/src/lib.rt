@@ -1,5 +1,5 @@
 #![tactic(auto)]
-// Reading whole buffers.
+// Reading until a buffer is full.
 ghost use Rattle.std.specs.Prelude.{◌<◌, ◌≤◌, length, take, IfOk};
 ghost use Rattle.std.specs.Io.KnownBytes.{Consumes, IsAtEnd};
 
