@@ -1,11 +1,11 @@
 #!/bin/sh
-# Runs target/bin/loadlist on each example and compares what it prints with the .txt beside it; then
+# Runs crates/loadlist/out/loadlist on each example and compares what it prints with the .txt beside it; then
 # on 16,385 zero bytes, one more than it reads, which are `too long`.
-# `rt check loadlist` makes the program. Status 1 if anything differs, 2 without the program.
+# `rt run` in crates/loadlist makes the program. Status 1 if anything differs, 2 without the program.
 here=$(cd "$(dirname "$0")" && pwd)
-loadlist=$here/../target/bin/loadlist
+loadlist=$here/../crates/loadlist/out/loadlist
 if [ ! -x "$loadlist" ]; then
-    echo "no target/bin/loadlist: run 'rt check loadlist' first" >&2
+    echo "no crates/loadlist/out/loadlist: run 'rt run' in crates/loadlist first" >&2
     exit 2
 fi
 status=0

@@ -6,7 +6,7 @@ wrong.py choose POOL..     prints the cases of these folders that tell the wrong
 wrong.py made [POOL..]     runs `load_vectors` with each change made by rule, and says which it does not tell; prints a case that does
 
 `rt try` lowers a program and its libraries to one module and has the kit's clang compile it. Here it is given a kit whose clang keeps
-that module and fails; the module is then compiled and linked once, and the program runs as `rt` runs it (on x86-64). Nothing is proved.
+that module and fails; the module is then compiled and linked once, without a sanitizer (on x86-64). Nothing is proved.
 JOBS=2 in the environment works on two wrong programs at a time."""
 import collections, os, queue, re, shutil, struct, subprocess, sys, tempfile
 from concurrent.futures import ThreadPoolExecutor
@@ -16,8 +16,9 @@ ROOT = os.path.dirname(os.path.dirname(HERE))
 CRATES = os.path.join(ROOT, 'crates')
 KIT = os.path.dirname(os.path.dirname(os.path.realpath(shutil.which('rt'))))
 TOOLS = os.path.join(KIT, 'toolchain')
-FLAGS = '--target=x86_64-unknown-linux-gnu -march=x86-64 -fPIE -c -x ir'.split()
-LINK = '--target x86_64-unknown-linux-gnu --toolchain'.split()
+TARGET = 'x86_64-unknown-linux-gnu'
+FLAGS = f'--target={TARGET} --sysroot={TOOLS} -march=x86-64 --no-default-config -fPIE -c -x ir'.split()
+C_CODE = [os.path.join(KIT, 'c', name) for name in ('libos_c.a', 'liblibc_c.a')]
 JOBS = int(os.environ.get('JOBS', 1))
 
 # ---- the wrong programs
@@ -83,25 +84,30 @@ def mirror(source, to, but):
         elif len(but) > 1: mirror(os.path.join(source, name), os.path.join(to, name), but[1:])
 
 
+# Keeps the program's module, which alone is compiled with a sanitizer.
+CLANG = """#!/bin/bash
+case "$*" in *-fsanitize=address*) cp module.bc {module}; exit 1 ;; esac
+exec -a clang {clang} "$@"
+"""
+
+
 class Builder:
     """Builds programs in a copy of the sources. Without optimization the compiler takes a fifth of the time, and the program ten times it."""
 
     def __init__(self, level):
         self.level, self.room = level, tempfile.TemporaryDirectory()
         self.kit, self.module, self.copy = (os.path.join(self.room.name, x) for x in ('kit', 'module.bc', 'copy'))
-        clang = ['toolchain', 'bin', 'clang']
-        mirror(KIT, self.kit, clang)
-        # `rt` finds its kit by its own place
-        os.remove(os.path.join(self.kit, 'bin'))
-        mirror(os.path.join(KIT, 'bin'), os.path.join(self.kit, 'bin'), ['rt'])
-        for name in ('rt', 'rtlib.py'):
-            path = os.path.join(self.kit, 'bin', name)
-            if os.path.lexists(path): os.remove(path)
-            shutil.copy(os.path.join(KIT, 'bin', name), path)
-        path = os.path.join(self.kit, *clang)
-        with open(path, 'w') as f: f.write(f'#!/bin/sh\ncp module.bc {self.module}\nexit 1\n')
+        mirror(KIT, self.kit, ['toolchain', 'bin', 'clang'])
+        path = os.path.join(self.kit, 'toolchain', 'bin', 'clang')
+        with open(path, 'w') as f: f.write(CLANG.format(module=self.module, clang=os.path.join(TOOLS, 'bin', 'clang')))
         os.chmod(path, 0o755)
-        without = shutil.ignore_patterns('proofs', 'must-fail', 'stdin', 'stdout', 'out')
+        # `rt` finds its kit by where its own files stand, so these are copies
+        os.remove(os.path.join(self.kit, 'bin'))
+        os.mkdir(os.path.join(self.kit, 'bin'))
+        for name in os.listdir(os.path.join(KIT, 'bin')):
+            put = shutil.copy if name in ('rt', 'rtlib.py') else os.symlink
+            put(os.path.join(KIT, 'bin', name), os.path.join(self.kit, 'bin', name))
+        without = shutil.ignore_patterns('out', 'proofs', 'must-fail', 'stdin', 'stdout')
         shutil.copytree(CRATES, os.path.join(self.copy, 'crates'), ignore=without)
         shutil.copy(os.path.join(ROOT, 'crates.txt'), self.copy)
 
@@ -109,8 +115,8 @@ class Builder:
         """Whether a program with these texts compiles; its module."""
         if os.path.exists(self.module): os.remove(self.module)
         for path, text in texts.items(): open(os.path.join(self.copy, 'crates', path), 'w').write(text)
-        rt = os.path.join(self.kit, 'bin', 'rt')
-        subprocess.run([rt, 'try'], cwd=os.path.join(self.copy, 'crates', program), stdin=subprocess.DEVNULL, capture_output=True)
+        words = [os.path.join(self.kit, 'bin', 'rt'), 'try', '--steps', '1']
+        subprocess.run(words, cwd=os.path.join(self.copy, 'crates', program), stdin=subprocess.DEVNULL, capture_output=True)
         for path in texts: shutil.copy(os.path.join(CRATES, path), os.path.join(self.copy, 'crates', path))
         return os.path.exists(self.module)
 
@@ -119,8 +125,8 @@ class Builder:
         if not self.lower(program, wrong.texts): return None
         object, to = self.module + '.o', os.path.join(self.room.name, program)
         clang, link = os.path.join(TOOLS, 'bin', 'clang'), os.path.join(KIT, 'bin', 'rattle-link')
-        subprocess.run([clang, *FLAGS, self.level, self.module, '-o', object, f'--sysroot={TOOLS}'], check=True)
-        subprocess.run([link, *LINK, TOOLS, '-o', to, object], check=True, capture_output=True)
+        subprocess.run([clang, *FLAGS, self.level, self.module, '-o', object], check=True)
+        subprocess.run([link, '--target', TARGET, '--toolchain', TOOLS, '-o', to, object, *C_CODE], check=True, capture_output=True)
         return to
 
 

@@ -1,40 +1,42 @@
 #![tactic(auto)]
 // Writes the hash of published vectors and the keys of some indices, a line each.
-fn show(name: &[u8]) {
-    io::print_hex(1, ebpf::hash_symbol_name(name) as u64, 8);
-    io::write_all(1, b"\n");
+use std::io;
+
+fn show(rt: &impl Print, name: &[u8]) -> io::Result<()> {
+    println!(rt; "{:08x}", ebpf::hash_symbol_name(name))
 }
 
 // The key of an index, from the table and worked out.
-fn show_index(table: &[u32], index: u64) {
-    io::print_hex(1, ebpf::index_key_in(table, index) as u64, 8);
-    io::write_all(1, b" ");
-    io::print_hex(1, ebpf::index_key(index) as u64, 8);
-    io::write_all(1, b"\n");
+fn show_index(rt: &impl Print, table: &[u32], index: u64) -> io::Result<()> {
+    println!(rt;
+        "{:08x} {:08x}",
+        ebpf::index_key_in(table, index),
+        ebpf::index_key(index)
+    )
 }
 
-fn main() {
-    show(b"");
-    show(b"\x00");
-    show(b"\x00\x00");
-    show(b"\x00\x00\x00");
-    show(b"\x00\x00\x00\x00");
-    show(b"\x21");
-    show(b"\x21\x43");
-    show(b"\x21\x43\x65");
-    show(b"\x21\x43\x65\x87");
-    show(b"\xff\xff\xff\xff");
-    show(b"test");
-    show(b"Hello, world!");
-    show(b"The quick brown fox jumps over the lazy dog");
-    show(b"entrypoint");
-    show(b"abort");
-    show(b"sol_log_");
+fn main(rt: HostRuntime) -> io::Result<()> {
+    show(&rt, b"")?;
+    show(&rt, b"\x00")?;
+    show(&rt, b"\x00\x00")?;
+    show(&rt, b"\x00\x00\x00")?;
+    show(&rt, b"\x00\x00\x00\x00")?;
+    show(&rt, b"\x21")?;
+    show(&rt, b"\x21\x43")?;
+    show(&rt, b"\x21\x43\x65")?;
+    show(&rt, b"\x21\x43\x65\x87")?;
+    show(&rt, b"\xff\xff\xff\xff")?;
+    show(&rt, b"test")?;
+    show(&rt, b"Hello, world!")?;
+    show(&rt, b"The quick brown fox jumps over the lazy dog")?;
+    show(&rt, b"entrypoint")?;
+    show(&rt, b"abort")?;
+    show(&rt, b"sol_log_")?;
     let table = ebpf::key_table();
-    show_index(&table, 0);
-    show_index(&table, 255);
-    show_index(&table, 256);
-    show_index(&table, 4294967295);
-    show_index(&table, 4294967296);
-    show_index(&table, 18446744073709551615);
+    show_index(&rt, &table, 0)?;
+    show_index(&rt, &table, 255)?;
+    show_index(&rt, &table, 256)?;
+    show_index(&rt, &table, 4294967295)?;
+    show_index(&rt, &table, 4294967296)?;
+    show_index(&rt, &table, 18446744073709551615)
 }

@@ -2,4 +2,5 @@
 mod Stores
 mod Tenths
 mod Listed
+mod Inputs
 pub mod ReadBack

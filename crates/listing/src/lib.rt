@@ -2,10 +2,15 @@
 // The lines that the program loadlist prints: `refused` with number, value, name start and name
 // length; or `accepted` with version, entry, keys and moves, and a line for each row, by rising key:
 // key, index, name kind. A file of more than 16,384 bytes is `too long`.
-ghost use Rattle.listing.specs.Lines.{listed_load, load_lines, Stores, Lists};
+ghost use Rattle.std.specs.Prelude.{IfSome, OnOk};
+ghost use Rattle.std.specs.Io.KnownBytes.{Appends};
+ghost use Rattle.listing.specs.Lines.{listed_load, lines_of, load_lines, Stores, Lists};
 
+use input::read_full;
 use lines::{ROWS, put_load};
 use loader::{Config, load};
+use std::io;
+use std::io::{Read, Write};
 use storing::{clear, put_bytes};
 
 mod lines;
@@ -58,4 +63,17 @@ pub fn list_file(file: &[u8], out: &mut [u8]) -> usize
         return put_bytes(out, 0, b"too long\n");
     }
     list_load(out, file)
+}
+
+// Writes the lines of the file that an input holds. One byte more is read than a file may have, so
+// that a longer one shows.
+pub fn list_input<R: Read, W: Write>(input: &mut R, output: &mut W) -> io::Result<()>
+    ensures { OnOk result (IfSome (R.remaining input.old) (λ file.
+        Appends (W.contents output.old) (W.contents output.new) (lines_of file))) }
+{
+    let mut file = [0u8; LONGEST + 1];
+    let n = read_full(input, &mut file)?;
+    let mut lines = [0u8; LONGEST];
+    let length = list_file(&file[..n], &mut lines);
+    output.write_all(&lines[..length])
 }

@@ -4,8 +4,11 @@
 // README.md says how. What a case is lent are parts of arrays of fixed lengths, filled with
 // anything but zeros, so that what a load should clear and does not changes a hash of the line.
 use ebpf::little_endian::read_u32;
+use input::read_full;
 use lines::print_line;
 use loader::{Config, load};
+use std::io;
+use std::io::Read;
 
 mod lines;
 
@@ -44,16 +47,16 @@ enum Head {
     End,
 }
 
-fn read_head() -> Head {
+fn read_head(input: &mut impl Read) -> io::Result<Head> {
     let mut bytes = [0u8; HEAD_SIZE];
-    let n = io::read_full(0, &mut bytes);
+    let n = read_full(input, &mut bytes)?;
     if n == 0 {
-        return Head::End;
+        return Ok(Head::End);
     }
     if n < HEAD_SIZE {
-        return Head::Cut;
+        return Ok(Head::Cut);
     }
-    Head::Case(Sizes {
+    Ok(Head::Case(Sizes {
         file: read_u32(&bytes, 0) as usize,
         settings: read_u32(&bytes, 4),
         builtins: read_u32(&bytes, 8) as usize,
@@ -64,7 +67,7 @@ fn read_head() -> Head {
         kinds: read_u32(&bytes, 28) as usize,
         starts: read_u32(&bytes, 32) as usize,
         lengths: read_u32(&bytes, 36) as usize,
-    })
+    }))
 }
 
 fn config_of(settings: u32) -> Config {
@@ -78,31 +81,27 @@ fn config_of(settings: u32) -> Config {
     }
 }
 
-fn bad_case() -> bool {
-    io::write_all(1, b"bad case\n");
-    false
+fn bad_case(rt: &impl Print) -> io::Result<bool> {
+    println!(rt; "bad case")?;
+    Ok(false)
 }
 
 // Reads until the bytes are full, and answers whether they are.
-fn read_whole(bytes: &mut [u8]) -> bool {
-    let n = bytes.len();
-    io::read_full(0, bytes) == n
+fn read_whole(input: &mut impl Read, bytes: &mut [u8]) -> io::Result<bool> {
+    let n = read_full(input, bytes)?;
+    Ok(n == bytes.len())
 }
 
 // The numbers that the bytes hold.
 fn fill_keys(keys: &mut [u32], bytes: &[u8]) {
-    let mut i = 0;
-    while i < keys.len() {
-        if bytes.len() / 4 <= i {
-            return;
-        }
-        keys[i] = read_u32(bytes, 4 * i);
-        i += 1;
+    for (key, number) in keys.iter_mut().zip(bytes.chunks_exact(4)) {
+        *key = read_u32(number, 0);
     }
 }
 
 // Loads, and prints the line of the answer.
 fn replay(
+    rt: &impl Print,
     file: &[u8],
     builtins: &[u32],
     config: Config,
@@ -113,44 +112,22 @@ fn replay(
     kinds: &mut [u32],
     starts: &mut [u32],
     lengths: &mut [u32],
-) {
+) -> io::Result<()> {
     let answer = load(
         file, builtins, config, image, ro_section, keys, indices, kinds, starts, lengths,
     );
     print_line(
-        answer, image, ro_section, keys, indices, kinds, starts, lengths,
-    );
+        rt, answer, image, ro_section, keys, indices, kinds, starts, lengths,
+    )
 }
 
 // Lends what the case asks for.
-fn lend(c: Sizes, file: &[u8], builtins: &[u32]) -> bool {
-    let image_length = c.image;
-    let ro_length = c.ro_section;
-    let keys_length = c.keys;
-    let indices_length = c.indices;
-    let kinds_length = c.kinds;
-    let starts_length = c.starts;
-    let lengths_length = c.lengths;
-    if LENT < image_length {
-        return bad_case();
+fn lend(rt: &impl Print, c: Sizes, file: &[u8], builtins: &[u32]) -> io::Result<bool> {
+    if LENT < c.image || LENT < c.ro_section {
+        return bad_case(rt);
     }
-    if LENT < ro_length {
-        return bad_case();
-    }
-    if ROWS < keys_length {
-        return bad_case();
-    }
-    if ROWS < indices_length {
-        return bad_case();
-    }
-    if ROWS < kinds_length {
-        return bad_case();
-    }
-    if ROWS < starts_length {
-        return bad_case();
-    }
-    if ROWS < lengths_length {
-        return bad_case();
+    if ROWS < c.keys || ROWS < c.indices || ROWS < c.kinds || ROWS < c.starts || ROWS < c.lengths {
+        return bad_case(rt);
     }
     let mut image = [0xa1u8; LENT];
     let mut ro_section = [0xa2u8; LENT];
@@ -160,59 +137,62 @@ fn lend(c: Sizes, file: &[u8], builtins: &[u32]) -> bool {
     let mut starts = [0xa6a6_a6a6u32; ROWS];
     let mut lengths = [0xa7a7_a7a7u32; ROWS];
     replay(
+        rt,
         file,
         builtins,
         config_of(c.settings),
-        &mut image[..image_length],
-        &mut ro_section[..ro_length],
-        &mut keys[..keys_length],
-        &mut indices[..indices_length],
-        &mut kinds[..kinds_length],
-        &mut starts[..starts_length],
-        &mut lengths[..lengths_length],
-    );
-    true
+        &mut image[..c.image],
+        &mut ro_section[..c.ro_section],
+        &mut keys[..c.keys],
+        &mut indices[..c.indices],
+        &mut kinds[..c.kinds],
+        &mut starts[..c.starts],
+        &mut lengths[..c.lengths],
+    )?;
+    Ok(true)
 }
 
 // Reads the built-ins and the file behind a case's numbers, and loads it.
-fn read_case(c: Sizes, file: &mut [u8], builtins: &mut [u32], bytes: &mut [u8]) -> bool {
-    let file_length = c.file;
-    let count = c.builtins;
-    if file.len() < file_length {
-        return bad_case();
+fn read_case(
+    rt: &impl Print,
+    input: &mut impl Read,
+    c: Sizes,
+    file: &mut [u8],
+    builtins: &mut [u32],
+    bytes: &mut [u8],
+) -> io::Result<bool> {
+    if file.len() < c.file || builtins.len() < c.builtins || bytes.len() / 4 < c.builtins {
+        return bad_case(rt);
     }
-    if builtins.len() < count {
-        return bad_case();
+    let size = 4 * c.builtins;
+    if !read_whole(input, &mut bytes[..size])? {
+        return bad_case(rt);
     }
-    if bytes.len() / 4 < count {
-        return bad_case();
-    }
-    let size = 4 * count;
-    if !read_whole(&mut bytes[..size]) {
-        return bad_case();
-    }
-    if !read_whole(&mut file[..file_length]) {
-        return bad_case();
+    if !read_whole(input, &mut file[..c.file])? {
+        return bad_case(rt);
     }
     fill_keys(builtins, bytes);
-    lend(c, &file[..file_length], &builtins[..count])
+    lend(rt, c, &file[..c.file], &builtins[..c.builtins])
 }
 
 // One case, and whether it was a whole one.
-fn next_case() -> bool {
+fn next_case(rt: &impl Print, input: &mut impl Read) -> io::Result<bool> {
     let mut file = [0u8; LENT];
     let mut builtins = [0u32; BUILTINS];
     let mut bytes = [0u8; BUILTINS_SIZE];
-    match read_head() {
-        Head::Case(c) => read_case(c, &mut file, &mut builtins, &mut bytes),
-        Head::Cut => bad_case(),
-        Head::End => false,
+    match read_head(input)? {
+        Head::Case(c) => read_case(rt, input, c, &mut file, &mut builtins, &mut bytes),
+        Head::Cut => bad_case(rt),
+        Head::End => Ok(false),
     }
 }
 
-fn main() {
-    let mut left = MOST_CASES;
-    while 0 < left && next_case() {
-        left -= 1;
+fn main(rt: HostRuntime) -> io::Result<()> {
+    let mut input = rt.stdin();
+    for _ in 0..MOST_CASES {
+        if !next_case(&rt, &mut input)? {
+            break;
+        }
     }
+    Ok(())
 }

@@ -1,9 +1,8 @@
 #![tactic(auto)]
 // What loadlist does, run in the gate on no input.
-fn main() {
-    let mut file = [0u8; 16385];
-    let n = io::read_full(0, &mut file);
-    let mut lines = [0u8; 16384];
-    let k = listing::list_file(&file[..n], &mut lines);
-    io::write_all(1, &lines[..io::count(k as isize, &lines)]);
+use listing::list_input;
+use std::io;
+
+fn main(rt: HostRuntime) -> io::Result<()> {
+    list_input(&mut rt.stdin(), &mut rt.stdout())
 }

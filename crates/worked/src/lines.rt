@@ -4,117 +4,108 @@
 // question: `refused` likewise, or how many bytes and where they start, or whether there is a symbol and
 // its number, or who wrote a byte.
 use ebpf::little_endian::read_u32;
+use std::io;
 
 // The longest file, and the most rows.
 pub(crate) const FILE: usize = 1024;
 
 pub(crate) const ROWS: usize = 8;
 
-fn print_after_space(v: u64) {
-    io::write_all(1, b" ");
-    io::print_decimal(1, v);
-}
-
 // The words of an answer from one up to another.
-fn print_words(answer: &[u64; 24], from: usize, to: usize) {
-    let mut i = 0;
-    while i < 24 {
-        if (from <= i) & (i < to) {
-            print_after_space(answer[i]);
-        }
-        i += 1;
+fn print_words(rt: &impl Print, answer: &[u64; 24], from: usize, to: usize) -> io::Result<()> {
+    for word in answer.iter().take(to).skip(from) {
+        print!(rt; " {word}")?;
     }
+    Ok(())
 }
 
-fn print_row(key: u32, index: u32, kind: u32, start: u32, length: u32) {
-    io::write_all(1, b" |");
-    print_after_space(key as u64);
-    print_after_space(index as u64);
-    print_after_space(kind as u64);
-    print_after_space(start as u64);
-    print_after_space(length as u64);
+fn print_row(
+    rt: &impl Print,
+    key: u32,
+    index: u32,
+    kind: u32,
+    start: u32,
+    length: u32,
+) -> io::Result<()> {
+    print!(rt; " | {key} {index} {kind} {start} {length}")
 }
 
 // The used rows; no more than there are.
 fn print_rows(
+    rt: &impl Print,
     keys: &[u32; ROWS],
     indices: &[u32; ROWS],
     kinds: &[u32; ROWS],
     starts: &[u32; ROWS],
     lengths: &[u32; ROWS],
     used: u64,
-) {
-    let mut i = 0;
-    while i < ROWS {
+) -> io::Result<()> {
+    for i in 0..ROWS {
         if (i as u64) < used {
-            print_row(keys[i], indices[i], kinds[i], starts[i], lengths[i]);
+            print_row(rt, keys[i], indices[i], kinds[i], starts[i], lengths[i])?;
         }
-        i += 1;
     }
+    Ok(())
 }
 
 // The word at a place of the image, where the file has another one.
-fn print_changed(file: &[u8], image: &[u8; FILE], at: usize) {
+fn print_changed(rt: &impl Print, file: &[u8], image: &[u8; FILE], at: usize) -> io::Result<()> {
     let word = read_u32(image, at);
     if word != read_u32(file, at) {
-        io::write_all(1, b",");
-        print_after_space(word as u64);
-        io::write_all(1, b" at");
-        print_after_space(at as u64);
+        print!(rt; ", {word} at {at}")?;
     }
+    Ok(())
 }
 
-fn print_written(file: &[u8], image: &[u8; FILE]) {
-    let mut at = 0;
-    while at < FILE {
-        print_changed(file, image, at);
-        at += 4;
+fn print_written(rt: &impl Print, file: &[u8], image: &[u8; FILE]) -> io::Result<()> {
+    for at in (0..FILE).step_by(4) {
+        print_changed(rt, file, image, at)?;
     }
+    Ok(())
 }
 
-fn print_refused(answer: &[u64; 24]) {
-    io::write_all(1, b"refused");
-    print_words(answer, 0, 4);
-    io::write_all(1, b"\n");
+fn print_refused(rt: &impl Print, answer: &[u64; 24]) -> io::Result<()> {
+    print!(rt; "refused")?;
+    print_words(rt, answer, 0, 4)?;
+    println!(rt; "")
 }
 
-pub(crate) fn print_place(number: u32, answer: &[u64; 24]) {
+pub(crate) fn print_place(rt: &impl Print, number: u32, answer: &[u64; 24]) -> io::Result<()> {
     if number == 0 {
-        io::print_decimal(1, answer[5]);
-        io::write_all(1, b" bytes at");
-        print_words(answer, 4, 5);
-        io::write_all(1, b"\n");
+        println!(rt; "{} bytes at {}", answer[5], answer[4])
     } else {
-        print_refused(answer);
+        print_refused(rt, answer)
     }
 }
 
-pub(crate) fn print_symbol(number: u32, answer: &[u64; 24]) {
+pub(crate) fn print_symbol(rt: &impl Print, number: u32, answer: &[u64; 24]) -> io::Result<()> {
     if number == 0 {
-        io::write_all(1, b"symbol");
-        print_words(answer, 4, 6);
-        io::write_all(1, b"\n");
+        println!(rt; "symbol {} {}", answer[4], answer[5])
     } else {
-        print_refused(answer);
+        print_refused(rt, answer)
     }
 }
 
 // Who wrote a byte: its kind and number by the load's words, by the question's, and as one number.
-pub(crate) fn print_writer(number: u32, loaded: &[u64; 24], asked: &[u64; 24], code: u32) {
+pub(crate) fn print_writer(
+    rt: &impl Print,
+    number: u32,
+    loaded: &[u64; 24],
+    asked: &[u64; 24],
+    code: u32,
+) -> io::Result<()> {
     if number == 0 {
-        io::write_all(1, b"by");
-        print_words(loaded, 15, 17);
-        io::write_all(1, b",");
-        print_words(asked, 4, 6);
-        io::write_all(1, b",");
-        print_after_space(code as u64);
-        io::write_all(1, b"\n");
+        println!(rt;
+            "by {} {}, {} {}, {code}",
+            loaded[15], loaded[16], asked[4], asked[5]
+        )
     } else {
-        print_refused(asked);
+        print_refused(rt, asked)
     }
 }
 
 pub(crate) fn print_line(
+    rt: &impl Print,
     number: u32,
     answer: &[u64; 24],
     file: &[u8],
@@ -124,14 +115,14 @@ pub(crate) fn print_line(
     kinds: &[u32; ROWS],
     starts: &[u32; ROWS],
     lengths: &[u32; ROWS],
-) {
+) -> io::Result<()> {
     if number == 0 {
-        io::write_all(1, b"accepted");
-        print_words(answer, 4, 15);
-        print_rows(keys, indices, kinds, starts, lengths, answer[6]);
-        print_written(file, image);
-        io::write_all(1, b"\n");
+        print!(rt; "accepted")?;
+        print_words(rt, answer, 4, 15)?;
+        print_rows(rt, keys, indices, kinds, starts, lengths, answer[6])?;
+        print_written(rt, file, image)?;
+        println!(rt; "")
     } else {
-        print_refused(answer);
+        print_refused(rt, answer)
     }
 }

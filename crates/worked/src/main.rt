@@ -12,7 +12,10 @@ use exports::{
     sbpf_dynamic_symbol_name, sbpf_find_symbol, sbpf_load, sbpf_load_who_wrote, sbpf_section_name,
     sbpf_section_place, sbpf_symbol_name, sbpf_who_wrote, sbpf_who_wrote_all,
 };
+use input::read_full;
 use lines::{FILE, ROWS, print_line, print_place, print_symbol, print_writer};
+use std::io;
+use std::io::Read;
 
 mod lines;
 
@@ -24,15 +27,21 @@ const NAME: usize = 64;
 // More examples than there are: a loop needs a bound, and the input gives none.
 const MOST: usize = 1000;
 
-fn bad_record() -> bool {
-    io::write_all(1, b"bad record\n");
-    false
+fn bad_record(rt: &impl Print) -> io::Result<bool> {
+    println!(rt; "bad record")?;
+    Ok(false)
 }
 
 // Loads, and prints what was answered. The shortest column says how many rows there are.
-fn load_and_print(file: &[u8], builtins: &[u32], settings: u32, rows: usize) -> bool {
+fn load_and_print(
+    rt: &impl Print,
+    file: &[u8],
+    builtins: &[u32],
+    settings: u32,
+    rows: usize,
+) -> io::Result<bool> {
     if ROWS < rows {
-        return bad_record();
+        return bad_record(rt);
     }
     let mut image = [0xa1u8; FILE];
     let mut ro = [0xa2u8; FILE];
@@ -56,37 +65,34 @@ fn load_and_print(file: &[u8], builtins: &[u32], settings: u32, rows: usize) -> 
         &mut answer,
     );
     print_line(
-        number, &answer, file, &image, &keys, &indices, &kinds, &starts, &lengths,
-    );
-    true
+        rt, number, &answer, file, &image, &keys, &indices, &kinds, &starts, &lengths,
+    )?;
+    Ok(true)
 }
 
 // Asks who wrote a byte by the words of a load's answer, alone and among all bytes, and prints that
 // beside the load's own words.
-fn print_wrote(file: &[u8], loaded: &[u64; 24], offset: u64) {
+fn print_wrote(rt: &impl Print, file: &[u8], loaded: &[u64; 24], offset: u64) -> io::Result<()> {
     let mut asked = [0xa8a8_a8a8u64; 24];
     let mut answer = [0xa9a9_a9a9u64; 24];
     let mut numbers = [0xaaaa_aaaau32; FILE];
     let number = sbpf_who_wrote(file, loaded, offset, &mut asked);
     sbpf_who_wrote_all(file, loaded, &mut numbers, &mut answer);
-    print_writer(
-        number,
-        loaded,
-        &asked,
-        numbers[(offset % FILE as u64) as usize],
-    );
+    let code = numbers[(offset % FILE as u64) as usize];
+    print_writer(rt, number, loaded, &asked, code)
 }
 
 // Loads, with the question who wrote a byte.
 fn load_and_print_wrote(
+    rt: &impl Print,
     file: &[u8],
     builtins: &[u32],
     settings: u32,
     rows: usize,
     offset: u64,
-) -> bool {
+) -> io::Result<bool> {
     if ROWS < rows {
-        return bad_record();
+        return bad_record(rt);
     }
     let mut image = [0xa1u8; FILE];
     let mut ro = [0xa2u8; FILE];
@@ -110,108 +116,113 @@ fn load_and_print_wrote(
         offset,
         &mut answer,
     );
-    print_wrote(file, &answer, offset);
-    true
+    print_wrote(rt, file, &answer, offset)?;
+    Ok(true)
 }
 
 fn ask(file: &[u8], question: u32, number: u32, answer: &mut [u64]) -> u32 {
-    if question == 1 {
-        return sbpf_section_place(file, number, answer);
+    match question {
+        1 => sbpf_section_place(file, number, answer),
+        2 => sbpf_section_name(file, number, answer),
+        3 => sbpf_symbol_name(file, number, answer),
+        _ => sbpf_dynamic_symbol_name(file, number, answer),
     }
-    if question == 2 {
-        return sbpf_section_name(file, number, answer);
-    }
-    if question == 3 {
-        return sbpf_symbol_name(file, number, answer);
-    }
-    sbpf_dynamic_symbol_name(file, number, answer)
 }
 
 // Asks the file, and prints what was answered.
-fn ask_and_print(file: &[u8], question: u32, number: u32) -> bool {
+fn ask_and_print(rt: &impl Print, file: &[u8], question: u32, number: u32) -> io::Result<bool> {
     if 4 < question {
-        return bad_record();
+        return bad_record(rt);
     }
     let mut answer = [0xa8a8_a8a8u64; 24];
     let refused = ask(file, question, number, &mut answer);
-    print_place(refused, &answer);
-    true
+    print_place(rt, refused, &answer)?;
+    Ok(true)
 }
 
 // Reads the name behind the file, asks for its symbol, and prints what was answered.
-fn find_and_print(file: &[u8], name: &mut [u8], length: usize) -> bool {
+fn find_and_print(
+    rt: &impl Print,
+    input: &mut impl Read,
+    file: &[u8],
+    name: &mut [u8],
+    length: usize,
+) -> io::Result<bool> {
     if name.len() < length {
-        return bad_record();
+        return bad_record(rt);
     }
-    io::read_full(0, &mut name[..length]);
+    read_full(input, &mut name[..length])?;
     let mut answer = [0xa8a8_a8a8u64; 24];
     let refused = sbpf_find_symbol(file, &name[..length], &mut answer);
-    print_symbol(refused, &answer);
-    true
+    print_symbol(rt, refused, &answer)?;
+    Ok(true)
 }
 
 // Loads the file as a record's numbers say, with the question who wrote a byte or without it.
-fn run_load(numbers: &[u8; NUMBERS], file: &[u8], count: usize, question: u32) -> bool {
+fn run_load(
+    rt: &impl Print,
+    numbers: &[u8; NUMBERS],
+    file: &[u8],
+    count: usize,
+    question: u32,
+) -> io::Result<bool> {
     let builtins = [read_u32(numbers, 12)];
-    if 6 < question {
-        return bad_record();
+    if 6 < question || 1 < count {
+        return bad_record(rt);
     }
-    if 1 < count {
-        return bad_record();
-    }
+    let builtins = &builtins[..count];
     let settings = read_u32(numbers, 4);
     let rows = read_u32(numbers, 16) as usize;
     if question == 6 {
-        return load_and_print_wrote(
-            file,
-            &builtins[..count],
-            settings,
-            rows,
-            read_u32(numbers, 24) as u64,
-        );
+        let offset = read_u32(numbers, 24) as u64;
+        return load_and_print_wrote(rt, file, builtins, settings, rows, offset);
     }
-    load_and_print(file, &builtins[..count], settings, rows)
+    load_and_print(rt, file, builtins, settings, rows)
 }
 
 // Reads the file behind a record's numbers, and loads or asks it.
-fn run(numbers: &[u8; NUMBERS], file: &mut [u8], name: &mut [u8]) -> bool {
+fn run(
+    rt: &impl Print,
+    input: &mut impl Read,
+    numbers: &[u8; NUMBERS],
+    file: &mut [u8],
+    name: &mut [u8],
+) -> io::Result<bool> {
     let length = read_u32(numbers, 0) as usize;
     if file.len() < length {
-        return bad_record();
+        return bad_record(rt);
     }
-    io::read_full(0, &mut file[..length]);
-    let question = read_u32(numbers, 20);
-    if question == 5 {
-        return find_and_print(&file[..length], name, read_u32(numbers, 24) as usize);
+    read_full(input, &mut file[..length])?;
+    let file = &file[..length];
+    let count = read_u32(numbers, 8) as usize;
+    let number = read_u32(numbers, 24);
+    match read_u32(numbers, 20) {
+        5 => find_and_print(rt, input, file, name, number as usize),
+        question @ 1..=4 => ask_and_print(rt, file, question, number),
+        question => run_load(rt, numbers, file, count, question),
     }
-    if (0 < question) & (question < 5) {
-        return ask_and_print(&file[..length], question, read_u32(numbers, 24));
-    }
-    run_load(
-        numbers,
-        &file[..length],
-        read_u32(numbers, 8) as usize,
-        question,
-    )
 }
 
 // One record, and whether there was a right one. What is cut off reads as zeros.
-fn next_record() -> bool {
+fn next_record(rt: &impl Print, input: &mut impl Read) -> io::Result<bool> {
     let mut title = [0u8; TITLE];
     let mut numbers = [0u8; NUMBERS];
     let mut file = [0u8; FILE];
     let mut name = [0u8; NAME];
-    if io::read_full(0, &mut title) == 0 {
-        return false;
+    if read_full(input, &mut title)? == 0 {
+        return Ok(false);
     }
-    io::write_all(1, &title);
-    io::read_full(0, &mut numbers);
-    run(&numbers, &mut file, &mut name)
+    rt.write_all(&title)?;
+    read_full(input, &mut numbers)?;
+    run(rt, input, &numbers, &mut file, &mut name)
 }
 
-fn main() {
-    let mut left = MOST;
-    while 0 < left && next_record() {
-        left -= 1;
+fn main(rt: HostRuntime) -> io::Result<()> {
+    let mut input = rt.stdin();
+    for _ in 0..MOST {
+        if !next_record(&rt, &mut input)? {
+            break;
+        }
     }
+    Ok(())
 }
