@@ -1,12 +1,12 @@
 -- The lines of the file that an input holds, read up to one byte more than a file may have. Assumes nothing.
-use Rattle.std.proofs.Common.{◌≡◌, ℕ, ◌+◌, ◌≤◌, ◌<◌, List, [], ◌++◌, None, Some, IfSome, Result, Ok, Err, OnOk, arith, length, take, sym, ap, ◌∙◌, subst, length-append, length-take-le, append-nil}
+use Rattle.std.proofs.Common.{◌≡◌, ℕ, ◌≤◌, ◌<◌, List, [], ◌++◌, None, Some, IfSome, Result, Ok, Err, OnOk, arith, length, take, sym, ap, ◌∙◌, subst, length-append, length-take-le, append-nil}
 use Rattle.std.proofs.Math.Nat.{eq-or-lt_of_le}
 use Rattle.std.proofs.Math.Seq.{take-append_seam}
 use Rattle.std.proofs.lemmas.List.{take_all}
 use Rattle.std.specs.Io.KnownBytes.{Appends, Consumes, IsAtEnd}
 use Rattle.std.specs.declared.option.Option.{Option}
 use mathlib.Core.Logic.{◌⊎◌, inl, inr}
-use Rattle.listing.specs.Lines.{lines_of, filled, Listing}
+use Rattle.listing.specs.Lines.{lines_of, Listing}
 use Rattle.listing.proofs.Listed.{lines_long}
 
 -- what was read has the lines of the whole file
