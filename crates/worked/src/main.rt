@@ -1,5 +1,5 @@
 #![tactic(auto)]
-// Runs worked examples through the C interface: records on standard input, a line for
+// Runs worked examples by the functions of the C interface: records on standard input, a line for
 // each on standard output. tools/differential makes both; README.md says how.
 //
 // A record has a title, padded with spaces, which starts the line; seven numbers of 32 bits: the
