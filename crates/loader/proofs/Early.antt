@@ -65,10 +65,10 @@ untaken builtins true check key e = refl
 untaken builtins false check key e = rw e refl
 
 -- the row of a function where no built-in's key is refused
-abbrev pub row_is_lem : Job → FunctionName → ℕ → Row
-row_is_lem j name index = row_of (legacy_key [] j.version2 name index) index (kept_name j.labels name)
+abbrev pub row_of_function : Job → FunctionName → ℕ → Row
+row_of_function j name index = row_of (legacy_key [] j.version2 name index) index (kept_name j.labels name)
 
-pub free_row : (builtins : List ℕ) (j : Job) (name : FunctionName) (index : ℕ) → j.check_collision ≡ false → row_for builtins j name index ≡ Free (row_is_lem j name index)
+pub free_row : (builtins : List ℕ) (j : Job) (name : FunctionName) (index : ℕ) → j.check_collision ≡ false → row_for builtins j name index ≡ Free (row_of_function j name index)
 unfolding row_for legacy_row ◌if◌else◌
 free_row builtins j name index e = rw (untaken builtins j.version2 j.check_collision (legacy_key [] j.version2 name index) e) refl
 
@@ -138,12 +138,12 @@ module _ (file builtins : List ℕ) (j : Job) (off : j.check_collision ≡ false
   abbrev G : Row → Type 0
   G = Good j.version2
 
-  good_row : (name : FunctionName) (index : ℕ) → index < 2 ^ 32 → Good j.version2 (row_is_lem j name index)
+  good_row : (name : FunctionName) (index : ℕ) → index < 2 ^ 32 → Good j.version2 (row_of_function j name index)
   good_row name index l = good_key j.version2 name index (kept_name j.labels name) l
 
   -- what is made of a row, where it is steady with any good one
   by_row : (f : Legacy → Deed) (name : FunctionName) (index : ℕ) → index < 2 ^ 32 → ((row : Row) → G row → SteadyDeed G (f (Free row))) → SteadyDeed G (f (row_for builtins j name index))
-  by_row f name index l s = rw (free_row builtins j name index off) (s (row_is_lem j name index) (good_row name index l))
+  by_row f name index l s = rw (free_row builtins j name index off) (s (row_of_function j name index) (good_row name index l))
 
   -- calls
   call_steady : (i : ℕ) (c : Call) → Within (length (text_of file j) / 8) c → SteadyDeed G (call_by builtins j i c)

@@ -43,7 +43,7 @@ use Rattle.loader.proofs.Readied.{readied}
 use Rattle.loader.proofs.Plain.{Plain, of_table, picks, PlainPlacing, PlainlyPrepared, prepared_plain}
 use Rattle.loader.proofs.Counting.{find_rank}
 use Rattle.loader.proofs.Reaching.{Collides, Fills, no_collision, Steady, AllFound, accepted_rows, reached_are, two, Meets, meets, Again, Counted, counted_then, steady_counted, full_counts}
-use Rattle.loader.proofs.Early.{Good, row_is_lem, free_row, early_steady}
+use Rattle.loader.proofs.Early.{Good, row_of_function, free_row, early_steady}
 
 -- in either version no two indices share an index key
 pub injective_keys : Injective
@@ -103,7 +103,7 @@ placed_counted (NotPlaced r) q im = q
 
 module _ (file builtins : List ℕ) (j : Job) (off : j.check_collision ≡ false) (within : InFile file j) (place : PlainPlacing j.placing) where
   abbrev row : Row
-  row = row_is_lem j Entrypoint (entry_index j)
+  row = row_of_function j Entrypoint (entry_index j)
 
   -- the entry's two ways
   entered : (Q : Trace → Type 0) (im : List ℕ) → Q (stop InvalidEntrypoint) → Q (register row (done im)) → Q (deed_trace (entry_deed builtins j) im)
