@@ -1,11 +1,9 @@
 -- Refusals: their numbers, and checks one after another.
-use Rattle.std.specs.Prelude.{ℕ, ◌≡◌, refl}
+use Rattle.std.specs.Prelude.{ℕ, ◌≡◌, refl, Result, Ok, Err}
 use Rattle.std.proofs.Common.{arith}
 use Rattle.elf_parser.specs.declared.error.ElfParserError.{ElfParserError}
 use Rattle.elf_parser.specs.declared.error.ElfParserError.TheVariants.{InvalidFileHeader, InvalidProgramHeader, InvalidSectionHeader, StringTooLong, OutOfBounds, InvalidSize, Overlap, SectionNotInOrder, NoSectionNameStringTable, InvalidDynamicSectionTable, InvalidAlignment, NoStringTable, NoDynamicStringTable, NoSuchIndex, NotASection, StringUnterminated}
 use Rattle.elf_parser.specs.declared.error.Report.{Report}
-use Rattle.elf_parser.specs.declared.error.Check.{Check}
-use Rattle.elf_parser.specs.declared.error.Check.TheVariants.{Pass, Refused}
 
 -- a refusal that has a number and nothing else
 abbrev pub plain : ℕ → Report
@@ -34,32 +32,50 @@ report_of NoSuchIndex = plain 45
 report_of NotASection = plain 46
 report_of (StringUnterminated start n) = named 49 start n
 
+-- a check: it passes, or names what it refuses
+abbrev pub Check : Type 0
+Check = Result (Unit {0}) ElfParserError
+
+-- one step, and what follows where it passes: the first refusal counts
+abbrev pub and_then : {A B : Type 0} → Result A ElfParserError → (A → Result B ElfParserError) → Result B ElfParserError
+and_then (Ok x) f = f x
+and_then (Err r) f = Err r
+
 -- one check after another: the first refusal counts
 infixr 3 ◌then◌
-unfoldable pub ◌then◌ : Check → Check → Check
-Pass then c = c
-Refused r then c = Refused r
+abbrev pub ◌then◌ : Check → Check → Check
+a then b = and_then a (λ x. b)
 
-pub then_stop : (a b : Check) (r : ElfParserError) → a ≡ Refused r → Refused r ≡ (a then b)
-unfolding ◌then◌
+pub then_stop : (a b : Check) (r : ElfParserError) → a ≡ Err r → Err r ≡ (a then b)
 then_stop a b r e = rw e
 
-pub then_go : (a b x : Check) → a ≡ Pass → x ≡ b → x ≡ (a then b)
-unfolding ◌then◌
+pub then_go : (a b x : Check) → a ≡ Ok tt → x ≡ b → x ≡ (a then b)
 then_go a b x e p = rw e p
 
-pub apart : (r : ElfParserError) → Refused r ≡ Pass → ⊥
-apart r e = let z : ◌≡◌ {A = ℕ} 0 1 = cc in absurd_zero z
+-- a refusal is no answer
+pub apart : {A : Type 0} (r : ElfParserError) (x : A) → Err r ≡ Ok x → ⊥
+apart r x e = let z : ◌≡◌ {A = ℕ} 0 1 = cc in absurd_zero z
   where
     absurd_zero : ◌≡◌ {A = ℕ} 0 1 → ⊥
     absurd_zero z = omega arith
 
-pub pass_first : (a b : Check) → (a then b) ≡ Pass → a ≡ Pass
-unfolding ◌then◌
-pass_first Pass b e = refl
-pass_first (Refused r) b e = absurd (apart r e)
+pub pass_first : (a b : Check) → (a then b) ≡ Ok tt → a ≡ Ok tt
+pass_first (Ok tt) b e = refl
+pass_first (Err r) b e = absurd (apart r tt e)
 
-pub pass_rest : (a b : Check) → (a then b) ≡ Pass → b ≡ Pass
-unfolding ◌then◌
-pass_rest Pass b e = e
-pass_rest (Refused r) b e = absurd (apart r e)
+pub pass_rest : (a b : Check) → (a then b) ≡ Ok tt → b ≡ Ok tt
+pass_rest (Ok x) b e = e
+pass_rest (Err r) b e = absurd (apart r tt e)
+
+pub ok_is : {A E : Type 0} (x y : A) → ◌≡◌ {A = Result A E} (Ok x) (Ok y) → x ≡ y
+ok_is x y e = cc
+
+-- what an answer says of the steps that led to it
+pub record Went {A B : Type 0} (a : Result A ElfParserError) (f : A → Result B ElfParserError) (y : B) : Type 0 where
+  pub value : A
+  pub first : a ≡ Ok value
+  pub second : f value ≡ Ok y
+
+pub went : {A B : Type 0} (a : Result A ElfParserError) (f : A → Result B ElfParserError) (y : B) → and_then a f ≡ Ok y → Went a f y
+went (Ok x) f y e = record { value = x; first = refl; second = e }
+went (Err r) f y e = absurd (apart r y e)

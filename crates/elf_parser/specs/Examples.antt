@@ -1,33 +1,24 @@
 -- Examples on names, tables and sections beside the scope's marked ones, which stand in one table (`worked` in the loader's specs): each holds by computation.
-use Rattle.std.specs.Prelude.{ℕ, ◌+◌, ◌-◌, ◌^◌, List, [], ◌∷◌, ◌++◌, ◌≡◌, refl, replicate, set}
+use Rattle.std.specs.Prelude.{ℕ, ◌+◌, ◌-◌, ◌^◌, List, [], ◌∷◌, ◌++◌, ◌≡◌, refl, replicate, set, Option, Some, None, Result, Ok, Err}
 use Rattle.ebpf.specs.Choice.{◌if◌else◌}
 use Rattle.ebpf.specs.LittleEndian.{le, bytes_of}
 use Rattle.elf_parser.specs.declared.error.ElfParserError.TheVariants.{InvalidFileHeader, StringTooLong, StringUnterminated, OutOfBounds, Overlap, SectionNotInOrder, NoSectionNameStringTable, InvalidDynamicSectionTable, InvalidAlignment, InvalidSize, NoSuchIndex, NotASection}
-use Rattle.elf_parser.specs.declared.error.Check.TheVariants.{Pass, Refused}
 use Rattle.elf_parser.specs.declared.types.Elf64Ehdr.{Elf64Ehdr}
 use Rattle.elf_parser.specs.declared.types.Elf64Shdr.{Elf64Shdr}
-use Rattle.elf_parser.specs.declared.parts.Place.TheVariants.{At as Stands, Refused as NoPlace}
 use Rattle.elf_parser.specs.declared.layout.Layout.{Layout}
-use Rattle.elf_parser.specs.declared.layout.Parsed.TheVariants.{Refused as NoFile}
-use Rattle.elf_parser.specs.declared.records.Sliced.{Sliced}
-use Rattle.elf_parser.specs.declared.records.Sliced.TheVariants.{At as Slice, Refused as NoSlice}
-use Rattle.elf_parser.specs.declared.records.Rela.TheVariants.{Relocation as WithAddend, Refused as NoRela}
-use Rattle.elf_parser.specs.declared.dynamic.Linking.{Linking}
-use Rattle.elf_parser.specs.declared.dynamic.Linking.TheVariants.{Found as Links, Refused as NoLinks}
-use Rattle.elf_parser.specs.declared.program_headers.Mapped.{Mapped}
-use Rattle.elf_parser.specs.declared.program_headers.Mapped.TheVariants.{At as Maps, Nothing as Unmapped, Refused as NoMap}
 use Rattle.elf_parser.specs.declared.section_headers.Ranges.{Ranges}
+use Rattle.elf_parser.specs.declared.records.Entries.{Entries}
+use Rattle.elf_parser.specs.declared.dynamic.Linked.{Linked}
+use Rattle.elf_parser.specs.declared.error.ElfParserError.{ElfParserError}
 use Rattle.elf_parser.specs.FileHeader.{header_check, header_right, header_fixed, tables_check}
 use Rattle.elf_parser.specs.SectionHeaders.{section_check}
-use Rattle.elf_parser.specs.Strings.{string_in, string_check, gives, terminated, no_zero, before_zero}
-use Rattle.elf_parser.specs.Records.{sliced, no_entries, symbol_table_in, rela_of, entry_at, file_range, file_range_of, contents_place, section_place_of}
-use Rattle.elf_parser.specs.Parts.{bytes_at, part_of}
-use Rattle.elf_parser.specs.Types.{program_header, section_header, rela}
-use Rattle.elf_parser.specs.Loops.{over, ◌into◌}
-use Rattle.elf_parser.specs.ProgramHeaders.{contains_step}
-use Rattle.elf_parser.specs.Dynamic.{with_tag, values_from, dynamic_values, first_with, section_offset, or_section, relocations_at, relocations_by, relocations_of, symbols_by, symbols_of, linking, linked_by, file_offset}
+use Rattle.elf_parser.specs.Strings.{string_in, string_check, terminated, no_zero, before_zero}
+use Rattle.elf_parser.specs.Records.{sliced, no_entries, symbol_table_in, entry_of, entry_at, file_range, file_range_of, contents_place, section_place_of}
+use Rattle.elf_parser.specs.Parts.{bytes_at, stands, part_of}
+use Rattle.elf_parser.specs.Types.{program_header, section_header, rela, dynamic}
+use Rattle.elf_parser.specs.ProgramHeaders.{contains_step, header_for_vaddr}
+use Rattle.elf_parser.specs.Dynamic.{with_tag, values_from, dynamic_values, first_with, relocations_at, relocations_by, relocations_of, symbols_by, symbols_of, linked_by, file_offset}
 use Rattle.elf_parser.specs.Parse.{named_layout, parsed, file_check}
-use Rattle.elf_parser.specs.Errors.{◌then◌}
 
 -- a file without a zero byte, and a table of n bytes at 4
 abbrev long_names : List ℕ
@@ -40,52 +31,52 @@ names_of n = record { sh_name = 0; sh_type = 3; sh_flags = 0; sh_addr = 0; sh_of
 cut_off :
     string_in long_names (names_of 18) 3 16 ∷ string_in long_names (names_of 19) 3 16 ∷ string_in long_names (names_of 20) 3 16
     ∷ string_in long_names (names_of 66) 3 64 ∷ string_in long_names (names_of 67) 3 64 ∷ string_in long_names (names_of 68) 3 64 ∷ []
-    ≡ NoPlace (StringUnterminated 7 15) ∷ NoPlace (StringTooLong 7 16) ∷ NoPlace (StringTooLong 7 16)
-    ∷ NoPlace (StringUnterminated 7 63) ∷ NoPlace (StringTooLong 7 64) ∷ NoPlace (StringTooLong 7 64) ∷ []
-unfolding string_in string_check gives terminated no_zero before_zero ◌if◌else◌
+    ≡ Err (StringUnterminated 7 15) ∷ Err (StringTooLong 7 16) ∷ Err (StringTooLong 7 16)
+    ∷ Err (StringUnterminated 7 63) ∷ Err (StringTooLong 7 64) ∷ Err (StringTooLong 7 64) ∷ []
+unfolding string_in string_check terminated no_zero before_zero ◌if◌else◌
 cut_off = refl
 
 -- a name that starts where the table ends is cut off with no bytes, and one further it is outside, for either limit
 name_at_end : string_in (replicate 120 0) (names_of 40) 40 16 ∷ string_in (replicate 120 0) (names_of 40) 41 16 ∷ string_in (replicate 120 0) (names_of 40) 40 64 ∷ string_in (replicate 120 0) (names_of 40) 41 64 ∷ []
-    ≡ NoPlace (StringUnterminated 44 0) ∷ NoPlace OutOfBounds ∷ NoPlace (StringUnterminated 44 0) ∷ NoPlace OutOfBounds ∷ []
-unfolding string_in string_check gives terminated no_zero before_zero ◌if◌else◌
+    ≡ Err (StringUnterminated 44 0) ∷ Err OutOfBounds ∷ Err (StringUnterminated 44 0) ∷ Err OutOfBounds ∷ []
+unfolding string_in string_check terminated no_zero before_zero ◌if◌else◌
 name_at_end = refl
 
 -- an empty section at the end of the file header does not overlap it, one inside the section headers does
 tables : Ranges
 tables = record { phoff = 64; phend = 64; shoff = 512; shend = 704 }
 
-empty_at_64 : section_check 1000 0 tables 64 0 ≡ Pass
+empty_at_64 : section_check 1000 0 tables 64 0 ≡ Ok tt
 unfolding section_check ◌if◌else◌ tables
 empty_at_64 = refl
 
-empty_in_headers : section_check 1000 0 tables 513 0 ≡ Refused Overlap
+empty_in_headers : section_check 1000 0 tables 513 0 ≡ Err Overlap
 unfolding section_check ◌if◌else◌ tables
 empty_in_headers = refl
 
-behind_its_place : section_check 1000 100 tables 99 1 ≡ Refused SectionNotInOrder
+behind_its_place : section_check 1000 100 tables 99 1 ≡ Err SectionNotInOrder
 unfolding section_check ◌if◌else◌ tables
 behind_its_place = refl
 
 -- a file shorter than its header, and 64 zero bytes
-too_short : parsed (replicate 63 0) ≡ NoFile OutOfBounds
-unfolding parsed file_check header_check ◌then◌ ◌if◌else◌
+too_short : parsed (replicate 63 0) ≡ Err OutOfBounds
+unfolding parsed file_check header_check ◌if◌else◌
 too_short = refl
 
-zeros : header_check (replicate 64 0) ≡ Refused InvalidFileHeader
+zeros : header_check (replicate 64 0) ≡ Err InvalidFileHeader
 unfolding header_check header_right header_fixed ◌if◌else◌ le
 zeros = refl
 
 -- header tables: inside the file header, outside the file, unaligned
-table_in_header : tables_check 1000 32 1 512 3 ≡ Refused Overlap
+table_in_header : tables_check 1000 32 1 512 3 ≡ Err Overlap
 unfolding tables_check ◌if◌else◌
 table_in_header = refl
 
-table_outside : tables_check 700 64 0 512 3 ≡ Refused OutOfBounds
+table_outside : tables_check 700 64 0 512 3 ≡ Err OutOfBounds
 unfolding tables_check ◌if◌else◌
 table_outside = refl
 
-table_unaligned : tables_check 1000 64 0 513 3 ≡ Refused InvalidAlignment
+table_unaligned : tables_check 1000 64 0 513 3 ≡ Err InvalidAlignment
 unfolding tables_check ◌if◌else◌
 table_unaligned = refl
 
@@ -105,22 +96,22 @@ header =
       e_shstrndx = 0;
     }
 
-no_name_table : named_layout [] header ≡ NoFile NoSectionNameStringTable
+no_name_table : named_layout [] header ≡ Err NoSectionNameStringTable
 unfolding named_layout ◌if◌else◌ header
 no_name_table = refl
 
 -- symbols: a size that is no multiple of 24 comes before a place outside
-odd_size : sliced 100 96 25 24 ≡ NoSlice InvalidSize
+odd_size : sliced 100 96 25 24 ≡ Err InvalidSize
 unfolding sliced ◌if◌else◌
 odd_size = refl
 
-outside : sliced 100 96 24 24 ≡ NoSlice OutOfBounds
+outside : sliced 100 96 24 24 ≡ Err OutOfBounds
 unfolding sliced ◌if◌else◌
 outside = refl
 
 -- the last of equal tags wins, a tag of 35 is skipped, DT_NULL ends the table
 dynamic_values_lem : dynamic_values (6 ∷ replicate 7 0 ++ (1 ∷ replicate 7 0) ++ (35 ∷ replicate 7 0) ++ (9 ∷ replicate 7 0) ++ (6 ∷ replicate 7 0) ++ (2 ∷ replicate 7 0) ++ replicate 16 0 ++ (6 ∷ replicate 7 0) ++ (3 ∷ replicate 7 0)) 5 0 ≡ replicate 6 0 ++ (2 ∷ replicate 28 0)
-unfolding values_from with_tag ◌if◌else◌ le
+unfolding values_from with_tag dynamic ◌if◌else◌ le
 dynamic_values_lem = refl
 
 -- three section headers from byte 0 on: of type 0 with odd numbers, twice, and of type 1
@@ -134,10 +125,10 @@ three_layout : Layout
 three_layout = record {
   program_headers = no_entries;
   section_headers = record { offset = 0; count = 3 };
-  shstrtab = 0;
-  symtab = 0;
-  strtab = 0;
-  dynstr = 0;
+  shstrtab = None;
+  symtab = None;
+  strtab = None;
+  dynstr = None;
   dynamic_relocations = no_entries;
   dynamic_relas = no_entries;
   dynamic_symbols = no_entries;
@@ -146,7 +137,7 @@ three_layout = record {
 
 -- contents by index: a header of type 0 has none, whatever its numbers are and at whichever index; past the table it is 45
 blank_headers : section_place_of three_headers three_layout 0 ∷ section_place_of three_headers three_layout 1 ∷ section_place_of three_headers three_layout 2 ∷ section_place_of three_headers three_layout 3 ∷ []
-    ≡ NoPlace NotASection ∷ NoPlace NotASection ∷ Stands 4 10 ∷ NoPlace NoSuchIndex ∷ []
+    ≡ Err NotASection ∷ Err NotASection ∷ stands 4 10 ∷ Err NoSuchIndex ∷ []
 unfolding three_headers three_layout contents_place file_range entry_at section_header le ◌if◌else◌
 blank_headers = refl
 
@@ -155,7 +146,7 @@ blank_part : part_of three_headers (section_place_of three_headers three_layout 
 unfolding three_headers three_layout contents_place entry_at section_header le bytes_at ◌if◌else◌
 blank_part = refl
 
-blank_range : file_range_of three_headers three_layout 0 ≡ Stands 4 10
+blank_range : file_range_of three_headers three_layout 0 ≡ stands 4 10
 unfolding three_headers three_layout file_range entry_at section_header le ◌if◌else◌
 blank_range = refl
 
@@ -170,8 +161,8 @@ two_relas offset =
     ++ (replicate 16 0 ++ bytes_of 8 (2 ^ 64 - 1) ++ replicate 16 0 ++ bytes_of 8 1 ++ replicate 8 0)
 
 -- by the address, the size and the size of an entry, the section's contents at `offset`, with `n` program headers
-abbrev relas_by : ℕ → ℕ → ℕ → ℕ → ℕ → Sliced
-relas_by offset n vaddr size entry-size = relocations_of (two_relas offset) (record { phoff = 112; phnum = n; shoff = 0; shnum = 1 }) 24 vaddr size entry-size
+abbrev relas_by : ℕ → ℕ → ℕ → ℕ → ℕ → Result Entries ElfParserError
+relas_by offset n vaddr size entry-size = relocations_of (two_relas offset) (record { program_headers = record { offset = 112; count = n }; section_headers = record { offset = 0; count = 1 } }) 24 vaddr size entry-size
 
 -- the address 0 is none, whatever the others are; an entry size other than 24, in 64 bits, a size of 0, an address nowhere, a size that is no multiple of 24, a
 -- place outside the file, and one that is no multiple of 8 are 10; an end past 64 bits, of the table or of a program header on the way, is 5
@@ -188,25 +179,25 @@ relas_located :
     ∷ relas_by 64 0 0x1000 (2 ^ 64 - 64) 24
     ∷ relas_by 64 1 0x1000 48 24
     ∷ []
-    ≡ Slice no_entries
-    ∷ Slice (record { offset = 64; count = 2 })
-    ∷ NoSlice InvalidDynamicSectionTable
-    ∷ NoSlice InvalidDynamicSectionTable
-    ∷ NoSlice InvalidDynamicSectionTable
-    ∷ NoSlice InvalidDynamicSectionTable
-    ∷ NoSlice InvalidDynamicSectionTable
-    ∷ NoSlice InvalidDynamicSectionTable
-    ∷ NoSlice InvalidDynamicSectionTable
-    ∷ NoSlice OutOfBounds
-    ∷ NoSlice OutOfBounds
+    ≡ Ok no_entries
+    ∷ Ok (record { offset = 64; count = 2 })
+    ∷ Err InvalidDynamicSectionTable
+    ∷ Err InvalidDynamicSectionTable
+    ∷ Err InvalidDynamicSectionTable
+    ∷ Err InvalidDynamicSectionTable
+    ∷ Err InvalidDynamicSectionTable
+    ∷ Err InvalidDynamicSectionTable
+    ∷ Err InvalidDynamicSectionTable
+    ∷ Err OutOfBounds
+    ∷ Err OutOfBounds
     ∷ []
-unfolding relocations_of relocations_by relocations_at section_offset or_section first_with over ◌into◌ contains_step sliced program_header section_header le bytes_of ◌if◌else◌
+unfolding relocations_of relocations_by relocations_at first_with header_for_vaddr contains_step sliced program_header section_header le bytes_of ◌if◌else◌
 relas_located = refl
 
 -- by the address, size and entry size of tag 17, then of tag 7, and the addresses of tags 6 and 4
-abbrev links_by : ℕ → ℕ → ℕ → ℕ → ℕ → ℕ → ℕ → ℕ → Linking
+abbrev links_by : ℕ → ℕ → ℕ → ℕ → ℕ → ℕ → ℕ → ℕ → Result Linked ElfParserError
 links_by rel relsz relent rela relasz relaent symtab hash =
-    linked_by (two_relas 64) (record { phoff = 0; phnum = 0; shoff = 0; shnum = 1 })
+    linked_by (two_relas 64) (record { program_headers = record { offset = 0; count = 0 }; section_headers = record { offset = 0; count = 1 } })
     (set (set (set (set (set (set (set (set (replicate 35 0) 17 rel) 18 relsz) 19 relent) 7 rela) 8 relasz) 9 relaent) 6 symtab) 4 hash)
 
 -- the older table is refused before the newer one, and that before the symbols; all three may be one place. The address under tag 4 is kept, wherever it leads
@@ -217,26 +208,26 @@ relas_between :
     ∷ links_by 0 0 0 0x1000 48 24 0x2000 0
     ∷ links_by 0x1000 48 16 0x1000 48 24 0x1000 0x3000
     ∷ []
-    ≡ NoLinks OutOfBounds
-    ∷ NoLinks InvalidDynamicSectionTable
-    ∷ NoLinks OutOfBounds
-    ∷ NoLinks InvalidDynamicSectionTable
-    ∷ Links (record { relocations = record { offset = 64; count = 3 }; relas = record { offset = 64; count = 2 }; symbols = record { offset = 64; count = 2 }; hash_table = 0x3000 })
+    ≡ Err OutOfBounds
+    ∷ Err InvalidDynamicSectionTable
+    ∷ Err OutOfBounds
+    ∷ Err InvalidDynamicSectionTable
+    ∷ Ok (record { relocations = record { offset = 64; count = 3 }; relas = record { offset = 64; count = 2 }; symbols = record { offset = 64; count = 2 }; hash_table = 0x3000 })
     ∷ []
-unfolding linking relocations_of relocations_by relocations_at symbols_of symbols_by symbol_table_in section_offset or_section first_with over ◌into◌ sliced section_header le bytes_of ◌if◌else◌
+unfolding relocations_of relocations_by relocations_at symbols_of symbols_by symbol_table_in first_with header_for_vaddr sliced section_header le bytes_of ◌if◌else◌
 relas_between = refl
 
 -- one by its number: -1 is 2^64 - 1; past the table it is 45, past the file's end 5
 rela_by_number :
-    rela_of (two_relas 64) (record { offset = 64; count = 2 }) 0
-    ∷ rela_of (two_relas 64) (record { offset = 64; count = 2 }) 1
-    ∷ rela_of (two_relas 64) (record { offset = 64; count = 2 }) 2
-    ∷ rela_of (two_relas 64) (record { offset = 152; count = 2 }) 0
+    entry_of 24 rela (two_relas 64) (record { offset = 64; count = 2 }) 0
+    ∷ entry_of 24 rela (two_relas 64) (record { offset = 64; count = 2 }) 1
+    ∷ entry_of 24 rela (two_relas 64) (record { offset = 64; count = 2 }) 2
+    ∷ entry_of 24 rela (two_relas 64) (record { offset = 152; count = 2 }) 0
     ∷ []
-    ≡ WithAddend (record { r_offset = 8; r_info = 10; r_addend = 2 ^ 64 - 1 })
-    ∷ WithAddend (record { r_offset = 16; r_info = 1; r_addend = 7 })
-    ∷ NoRela NoSuchIndex
-    ∷ NoRela OutOfBounds
+    ≡ Ok (record { r_offset = 8; r_info = 10; r_addend = 2 ^ 64 - 1 })
+    ∷ Ok (record { r_offset = 16; r_info = 1; r_addend = 7 })
+    ∷ Err NoSuchIndex
+    ∷ Err OutOfBounds
     ∷ []
 unfolding entry_at rela le bytes_of ◌if◌else◌
 rela_by_number = refl
@@ -249,16 +240,16 @@ mapped_file =
     ++ (replicate 16 0 ++ bytes_of 8 0x1008 ++ bytes_of 8 99 ++ replicate 32 0)
     ++ (replicate 16 0 ++ bytes_of 8 0x2000 ++ bytes_of 8 24 ++ replicate 32 0)
 
-abbrev offset_by : ℕ → ℕ → ℕ → Mapped
+abbrev offset_by : ℕ → ℕ → ℕ → Result (Option ℕ) ElfParserError
 offset_by segments sections vaddr =
     file_offset mapped_file
     (record {
       program_headers = record { offset = 0; count = segments };
       section_headers = record { offset = 56; count = sections };
-      shstrtab = 0;
-      symtab = 0;
-      strtab = 0;
-      dynstr = 0;
+      shstrtab = None;
+      symtab = None;
+      strtab = None;
+      dynstr = None;
       dynamic_relocations = no_entries;
       dynamic_relas = no_entries;
       dynamic_symbols = no_entries;
@@ -269,6 +260,6 @@ offset_by segments sections vaddr =
 -- the last byte of the program header, one further, a section's, one that both have; without the program header; header tables that end past the file
 addresses :
     offset_by 1 2 0x100f ∷ offset_by 1 2 0x1010 ∷ offset_by 1 2 0x2000 ∷ offset_by 1 2 0x1008 ∷ offset_by 0 2 0x1008 ∷ offset_by 4 2 0x2000 ∷ offset_by 1 3 0x2000 ∷ []
-    ≡ Maps 23 ∷ Unmapped ∷ Maps 24 ∷ Maps 16 ∷ Maps 99 ∷ NoMap OutOfBounds ∷ NoMap OutOfBounds ∷ []
-unfolding file_offset section_offset or_section first_with over ◌into◌ contains_step program_header section_header le bytes_of ◌if◌else◌
+    ≡ Ok (Some 23) ∷ Ok None ∷ Ok (Some 24) ∷ Ok (Some 16) ∷ Ok (Some 99) ∷ Err OutOfBounds ∷ Err OutOfBounds ∷ []
+unfolding file_offset first_with header_for_vaddr contains_step program_header section_header le bytes_of ◌if◌else◌
 addresses = refl

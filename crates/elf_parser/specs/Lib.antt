@@ -1,6 +1,7 @@
 pub mod Errors
 pub mod Loops
 pub mod Types
+pub mod Fields
 pub mod FileHeader
 pub mod ProgramHeaders
 pub mod SectionHeaders

@@ -1,25 +1,24 @@
 -- Parts of the file.
-use Rattle.std.specs.Prelude.{ℕ, ◌+◌, ◌≤◌, ◌≡◌, List, [], length, take, drop, leb}
-use Rattle.std.proofs.Common.{arith, le-leb}
+use Rattle.std.specs.Prelude.{ℕ, ◌+◌, ◌≤◌, ◌≡◌, List, [], length, take, drop, leb, Result, Ok, Err}
+use Rattle.std.proofs.Common.{le-leb}
 use Rattle.ebpf.specs.Choice.{◌if◌else◌}
 use Rattle.elf_parser.specs.declared.error.ElfParserError.{ElfParserError}
 use Rattle.elf_parser.specs.declared.parts.Place.{Place}
-use Rattle.elf_parser.specs.declared.parts.Place.TheVariants.{At, Refused}
+
+-- a place that was found
+abbrev pub stands : ℕ → ℕ → Result Place ElfParserError
+stands start n = Ok (record { start = start; length = n })
 
 -- the n bytes from `start` on, where they lie in the list
 unfoldable pub bytes_at : List ℕ → ℕ → ℕ → List ℕ
 bytes_at s start n = take n (drop start s) if leb (start + n) (length s) else []
 
 -- the bytes at a place, none where it is refused
-abbrev pub part_of : List ℕ → Place → List ℕ
-part_of s (At start n) = bytes_at s start n
-part_of s (Refused r) = []
+abbrev pub part_of : List ℕ → Result Place ElfParserError → List ℕ
+part_of s (Ok p) = bytes_at s p.start p.length
+part_of s (Err r) = []
 
 -- ---- laws
-
--- a refusal is no place
-pub no_place : (r : ElfParserError) (start n : ℕ) → Refused r ≡ At start n → ⊥
-no_place r start n e = let z : ◌≡◌ {A = ℕ} 0 1 = cc in omega arith
 
 -- a part that lies in the list
 pub part_within : (s : List ℕ) (start n : ℕ) → start + n ≤ length s → bytes_at s start n ≡ take n (drop start s)

@@ -1,60 +1,65 @@
 -- The program headers: PT_LOAD's checks, and the header that contains an address.
-use Rattle.std.specs.Prelude.{ℕ, ◌+◌, ◌-◌, not, List, length, ltb, leb, eqb}
+use Rattle.std.proofs.Common.{arith}
+use Rattle.std.specs.Prelude.{ℕ, ◌*◌, ◌≤◌, ◌<◌, ◌≡◌, zero, suc, ◌+◌, ◌-◌, not, List, length, ltb, leb, eqb, Option, Some, None, Result, Ok, Err}
 use Rattle.ebpf.specs.Choice.{◌if◌else◌, past_word}
 use Rattle.elf_parser.specs.declared.error.ElfParserError.{ElfParserError}
 use Rattle.elf_parser.specs.declared.error.ElfParserError.TheVariants.{OutOfBounds, InvalidProgramHeader}
-use Rattle.elf_parser.specs.declared.error.Check.{Check}
-use Rattle.elf_parser.specs.declared.error.Check.TheVariants.{Pass, Refused}
 use Rattle.elf_parser.specs.declared.types.Elf64Phdr.{Elf64Phdr}
-use Rattle.elf_parser.specs.declared.program_headers.Step.{Step}
-use Rattle.elf_parser.specs.declared.program_headers.Step.TheVariants.{Next, Refused as Stop}
-use Rattle.elf_parser.specs.declared.program_headers.Mapped.{Mapped}
-use Rattle.elf_parser.specs.declared.program_headers.Mapped.TheVariants.{At, Nothing, Refused as NoMap}
-use Rattle.elf_parser.specs.Loops.{Turn, goes, ends, over}
+use Rattle.elf_parser.specs.Errors.{Check, and_then}
+use Rattle.elf_parser.specs.Loops.{over, less_one, one_further}
 use Rattle.elf_parser.specs.Types.{program_header, PT_LOAD}
 
--- a check as one turn of a loop, and a loop of checks as one check
-abbrev pub turn_of : Step → Turn ElfParserError ℕ
-turn_of (Next n) = goes n
-turn_of (Stop r) = ends r
-
-abbrev pub check_of : Turn ElfParserError ℕ → Check
-check_of (goes n) = Pass
-check_of (ends r) = Refused r
+-- a loop of checks as one check: what the last of them leaves is not asked for
+abbrev pub check_of : {A : Type 0} → Result A ElfParserError → Check
+check_of a = and_then a (λ x. Ok tt)
 
 -- one program header: other types are passed over. Addresses ascend, and the contents lie in the file
-unfoldable pub load_step : List ℕ → ℕ → ℕ → Step
-load_step s at low =
-    let h : Elf64Phdr = program_header s at in
-    Next low if not (eqb h.p_type PT_LOAD) else
-    Stop InvalidProgramHeader if ltb h.p_vaddr low else
-    Stop OutOfBounds if past_word (h.p_offset + h.p_filesz) else
-    Stop OutOfBounds if ltb (length s) (h.p_offset + h.p_filesz) else
-    Next h.p_vaddr
+unfoldable pub load_step : ℕ → Elf64Phdr → ℕ → Result ℕ ElfParserError
+load_step len h low =
+    Ok low if not (eqb h.p_type PT_LOAD) else
+    Err InvalidProgramHeader if ltb h.p_vaddr low else
+    Err OutOfBounds if past_word (h.p_offset + h.p_filesz) else
+    Err OutOfBounds if ltb len (h.p_offset + h.p_filesz) else
+    Ok h.p_vaddr
 
 -- n program headers from `at` on
 abbrev pub loads_check : List ℕ → ℕ → ℕ → Check
-loads_check s n at = check_of (over (λ p low. turn_of (load_step s p low)) 56 n at 0)
+loads_check s n at = check_of (over (λ p low. load_step (length s) (program_header s p) low) 56 n at 0)
 
--- whether the header at `at` contains an address, and where it then stands in the file
-unfoldable pub contains_step : List ℕ → ℕ → ℕ → Mapped
-contains_step s vaddr at =
-    let h : Elf64Phdr = program_header s at in
-    NoMap OutOfBounds if past_word (h.p_vaddr + h.p_memsz) else
-    Nothing if ltb vaddr h.p_vaddr else
-    Nothing if leb (h.p_vaddr + h.p_memsz) vaddr else
-    NoMap OutOfBounds if past_word (vaddr - h.p_vaddr + h.p_offset) else
-    At (vaddr - h.p_vaddr + h.p_offset)
+-- whether a header contains an address, and where it then stands in the file
+unfoldable pub contains_step : ℕ → Elf64Phdr → Result (Option ℕ) ElfParserError
+contains_step vaddr h =
+    Err OutOfBounds if past_word (h.p_vaddr + h.p_memsz) else
+    Ok None if ltb vaddr h.p_vaddr else
+    Ok None if leb (h.p_vaddr + h.p_memsz) vaddr else
+    Err OutOfBounds if past_word (vaddr - h.p_vaddr + h.p_offset) else
+    Ok (Some (vaddr - h.p_vaddr + h.p_offset))
 
-abbrev pub mapped_turn : Mapped → Turn Mapped ℕ
-mapped_turn (At offset) = ends (At offset)
-mapped_turn Nothing = goes 0
-mapped_turn (NoMap r) = ends (NoMap r)
-
-abbrev pub mapped_by : Turn Mapped ℕ → Mapped
-mapped_by (goes n) = Nothing
-mapped_by (ends m) = m
+-- what was found or refused, and where nothing was found what comes next
+abbrev pub or_next : {A : Type 0} → Result (Option A) ElfParserError → Result (Option A) ElfParserError → Result (Option A) ElfParserError
+or_next (Ok (Some x)) next = Ok (Some x)
+or_next (Ok None) next = next
+or_next (Err r) next = Err r
 
 -- the first of n program headers from `at` on that contains the address, or a refusal on the way
-abbrev pub header_for_vaddr : List ℕ → ℕ → ℕ → ℕ → Mapped
-header_for_vaddr s vaddr n at = mapped_by (over (λ p x. mapped_turn (contains_step s vaddr p)) 56 n at 0)
+unfoldable pub header_for_vaddr : List ℕ → ℕ → ℕ → ℕ → Result (Option ℕ) ElfParserError
+header_for_vaddr s vaddr zero at = Ok None
+header_for_vaddr s vaddr (suc n) at = or_next (contains_step vaddr (program_header s at)) (header_for_vaddr s vaddr n (at + 56))
+
+-- ---- laws
+
+-- the headers from number i on, as a loop over them meets them
+module _ (s : List ℕ) (vaddr count from : ℕ) where
+  abbrev pub found_from : ℕ → Result (Option ℕ) ElfParserError
+  found_from i = header_for_vaddr s vaddr (count - i) (from + 56 * i)
+
+  pub found_all : header_for_vaddr s vaddr count from ≡ found_from 0
+  found_all = let a : count - 0 ≡ count = omega arith in let b : from + 56 * 0 ≡ from = omega arith in rw (a, b)
+
+  pub found_is : (i : ℕ) → i < count → found_from i ≡ or_next (contains_step vaddr (program_header s (from + 56 * i))) (found_from (i + 1))
+  unfolding header_for_vaddr
+  found_is i h = rw (less_one count i h, one_further from 56 i)
+
+  pub found_end : (i : ℕ) → count ≤ i → found_from i ≡ Ok None
+  unfolding header_for_vaddr
+  found_end i h = let a : count - i ≡ 0 = omega arith in rw a

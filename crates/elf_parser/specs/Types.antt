@@ -7,6 +7,7 @@ use Rattle.elf_parser.specs.declared.types.Elf64Shdr.{Elf64Shdr}
 use Rattle.elf_parser.specs.declared.types.Elf64Sym.{Elf64Sym}
 use Rattle.elf_parser.specs.declared.types.Elf64Rel.{Elf64Rel}
 use Rattle.elf_parser.specs.declared.types.Elf64Rela.{Elf64Rela}
+use Rattle.elf_parser.specs.declared.types.Elf64Dyn.{Elf64Dyn}
 
 -- Elf64_Ehdr, 64 bytes at the front of the file
 abbrev pub ei_mag : List ℕ → ℕ
@@ -114,11 +115,8 @@ unfoldable pub rela : List ℕ → ℕ → Elf64Rela
 rela s at = record { r_offset = le 8 s at; r_info = le 8 s (at + 8); r_addend = le 8 s (at + 16) }
 
 -- Elf64_Dyn, 16 bytes
-abbrev pub d_tag : List ℕ → ℕ → ℕ
-d_tag s at = le 8 s at
-
-abbrev pub d_val : List ℕ → ℕ → ℕ
-d_val s at = le 8 s (at + 8)
+unfoldable pub dynamic : List ℕ → ℕ → Elf64Dyn
+dynamic s at = record { d_tag = le 8 s at; d_val = le 8 s (at + 8) }
 
 -- the gABI's numbers
 abbrev pub PT_LOAD : ℕ

@@ -1,6 +1,6 @@
 // The dynamic table: where it stands, its 35 values, and what they lead to.
-ghost use Rattle.std.specs.Prelude.{◌≡◌, ◌+◌, ◌*◌, ◌≤◌, ◌<◌, ltb, length};
-ghost use Rattle.elf_parser.specs.Dynamic.{field, first_with, Inside, from_segment, from_section, dynamic_table, with_tag, dynamic_values, relocation_offset, file_offset, relocations_at, relocations_of, symbols_of, linked_by, dynamic_of};
+ghost use Rattle.std.specs.Prelude.{◌≡◌, Bool, ◌+◌, ◌*◌, ◌≤◌, ◌<◌, ltb, length};
+ghost use Rattle.elf_parser.specs.Dynamic.{first_with, Inside, from_segment, from_section, dynamic_table, with_tag, dynamic_values, relocation_offset, file_offset, relocations_at, relocations_of, symbols_of, linked_by, dynamic_of};
 
 use crate::consts::{
     DT_HASH, DT_NULL, DT_NUM, DT_REL, DT_RELA, DT_RELAENT, DT_RELASZ, DT_RELENT, DT_RELSZ,
@@ -8,25 +8,15 @@ use crate::consts::{
 };
 use crate::error::ElfParserError;
 use crate::layout::Layout;
-use crate::program_headers::{Mapped, header_for_vaddr};
-use crate::records::{Entries, Sliced, slice_from_bytes, symbol_table_in};
-use crate::types::{phdr_at, shdr_at};
-use ebpf::little_endian::{read_u32, read_u64};
+use crate::program_headers::header_for_vaddr;
+use crate::records::{Entries, NO_ENTRIES, slice_from_bytes, symbol_table_in};
+use crate::types::{Elf64Dyn, Elf64Phdr, Elf64Shdr, Record, nth_record};
 
-// Where the header tables stand: offsets and counts, as the file header has them.
+// The two header tables.
 #[derive(Clone, Copy)]
 pub struct Tables {
-    pub phoff: usize,
-    pub phnum: u64,
-    pub shoff: usize,
-    pub shnum: u64,
-}
-
-// The first entry of a header table with some field.
-#[derive(Clone, Copy)]
-pub enum Found {
-    At(usize),
-    Nothing,
+    pub program_headers: Entries,
+    pub section_headers: Entries,
 }
 
 // What the dynamic table leads to: the relocations, those that bring an addend, and the symbols; and the
@@ -39,147 +29,109 @@ pub struct Linked {
     pub hash_table: u64,
 }
 
-#[derive(Clone, Copy)]
-pub enum Linking {
-    Found(Linked),
-    Refused(ElfParserError),
-}
-
-// A field of 8 or 4 bytes.
-fn field_at(file: &[u8], at: usize, wide: bool) -> u64
-    ensures { result ≡ field wide file.now at }
+// The first record of a table that passes a test.
+#[tactic(auto, using(crate::specs::Dynamic::later_here, crate::specs::Dynamic::later_next, crate::specs::Dynamic::later_end))]
+fn first_with<T: Record, F: Fn(T) -> bool>(file: &[u8], table: Entries, test: F) -> Option<T>
+    ghost passes: { T → Bool }
+    requires inside { table.offset + T.SIZE * table.count ≤ length file.now }
+    requires callable { F.IsAlwaysCallable test }
+    requires tests { (x : T) (r : Bool) → F.post test x r → r ≡ passes x }
+    ensures { result ≡ first_with passes (T.at file.now) T.SIZE table.count table.offset }
 {
-    if wide {
-        return read_u64(file, at);
-    }
-    read_u32(file, at) as u64
-}
-
-// The first of `count` entries of `width` bytes, from `from` on, whose field at `offset` is `value`.
-fn first_with(
-    file: &[u8],
-    from: usize,
-    count: u64,
-    width: usize,
-    offset: usize,
-    wide: bool,
-    value: u64,
-) -> Found
-    requires { (from + width * count ≤ length file.now) × (offset ≤ width) }
-    ensures { result ≡ first_with file.now width offset wide value count from }
-{
-    let mut left = count;
-    let mut at = from;
-    while 0 < left {
-        if field_at(file, at + offset, wide) == value {
-            return Found::At(at);
+    for i in 0..table.count {
+        let record = nth_record(file, table, i);
+        if test(record) {
+            return Some(record);
         }
-        at += width;
-        left -= 1;
     }
-    Found::Nothing
+    None
 }
 
 // The dynamic table by the first PT_DYNAMIC header; refused where there is none or it is unreadable.
-fn table_by_segment(file: &[u8], t: Tables) -> Sliced
+#[tactic(auto, using(ebpf::specs::Choice::choices), unfolding(crate::specs::Dynamic::segment_slice))]
+fn table_by_segment(file: &[u8], t: Tables) -> Result<Entries, ElfParserError>
     requires { Inside (length file.now) t }
     ensures { result ≡ from_segment file.now t }
 {
-    let phoff = t.phoff;
-    let phnum = t.phnum;
-    match first_with(file, phoff, phnum, 56, 0, false, PT_DYNAMIC as u64) {
-        Found::Nothing => Sliced::Refused(ElfParserError::InvalidDynamicSectionTable),
-        Found::At(at) => {
-            let h = phdr_at(file, at);
-            slice_from_bytes(file.len() as u64, h.p_offset, h.p_filesz, 16)
-        }
+    match first_with(
+        file,
+        t.program_headers,
+        |h: Elf64Phdr| h.p_type == PT_DYNAMIC,
+    ) {
+        None => Err(ElfParserError::InvalidDynamicSectionTable),
+        Some(h) => slice_from_bytes(file.len() as u64, h.p_offset, h.p_filesz, 16),
     }
 }
 
 // The dynamic table by the first SHT_DYNAMIC header: no entries where there is none.
-fn table_by_section(file: &[u8], t: Tables) -> Sliced
+#[tactic(auto, using(ebpf::specs::Choice::choices), unfolding(crate::specs::Dynamic::section_slice))]
+fn table_by_section(file: &[u8], t: Tables) -> Result<Entries, ElfParserError>
     requires { Inside (length file.now) t }
     ensures { result ≡ from_section file.now t }
 {
-    let shoff = t.shoff;
-    let shnum = t.shnum;
-    match first_with(file, shoff, shnum, 64, 4, false, SHT_DYNAMIC as u64) {
-        Found::Nothing => Sliced::At(Entries {
-            offset: 0,
-            count: 0,
-        }),
-        Found::At(at) => {
-            let h = shdr_at(file, at);
-            match slice_from_bytes(file.len() as u64, h.sh_offset, h.sh_size, 16) {
-                Sliced::At(e) => Sliced::At(e),
-                Sliced::Refused(_) => Sliced::Refused(ElfParserError::InvalidDynamicSectionTable),
-            }
-        }
+    match first_with(
+        file,
+        t.section_headers,
+        |h: Elf64Shdr| h.sh_type == SHT_DYNAMIC,
+    ) {
+        None => Ok(NO_ENTRIES),
+        Some(h) => match slice_from_bytes(file.len() as u64, h.sh_offset, h.sh_size, 16) {
+            Ok(entries) => Ok(entries),
+            Err(_) => Err(ElfParserError::InvalidDynamicSectionTable),
+        },
     }
 }
 
-fn dynamic_table(file: &[u8], t: Tables) -> Sliced
+#[tactic(auto, using(ebpf::specs::Choice::choices), unfolding(crate::specs::Dynamic::or_else))]
+fn dynamic_table(file: &[u8], t: Tables) -> Result<Entries, ElfParserError>
     requires { Inside (length file.now) t }
     ensures { result ≡ dynamic_table file.now t }
 {
     match table_by_segment(file, t) {
-        Sliced::At(e) => Sliced::At(e),
-        Sliced::Refused(_) => table_by_section(file, t),
+        Ok(entries) => Ok(entries),
+        Err(_) => table_by_section(file, t),
     }
 }
 
-// The values with that of one tag set; a tag of DT_NUM or more is skipped.
-fn with_tag(values: [u64; 35], d_tag: u64, d_val: u64) -> [u64; 35]
-    ensures { result ≡ with_tag values d_tag d_val }
+// Sets the value of a tag; a tag of DT_NUM or more is skipped.
+#[tactic(auto, using(ebpf::specs::Choice::choices), unfolding(crate::specs::Dynamic::with_tag))]
+fn set_tag(values: &mut [u64; DT_NUM], d: Elf64Dyn)
+    ensures { values.new ≡ with_tag values.old d.d_tag d.d_val }
 {
-    if d_tag < DT_NUM as u64 {
-        let mut next = values;
-        let i = d_tag as usize;
-        next[i] = d_val;
-        return next;
+    if d.d_tag < DT_NUM as u64 {
+        values[d.d_tag as usize] = d.d_val;
     }
-    values
 }
 
-// The values of `count` entries from `from` on, up to the first DT_NULL.
-fn dynamic_values(file: &[u8], from: usize, count: u64) -> [u64; 35]
-    requires { from + 16 * count ≤ length file.now }
-    ensures { result ≡ dynamic_values file.now count from }
+// The values of a table's entries, up to the first DT_NULL.
+#[tactic(auto, using(crate::specs::Dynamic::values_stop, crate::specs::Dynamic::values_next, crate::specs::Dynamic::values_end))]
+fn dynamic_values(file: &[u8], table: Entries) -> [u64; DT_NUM]
+    requires { table.offset + 16 * table.count ≤ length file.now }
+    ensures { result ≡ dynamic_values file.now table.count table.offset }
 {
-    let mut values = [0u64; 35];
-    let mut left = count;
-    let mut at = from;
-    while 0 < left {
-        let d_tag = read_u64(file, at);
-        if d_tag == DT_NULL {
+    let mut values = [0; DT_NUM];
+    for i in 0..table.count {
+        let d: Elf64Dyn = nth_record(file, table, i);
+        if d.d_tag == DT_NULL {
             return values;
         }
-        let d_val = read_u64(file, at + 8);
-        let next = with_tag(values, d_tag, d_val);
-        values = next;
-        at += 16;
-        left -= 1;
+        set_tag(&mut values, d);
     }
     values
 }
 
 // Where what has an address starts in the file: by the first program header that contains it, else by
 // the first section header with that address.
-fn relocation_offset(file: &[u8], t: Tables, vaddr: u64) -> Mapped
+fn relocation_offset(file: &[u8], t: Tables, vaddr: u64) -> Result<Option<u64>, ElfParserError>
     requires { Inside (length file.now) t }
     ensures { result ≡ relocation_offset file.now t vaddr }
 {
-    let phoff = t.phoff;
-    let phnum = t.phnum;
-    let shoff = t.shoff;
-    let shnum = t.shnum;
-    match header_for_vaddr(file, phoff, phnum, vaddr) {
-        Mapped::At(offset) => Mapped::At(offset),
-        Mapped::Refused(r) => Mapped::Refused(r),
-        Mapped::Nothing => match first_with(file, shoff, shnum, 64, 16, true, vaddr) {
-            Found::At(at) => Mapped::At(read_u64(file, at + 24)),
-            Found::Nothing => Mapped::Nothing,
-        },
+    if let Some(offset) = header_for_vaddr(file, t.program_headers, vaddr)? {
+        return Ok(Some(offset));
+    }
+    match first_with(file, t.section_headers, |h: Elf64Shdr| h.sh_addr == vaddr) {
+        Some(h) => Ok(Some(h.sh_offset)),
+        None => Ok(None),
     }
 }
 
@@ -196,136 +148,119 @@ fn ends_past(len: u64, table: Entries, width: u64) -> bool
 
 // Where what has an address starts in the file, by a layout. In one that no parse made the header tables
 // may lie outside the file.
-pub fn file_offset(file: &[u8], layout: Layout, vaddr: u64) -> Mapped
+#[tactic(auto, using(ebpf::specs::Choice::choices), unfolding(crate::specs::Dynamic::file_offset))]
+pub fn file_offset(file: &[u8], layout: Layout, vaddr: u64) -> Result<Option<u64>, ElfParserError>
     ensures { result ≡ file_offset file.now layout vaddr }
 {
-    let program_headers = layout.program_headers;
-    let section_headers = layout.section_headers;
-    let len = file.len() as u64;
-    if ends_past(len, program_headers, 56) {
-        return Mapped::Refused(ElfParserError::OutOfBounds);
-    }
-    if ends_past(len, section_headers, 64) {
-        return Mapped::Refused(ElfParserError::OutOfBounds);
-    }
     let t = Tables {
-        phoff: program_headers.offset as usize,
-        phnum: program_headers.count,
-        shoff: section_headers.offset as usize,
-        shnum: section_headers.count,
+        program_headers: layout.program_headers,
+        section_headers: layout.section_headers,
     };
+    let len = file.len() as u64;
+    if ends_past(len, t.program_headers, 56) {
+        return Err(ElfParserError::OutOfBounds);
+    }
+    if ends_past(len, t.section_headers, 64) {
+        return Err(ElfParserError::OutOfBounds);
+    }
     relocation_offset(file, t, vaddr)
 }
 
 // The relocations of `width` bytes each that fill `size` bytes from `offset` on.
-fn relocations_at(len: u64, offset: u64, size: u64, width: u64) -> Sliced
+#[tactic(auto, using(ebpf::specs::Choice::choices), unfolding(crate::specs::Dynamic::relocations_at))]
+fn relocations_at(len: u64, offset: u64, size: u64, width: u64) -> Result<Entries, ElfParserError>
     requires { 0 < width }
     ensures { result ≡ relocations_at len offset size width }
 {
-    if 0xffff_ffff_ffff_ffff - offset < size {
-        return Sliced::Refused(ElfParserError::OutOfBounds);
+    if u64::MAX - offset < size {
+        return Err(ElfParserError::OutOfBounds);
     }
     match slice_from_bytes(len, offset, size, width) {
-        Sliced::At(e) => Sliced::At(e),
-        Sliced::Refused(_) => Sliced::Refused(ElfParserError::InvalidDynamicSectionTable),
+        Ok(entries) => Ok(entries),
+        Err(_) => Err(ElfParserError::InvalidDynamicSectionTable),
     }
 }
 
 // The relocations of one kind, `width` bytes each, by the values of its three tags: address, size and
 // size of an entry. None where the address is 0.
-fn relocations(file: &[u8], t: Tables, width: u64, vaddr: u64, size: u64, entry_size: u64) -> Sliced
+#[tactic(auto, using(ebpf::specs::Choice::choices), unfolding(crate::specs::Dynamic::relocations_of, crate::specs::Dynamic::relocations_by))]
+fn relocations(
+    file: &[u8],
+    t: Tables,
+    width: u64,
+    vaddr: u64,
+    size: u64,
+    entry_size: u64,
+) -> Result<Entries, ElfParserError>
     requires { Inside (length file.now) t × (0 < width) }
     ensures { result ≡ relocations_of file.now t width vaddr size entry_size }
 {
     if vaddr == 0 {
-        return Sliced::At(Entries {
-            offset: 0,
-            count: 0,
-        });
+        return Ok(NO_ENTRIES);
     }
     if entry_size != width {
-        return Sliced::Refused(ElfParserError::InvalidDynamicSectionTable);
+        return Err(ElfParserError::InvalidDynamicSectionTable);
     }
     if size == 0 {
-        return Sliced::Refused(ElfParserError::InvalidDynamicSectionTable);
+        return Err(ElfParserError::InvalidDynamicSectionTable);
     }
-    match relocation_offset(file, t, vaddr) {
-        Mapped::At(offset) => relocations_at(file.len() as u64, offset, size, width),
-        Mapped::Nothing => Sliced::Refused(ElfParserError::InvalidDynamicSectionTable),
-        Mapped::Refused(r) => Sliced::Refused(r),
+    match relocation_offset(file, t, vaddr)? {
+        Some(offset) => relocations_at(file.len() as u64, offset, size, width),
+        None => Err(ElfParserError::InvalidDynamicSectionTable),
     }
 }
 
 // The dynamic symbols by the value of DT_SYMTAB: none where it is 0.
-fn symbols(file: &[u8], t: Tables, vaddr: u64) -> Sliced
+#[tactic(auto, using(ebpf::specs::Choice::choices), unfolding(crate::specs::Dynamic::symbols_of, crate::specs::Dynamic::symbols_by))]
+fn symbols(file: &[u8], t: Tables, vaddr: u64) -> Result<Entries, ElfParserError>
     requires { Inside (length file.now) t }
     ensures { result ≡ symbols_of file.now t vaddr }
 {
     if vaddr == 0 {
-        return Sliced::At(Entries {
-            offset: 0,
-            count: 0,
-        });
+        return Ok(NO_ENTRIES);
     }
-    let shoff = t.shoff;
-    let shnum = t.shnum;
-    match first_with(file, shoff, shnum, 64, 16, true, vaddr) {
-        Found::At(at) => symbol_table_in(file.len() as u64, shdr_at(file, at)),
-        Found::Nothing => Sliced::Refused(ElfParserError::InvalidDynamicSectionTable),
+    match first_with(file, t.section_headers, |h: Elf64Shdr| h.sh_addr == vaddr) {
+        Some(h) => symbol_table_in(file.len() as u64, h),
+        None => Err(ElfParserError::InvalidDynamicSectionTable),
     }
 }
 
 // What the values lead to: each table in turn, up to the first that is refused.
-fn linked_by(file: &[u8], t: Tables, values: &[u64; 35]) -> Linking
+fn linked_by(file: &[u8], t: Tables, values: &[u64; DT_NUM]) -> Result<Linked, ElfParserError>
     requires { Inside (length file.now) t }
     ensures { result ≡ linked_by file.now t values.now }
 {
-    let found = relocations(
+    let relocations_found = relocations(
         file,
         t,
         16,
         values[DT_REL],
         values[DT_RELSZ],
         values[DT_RELENT],
-    );
-    match found {
-        Sliced::Refused(r) => Linking::Refused(r),
-        Sliced::At(e) => {
-            let found = relocations(
-                file,
-                t,
-                24,
-                values[DT_RELA],
-                values[DT_RELASZ],
-                values[DT_RELAENT],
-            );
-            match found {
-                Sliced::Refused(r) => Linking::Refused(r),
-                Sliced::At(a) => match symbols(file, t, values[DT_SYMTAB]) {
-                    Sliced::Refused(r) => Linking::Refused(r),
-                    Sliced::At(s) => Linking::Found(Linked {
-                        relocations: e,
-                        relas: a,
-                        symbols: s,
-                        hash_table: values[DT_HASH],
-                    }),
-                },
-            }
-        }
-    }
+    )?;
+    let relas = relocations(
+        file,
+        t,
+        24,
+        values[DT_RELA],
+        values[DT_RELASZ],
+        values[DT_RELAENT],
+    )?;
+    let symbols = symbols(file, t, values[DT_SYMTAB])?;
+    Ok(Linked {
+        relocations: relocations_found,
+        relas,
+        symbols,
+        hash_table: values[DT_HASH],
+    })
 }
 
-pub(crate) fn parse_dynamic(file: &[u8], t: Tables) -> Linking
+#[tactic(auto, using(crate::specs::Dynamic::table_in_file))]
+pub(crate) fn parse_dynamic(file: &[u8], t: Tables) -> Result<Linked, ElfParserError>
     requires { Inside (length file.now) t }
     ensures { result ≡ dynamic_of file.now t }
 {
-    match dynamic_table(file, t) {
-        Sliced::Refused(r) => Linking::Refused(r),
-        Sliced::At(e) => {
-            let from = e.offset as usize;
-            let count = e.count;
-            let values = dynamic_values(file, from, count);
-            linked_by(file, t, &values)
-        }
-    }
+    let table = dynamic_table(file, t)?;
+    let values = dynamic_values(file, table);
+    linked_by(file, t, &values)
 }

@@ -34,13 +34,6 @@ pub struct Report {
     pub length: u64,
 }
 
-// What a check answers.
-#[derive(Clone, Copy)]
-pub enum Check {
-    Pass,
-    Refused(ElfParserError),
-}
-
 fn plain(number: u32) -> Report
     ensures { result ≡ record { number = number; value = 0; start = 0; length = 0 } }
 {
@@ -63,25 +56,27 @@ fn named(number: u32, start: usize, length: usize) -> Report
     }
 }
 
-pub fn report_of(e: ElfParserError) -> Report
-    ensures { result ≡ report_of e }
-{
-    match e {
-        ElfParserError::InvalidFileHeader => plain(1),
-        ElfParserError::InvalidProgramHeader => plain(2),
-        ElfParserError::InvalidSectionHeader => plain(3),
-        ElfParserError::StringTooLong { start, length } => named(4, start, length),
-        ElfParserError::OutOfBounds => plain(5),
-        ElfParserError::InvalidSize => plain(6),
-        ElfParserError::Overlap => plain(7),
-        ElfParserError::SectionNotInOrder => plain(8),
-        ElfParserError::NoSectionNameStringTable => plain(9),
-        ElfParserError::InvalidDynamicSectionTable => plain(10),
-        ElfParserError::InvalidAlignment => plain(11),
-        ElfParserError::NoStringTable => plain(12),
-        ElfParserError::NoDynamicStringTable => plain(13),
-        ElfParserError::NoSuchIndex => plain(45),
-        ElfParserError::NotASection => plain(46),
-        ElfParserError::StringUnterminated { start, length } => named(49, start, length),
+impl From<ElfParserError> for Report {
+    ghost from_gives = { λ e r. r ≡ report_of e };
+
+    fn from(e: ElfParserError) -> Report {
+        match e {
+            ElfParserError::InvalidFileHeader => plain(1),
+            ElfParserError::InvalidProgramHeader => plain(2),
+            ElfParserError::InvalidSectionHeader => plain(3),
+            ElfParserError::StringTooLong { start, length } => named(4, start, length),
+            ElfParserError::OutOfBounds => plain(5),
+            ElfParserError::InvalidSize => plain(6),
+            ElfParserError::Overlap => plain(7),
+            ElfParserError::SectionNotInOrder => plain(8),
+            ElfParserError::NoSectionNameStringTable => plain(9),
+            ElfParserError::InvalidDynamicSectionTable => plain(10),
+            ElfParserError::InvalidAlignment => plain(11),
+            ElfParserError::NoStringTable => plain(12),
+            ElfParserError::NoDynamicStringTable => plain(13),
+            ElfParserError::NoSuchIndex => plain(45),
+            ElfParserError::NotASection => plain(46),
+            ElfParserError::StringUnterminated { start, length } => named(49, start, length),
+        }
     }
 }

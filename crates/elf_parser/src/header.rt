@@ -2,11 +2,12 @@
 ghost use Rattle.std.specs.Prelude.{◌≡◌};
 ghost use Rattle.elf_parser.specs.FileHeader.{header_right, header_check, tables_check};
 
-use crate::error::{Check, ElfParserError};
+use crate::error::ElfParserError;
 use ebpf::little_endian::{read_u8, read_u16, read_u32};
 
 // Whether the fields of the file header are those of a file that is read here. The tests are
 // joined by & and not by &&: so they make no branches, and the proof has no cases.
+#[tactic(auto, using(ebpf::specs::Choice::choices), unfolding(crate::specs::FileHeader::header_right, crate::specs::FileHeader::header_fixed))]
 fn header_right(file: &[u8]) -> bool
     ensures { result ≡ header_right file.now }
 {
@@ -21,58 +22,60 @@ fn header_right(file: &[u8]) -> bool
         & (read_u16(file, 62) < read_u16(file, 60))
 }
 
-pub(crate) fn check_header(file: &[u8]) -> Check
+#[tactic(auto, using(ebpf::specs::Choice::choices), unfolding(crate::specs::FileHeader::header_check))]
+pub(crate) fn check_header(file: &[u8]) -> Result<(), ElfParserError>
     ensures { result ≡ header_check file.now }
 {
     if file.len() < 64 {
-        return Check::Refused(ElfParserError::OutOfBounds);
+        return Err(ElfParserError::OutOfBounds);
     }
     if !header_right(file) {
-        return Check::Refused(ElfParserError::InvalidFileHeader);
+        return Err(ElfParserError::InvalidFileHeader);
     }
-    Check::Pass
+    Ok(())
 }
 
 // Both header tables, in the order of the Rust.
+#[tactic(auto, using(ebpf::specs::Choice::choices), unfolding(crate::specs::FileHeader::tables_check))]
 pub(crate) fn check_tables(
     len: u64,
     e_phoff: u64,
     e_phnum: u16,
     e_shoff: u64,
     e_shnum: u16,
-) -> Check
+) -> Result<(), ElfParserError>
     ensures { result ≡ tables_check len e_phoff e_phnum e_shoff e_shnum }
 {
     let phsize = (e_phnum as u64) * 56;
-    if 0xffff_ffff_ffff_ffff - e_phoff < phsize {
-        return Check::Refused(ElfParserError::OutOfBounds);
+    if u64::MAX - e_phoff < phsize {
+        return Err(ElfParserError::OutOfBounds);
     }
     let phend = e_phoff + phsize;
     if (e_phoff < 64) & (0 < phend) {
-        return Check::Refused(ElfParserError::Overlap);
+        return Err(ElfParserError::Overlap);
     }
     if len < phend {
-        return Check::Refused(ElfParserError::OutOfBounds);
+        return Err(ElfParserError::OutOfBounds);
     }
     if 0 < e_phoff % 8 {
-        return Check::Refused(ElfParserError::InvalidAlignment);
+        return Err(ElfParserError::InvalidAlignment);
     }
     let shsize = (e_shnum as u64) * 64;
-    if 0xffff_ffff_ffff_ffff - e_shoff < shsize {
-        return Check::Refused(ElfParserError::OutOfBounds);
+    if u64::MAX - e_shoff < shsize {
+        return Err(ElfParserError::OutOfBounds);
     }
     let shend = e_shoff + shsize;
     if (e_shoff < 64) & (0 < shend) {
-        return Check::Refused(ElfParserError::Overlap);
+        return Err(ElfParserError::Overlap);
     }
     if (e_shoff < phend) & (e_phoff < shend) {
-        return Check::Refused(ElfParserError::Overlap);
+        return Err(ElfParserError::Overlap);
     }
     if len < shend {
-        return Check::Refused(ElfParserError::OutOfBounds);
+        return Err(ElfParserError::OutOfBounds);
     }
     if 0 < e_shoff % 8 {
-        return Check::Refused(ElfParserError::InvalidAlignment);
+        return Err(ElfParserError::InvalidAlignment);
     }
-    Check::Pass
+    Ok(())
 }

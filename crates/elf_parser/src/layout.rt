@@ -1,138 +1,129 @@
 // The parse: every check in the order of the Rust, and the layout that it leaves.
 ghost use Rattle.std.specs.Prelude.{◌≡◌, ◌+◌, ◌*◌, length};
-ghost use Rattle.elf_parser.specs.Parse.{Room, file_check, linked_layout, named_layout, parsed};
+ghost use Rattle.elf_parser.specs.Parse.{Room, tables_of, first_check, file_check, linked_layout, named_layout, parsed};
 
 use crate::consts::SHT_NULL;
-use crate::dynamic::{Linking, Tables, parse_dynamic};
-use crate::error::{Check, ElfParserError};
+use crate::dynamic::{Tables, parse_dynamic};
+use crate::error::ElfParserError;
 use crate::header::{check_header, check_tables};
 use crate::program_headers::check_program_headers;
 use crate::records::Entries;
 use crate::section_headers::{Ranges, check_section_headers};
-use crate::section_names::{Named, Naming, find_named};
-use crate::types::{Elf64Ehdr, file_header, shdr_at};
-use ebpf::little_endian::read_u32;
+use crate::section_names::{Named, find_named};
+use crate::types::{Elf64Ehdr, Elf64Shdr, file_header, record_at};
 
 // Where things stand in a file: plain numbers. A section header that was found by name, or is the
-// name table's, is given by its offset in the file, 0 where there is none. The hash table of the dynamic
+// name table's, is given by its offset in the file. The hash table of the dynamic
 // symbols is given by its address, as the dynamic table has it: a parse does not look for it.
 #[derive(Clone, Copy)]
 pub struct Layout {
     pub program_headers: Entries,
     pub section_headers: Entries,
-    pub shstrtab: u64,
-    pub symtab: u64,
-    pub strtab: u64,
-    pub dynstr: u64,
+    pub shstrtab: Option<u64>,
+    pub symtab: Option<u64>,
+    pub strtab: Option<u64>,
+    pub dynstr: Option<u64>,
     pub dynamic_relocations: Entries,
     pub dynamic_relas: Entries,
     pub dynamic_symbols: Entries,
     pub hash_table: u64,
 }
 
-#[derive(Clone, Copy)]
-pub enum Parsed {
-    File(Layout),
-    Refused(ElfParserError),
+// The two header tables, as the file header has them.
+fn header_tables(h: Elf64Ehdr) -> Tables
+    ensures { result ≡ tables_of h }
+{
+    Tables {
+        program_headers: Entries {
+            offset: h.e_phoff,
+            count: h.e_phnum as u64,
+        },
+        section_headers: Entries {
+            offset: h.e_shoff,
+            count: h.e_shnum as u64,
+        },
+    }
+}
+
+// The first section header is of type SHT_NULL.
+#[tactic(auto, using(ebpf::specs::Choice::choices), unfolding(crate::specs::Parse::first_check))]
+fn check_first(first: Elf64Shdr) -> Result<(), ElfParserError>
+    ensures { result ≡ first_check first }
+{
+    if first.sh_type != SHT_NULL {
+        return Err(ElfParserError::InvalidSectionHeader);
+    }
+    Ok(())
 }
 
 // The checks of headers and sections.
-fn check_file(file: &[u8]) -> Check
+#[tactic(auto, using(crate::specs::FileHeader::tables_within, crate::specs::Parse::some_section), unfolding(crate::specs::Parse::file_check))]
+fn check_file(file: &[u8]) -> Result<(), ElfParserError>
     ensures { result ≡ file_check file.now }
 {
-    if let Check::Refused(r) = check_header(file) {
-        return Check::Refused(r);
-    }
+    check_header(file)?;
     let h = file_header(file);
     let e_phoff = h.e_phoff;
     let e_phnum = h.e_phnum;
     let e_shoff = h.e_shoff;
     let e_shnum = h.e_shnum;
-    if let Check::Refused(r) = check_tables(file.len() as u64, e_phoff, e_phnum, e_shoff, e_shnum) {
-        return Check::Refused(r);
-    }
-    let from = e_shoff as usize;
-    if read_u32(file, from + 4) != SHT_NULL {
-        return Check::Refused(ElfParserError::InvalidSectionHeader);
-    }
-    if let Check::Refused(r) = check_program_headers(file, e_phoff as usize, e_phnum as u64) {
-        return Check::Refused(r);
-    }
+    check_tables(file.len() as u64, e_phoff, e_phnum, e_shoff, e_shnum)?;
+    let tables = header_tables(h);
+    check_first(record_at(file, e_shoff as usize))?;
+    check_program_headers(file, tables.program_headers)?;
     let t = Ranges {
         phoff: e_phoff,
         phend: e_phoff + e_phnum as u64 * 56,
         shoff: e_shoff,
         shend: e_shoff + e_shnum as u64 * 64,
     };
-    check_section_headers(file, from, e_shnum as u64, t)
+    check_section_headers(file, tables.section_headers, t)
 }
 
 // With the named sections found, the dynamic part.
-fn linked_layout(file: &[u8], h: Elf64Ehdr, names: u64, n: Named) -> Parsed
+fn linked_layout(file: &[u8], h: Elf64Ehdr, names: u64, n: Named) -> Result<Layout, ElfParserError>
     requires { Room (length file.now) h }
     ensures { result ≡ linked_layout file.now h names n }
 {
-    let t = Tables {
-        phoff: h.e_phoff as usize,
-        phnum: h.e_phnum as u64,
-        shoff: h.e_shoff as usize,
-        shnum: h.e_shnum as u64,
-    };
-    match parse_dynamic(file, t) {
-        Linking::Refused(r) => Parsed::Refused(r),
-        Linking::Found(d) => {
-            let relocations = d.relocations;
-            let relas = d.relas;
-            let symbols = d.symbols;
-            let program_headers = Entries {
-                offset: h.e_phoff,
-                count: h.e_phnum as u64,
-            };
-            let section_headers = Entries {
-                offset: h.e_shoff,
-                count: h.e_shnum as u64,
-            };
-            Parsed::File(Layout {
-                program_headers,
-                section_headers,
-                shstrtab: names,
-                symtab: n.symtab as u64,
-                strtab: n.strtab as u64,
-                dynstr: n.dynstr as u64,
-                dynamic_relocations: relocations,
-                dynamic_relas: relas,
-                dynamic_symbols: symbols,
-                hash_table: d.hash_table,
-            })
-        }
-    }
+    let tables = header_tables(h);
+    let d = parse_dynamic(file, tables)?;
+    Ok(Layout {
+        program_headers: tables.program_headers,
+        section_headers: tables.section_headers,
+        shstrtab: Some(names),
+        symtab: n.symtab,
+        strtab: n.strtab,
+        dynstr: n.dynstr,
+        dynamic_relocations: d.relocations,
+        dynamic_relas: d.relas,
+        dynamic_symbols: d.symbols,
+        hash_table: d.hash_table,
+    })
 }
 
 // With headers and sections checked, the names and the dynamic part.
-fn named_layout(file: &[u8], h: Elf64Ehdr) -> Parsed
+#[tactic(auto, using(ebpf::specs::Choice::choices), unfolding(crate::specs::Parse::named_layout))]
+fn named_layout(file: &[u8], h: Elf64Ehdr) -> Result<Layout, ElfParserError>
     requires { Room (length file.now) h }
     ensures { result ≡ named_layout file.now h }
 {
     if h.e_shstrndx == 0 {
-        return Parsed::Refused(ElfParserError::NoSectionNameStringTable);
+        return Err(ElfParserError::NoSectionNameStringTable);
     }
     let names = h.e_shoff + h.e_shstrndx as u64 * 64;
-    match find_named(
+    let tables = header_tables(h);
+    let n = find_named(
         file,
-        shdr_at(file, names as usize),
-        h.e_shoff as usize,
-        h.e_shnum as u64,
-    ) {
-        Naming::Refused(r) => Parsed::Refused(r),
-        Naming::Found(n) => linked_layout(file, h, names, n),
-    }
+        record_at(file, names as usize),
+        tables.section_headers,
+    )?;
+    linked_layout(file, h, names, n)
 }
 
-pub fn parse(file: &[u8]) -> Parsed
+#[tactic(auto, using(crate::specs::Parse::room), unfolding(crate::specs::Parse::parsed))]
+pub fn parse(file: &[u8]) -> Result<Layout, ElfParserError>
     ensures { result ≡ parsed file.now }
 {
-    match check_file(file) {
-        Check::Refused(r) => Parsed::Refused(r),
-        Check::Pass => named_layout(file, file_header(file)),
-    }
+    check_file(file)?;
+    named_layout(file, file_header(file))
 }

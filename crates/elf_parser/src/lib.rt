@@ -16,19 +16,13 @@ mod strings;
 pub mod types;
 
 pub use dynamic::file_offset;
-pub use error::{Check, ElfParserError, Report, report_of};
-pub use layout::{Layout, Parsed, parse};
-pub use names::{
-    dynamic_symbol_name, dynamic_symbol_name_part, section_name, section_name_part, symbol_name,
-    symbol_name_part,
-};
-pub use parts::{Place, part_of, past};
-pub use program_headers::Mapped;
+pub use error::{ElfParserError, Report};
+pub use layout::{Layout, parse};
+pub use names::{dynamic_symbol_name, section_name, symbol_name};
+pub use parts::{Place, bytes_at, part_of, past};
 pub use records::{
-    Entries, Phdr, Rel, Rela, Shdr, Sliced, Sym, dynamic_rela, dynamic_relocation, dynamic_symbol,
-    file_range, program_header, section_contents, section_header, section_place, symbol,
-    symbol_table,
+    Entries, dynamic_rela, dynamic_relocation, dynamic_symbol, entry, file_range, program_header,
+    section_contents, section_header, section_place, symbol_table,
 };
-pub use section_names::same_bytes;
 pub use strings::get_string_in_section;
 pub use types::file_header;

@@ -4,9 +4,9 @@ ghost use Rattle.std.specs.Prelude.{◌≡◌, ◌+◌, ◌*◌, ◌≤◌, leng
 ghost use Rattle.elf_parser.specs.SectionHeaders.{section_check, section_step, sections_check};
 
 use crate::consts::SHT_NOBITS;
-use crate::error::{Check, ElfParserError};
-use crate::program_headers::Step;
-use crate::types::shdr_at;
+use crate::error::ElfParserError;
+use crate::records::Entries;
+use crate::types::{Elf64Shdr, nth_record};
 
 // Where the two header tables stand.
 #[derive(Clone, Copy)]
@@ -18,64 +18,62 @@ pub struct Ranges {
 }
 
 // The checks of one section, by its place; `low` is where the last section before it ends.
-fn check_section(len: u64, low: u64, t: Ranges, sh_offset: u64, sh_size: u64) -> Check
+#[tactic(auto, using(ebpf::specs::Choice::choices), unfolding(crate::specs::SectionHeaders::section_check))]
+fn check_section(
+    len: u64,
+    low: u64,
+    t: Ranges,
+    sh_offset: u64,
+    sh_size: u64,
+) -> Result<(), ElfParserError>
     ensures { result ≡ section_check len low t sh_offset sh_size }
 {
-    if 0xffff_ffff_ffff_ffff - sh_offset < sh_size {
-        return Check::Refused(ElfParserError::OutOfBounds);
+    if u64::MAX - sh_offset < sh_size {
+        return Err(ElfParserError::OutOfBounds);
     }
     let end = sh_offset + sh_size;
     if (0 < end) & (sh_offset < 64) {
-        return Check::Refused(ElfParserError::Overlap);
+        return Err(ElfParserError::Overlap);
     }
     if (t.phoff < end) & (sh_offset < t.phend) {
-        return Check::Refused(ElfParserError::Overlap);
+        return Err(ElfParserError::Overlap);
     }
     if (t.shoff < end) & (sh_offset < t.shend) {
-        return Check::Refused(ElfParserError::Overlap);
+        return Err(ElfParserError::Overlap);
     }
     if sh_offset < low {
-        return Check::Refused(ElfParserError::SectionNotInOrder);
+        return Err(ElfParserError::SectionNotInOrder);
     }
     if len < end {
-        return Check::Refused(ElfParserError::OutOfBounds);
+        return Err(ElfParserError::OutOfBounds);
     }
-    Check::Pass
+    Ok(())
 }
 
-fn section_step(file: &[u8], at: usize, low: u64, t: Ranges) -> Step
-    requires { at + 64 ≤ length file.now }
-    ensures { result ≡ section_step file.now t at low }
+// What it answers is where the next section may begin.
+#[tactic(auto, using(ebpf::specs::Choice::choices, crate::specs::SectionHeaders::section_within), unfolding(crate::specs::SectionHeaders::section_step))]
+fn section_step(len: u64, h: Elf64Shdr, low: u64, t: Ranges) -> Result<u64, ElfParserError>
+    ensures { result ≡ section_step len t h low }
 {
-    let h = shdr_at(file, at);
     if h.sh_type == SHT_NOBITS {
-        return Step::Next(low);
+        return Ok(low);
     }
-    match check_section(file.len() as u64, low, t, h.sh_offset, h.sh_size) {
-        Check::Pass => Step::Next(h.sh_offset + h.sh_size),
-        Check::Refused(r) => Step::Refused(r),
-    }
+    check_section(len, low, t, h.sh_offset, h.sh_size)?;
+    Ok(h.sh_offset + h.sh_size)
 }
 
-// All section headers: `count` of them from `from` on.
-pub(crate) fn check_section_headers(file: &[u8], from: usize, count: u64, t: Ranges) -> Check
-    requires { from + 64 * count ≤ length file.now }
-    ensures { result ≡ sections_check file.now t count from }
+// All section headers.
+pub(crate) fn check_section_headers(
+    file: &[u8],
+    table: Entries,
+    t: Ranges,
+) -> Result<(), ElfParserError>
+    requires { table.offset + 64 * table.count ≤ length file.now }
+    ensures { result ≡ sections_check file.now t table.count table.offset }
 {
-    let mut left = count;
-    let mut at = from;
-    let mut low: u64 = 0;
-    while 0 < left {
-        match section_step(file, at, low, t) {
-            Step::Next(next) => {
-                low = next;
-            }
-            Step::Refused(r) => {
-                return Check::Refused(r);
-            }
-        }
-        at += 64;
-        left -= 1;
+    let mut low = 0;
+    for i in 0..table.count {
+        low = section_step(file.len() as u64, nth_record(file, table, i), low, t)?;
     }
-    Check::Pass
+    Ok(())
 }

@@ -1,14 +1,15 @@
 // Names: bytes of a string table up to a zero byte, which has to stand within a limit and within
 // the table.
-ghost use Rattle.std.specs.Prelude.{◌≡◌, ◌-◌, ◌≤◌, length};
-ghost use Rattle.elf_parser.specs.Strings.{before_zero, string_check, no_zero, string_in};
+ghost use Rattle.std.specs.Prelude.{◌≡◌, ◌-◌, ◌≤◌, ◌==◌, length, position};
+ghost use Rattle.elf_parser.specs.Strings.{string_check, no_zero, terminated, string_in};
 
 use crate::consts::SHT_STRTAB;
-use crate::error::{Check, ElfParserError};
-use crate::parts::{Place, lesser};
+use crate::error::ElfParserError;
+use crate::parts::Place;
 use crate::types::Elf64Shdr;
 
 // The checks before a name is looked for: the sums of the Rust, and the range that is searched.
+#[tactic(auto, using(ebpf::specs::Choice::choices), unfolding(crate::specs::Strings::string_check))]
 fn check_string(
     len: u64,
     sh_type: u32,
@@ -16,49 +17,34 @@ fn check_string(
     sh_size: u64,
     offset: u32,
     most: u32,
-) -> Check
+) -> Result<(), ElfParserError>
     ensures { result ≡ string_check len sh_type sh_offset sh_size offset most }
 {
     if sh_type != SHT_STRTAB {
-        return Check::Refused(ElfParserError::InvalidSectionHeader);
+        return Err(ElfParserError::InvalidSectionHeader);
     }
-    if 0xffff_ffff_ffff_ffff - sh_offset < offset as u64 {
-        return Check::Refused(ElfParserError::OutOfBounds);
+    if u64::MAX - sh_offset < offset as u64 {
+        return Err(ElfParserError::OutOfBounds);
     }
-    if 0xffff_ffff_ffff_ffff - sh_offset < sh_size {
-        return Check::Refused(ElfParserError::OutOfBounds);
+    if u64::MAX - sh_offset < sh_size {
+        return Err(ElfParserError::OutOfBounds);
     }
     let start = sh_offset + offset as u64;
-    if 0xffff_ffff_ffff_ffff - start < most as u64 {
-        return Check::Refused(ElfParserError::OutOfBounds);
+    if u64::MAX - start < most as u64 {
+        return Err(ElfParserError::OutOfBounds);
     }
-    let end = lesser(sh_offset + sh_size, start + most as u64);
+    let end = (sh_offset + sh_size).min(start + most as u64);
     if end < start {
-        return Check::Refused(ElfParserError::OutOfBounds);
+        return Err(ElfParserError::OutOfBounds);
     }
     if len < end {
-        return Check::Refused(ElfParserError::OutOfBounds);
+        return Err(ElfParserError::OutOfBounds);
     }
-    Check::Pass
-}
-
-// How many bytes stand before the first zero byte of those from `start` to `end`; all of them
-// where none is zero.
-fn before_zero(file: &[u8], start: usize, end: usize) -> usize
-    requires { (start ≤ end) × (end ≤ length file.now) }
-    ensures { result ≡ before_zero (end - start) file.now start }
-{
-    let mut at = start;
-    while at < end {
-        if file[at] == 0 {
-            return at - start;
-        }
-        at += 1;
-    }
-    end - start
+    Ok(())
 }
 
 // Why a name has no end: the section ends before the limit does, or the name is too long.
+#[tactic(auto, using(ebpf::specs::Choice::choices), unfolding(crate::specs::Strings::no_zero))]
 fn no_zero(cut: bool, start: usize, length: usize) -> ElfParserError
     ensures { result ≡ no_zero cut start length }
 {
@@ -68,38 +54,48 @@ fn no_zero(cut: bool, start: usize, length: usize) -> ElfParserError
     ElfParserError::StringTooLong { start, length }
 }
 
+// The index of the first zero byte.
+fn first_zero(part: &[u8]) -> Option<usize>
+    ensures { result ≡ position (λ b. b == 0) part.now }
+{
+    part.iter().position(|byte| *byte == 0)
+}
+
+// The name from `start` on, which ends at its first zero byte before `end`.
+#[tactic(auto, using(crate::specs::Strings::zero_found, crate::specs::Strings::zero_missing))]
+fn name_from(file: &[u8], start: usize, end: usize, cut: bool) -> Result<Place, ElfParserError>
+    requires { (start ≤ end) × (end ≤ length file.now) }
+    ensures { result ≡ terminated cut (end - start) file.now start }
+{
+    match first_zero(&file[start..end]) {
+        Some(length) => Ok(Place { start, length }),
+        None => Err(no_zero(cut, start, end - start)),
+    }
+}
+
 // The name at `offset_in_section` of a string table, of fewer than `maximum_length` bytes.
+#[tactic(auto, using(crate::specs::Strings::readable), unfolding(crate::specs::Strings::string_in))]
 pub fn get_string_in_section(
     file: &[u8],
     section_header: Elf64Shdr,
     offset_in_section: u32,
     maximum_length: u32,
-) -> Place
+) -> Result<Place, ElfParserError>
     ensures { result ≡ string_in file.now section_header offset_in_section maximum_length }
 {
     let sh_offset = section_header.sh_offset;
     let sh_size = section_header.sh_size;
-    match check_string(
+    check_string(
         file.len() as u64,
         section_header.sh_type,
         sh_offset,
         sh_size,
         offset_in_section,
         maximum_length,
-    ) {
-        Check::Refused(r) => Place::Refused(r),
-        Check::Pass => {
-            let from = sh_offset + offset_in_section as u64;
-            let start = from as usize;
-            let section_end = sh_offset + sh_size;
-            let limit = from + maximum_length as u64;
-            let end = lesser(section_end, limit) as usize;
-            let length = before_zero(file, start, end);
-            if length < end - start {
-                Place::At { start, length }
-            } else {
-                Place::Refused(no_zero(section_end < limit, start, length))
-            }
-        }
-    }
+    )?;
+    let start = sh_offset + offset_in_section as u64;
+    let section_end = sh_offset + sh_size;
+    let limit = start + maximum_length as u64;
+    let end = section_end.min(limit);
+    name_from(file, start as usize, end as usize, section_end < limit)
 }

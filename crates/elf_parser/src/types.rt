@@ -1,7 +1,10 @@
 // The records of a file, with the fields that are asked for, and their readers at a place.
-ghost use Rattle.std.specs.Prelude.{◌≡◌, ◌+◌, ◌≤◌, length};
-ghost use Rattle.elf_parser.specs.Types.{file_header, program_header, section_header, sym, rel, rela};
+ghost use Rattle.std.specs.Prelude.{◌≡◌, ℕ, ◌+◌, ◌*◌, ◌≤◌, ◌<◌, List, length, take, drop};
+ghost use Rattle.std.proofs.Common.{lit<, lit≤};
+ghost use Rattle.elf_parser.specs.Types.{file_header, program_header, section_header, sym, rel, rela, dynamic};
+ghost use Rattle.elf_parser.specs.Fields.{program_header_part, section_header_part, sym_part, rel_part, rela_part, dynamic_part};
 
+use crate::records::Entries;
 use ebpf::little_endian::{read_u8, read_u16, read_u32, read_u64};
 
 #[derive(Clone, Copy)]
@@ -58,7 +61,15 @@ pub struct Elf64Rela {
     pub r_addend: u64,
 }
 
+// An entry of the dynamic table: its tag and its value.
+#[derive(Clone, Copy)]
+pub struct Elf64Dyn {
+    pub d_tag: u64,
+    pub d_val: u64,
+}
+
 // The file header, zeros where the file is shorter.
+#[tactic(auto, unfolding(crate::specs::Types::file_header))]
 pub fn file_header(file: &[u8]) -> Elf64Ehdr
     ensures { result ≡ file_header file.now }
 {
@@ -76,73 +87,182 @@ pub fn file_header(file: &[u8]) -> Elf64Ehdr
     }
 }
 
-// The next five read in the part of the file that is the record: its length is known, so that no field
-// asks whether the file ends in it.
-pub(crate) fn phdr_at(file: &[u8], at: usize) -> Elf64Phdr
-    requires { at + 56 ≤ length file.now }
-    ensures { result ≡ program_header file.now at }
-{
-    let end = at + 56;
-    let part = &file[at..end];
-    Elf64Phdr {
-        p_type: read_u32(part, 0),
-        p_offset: read_u64(part, 8),
-        p_vaddr: read_u64(part, 16),
-        p_filesz: read_u64(part, 32),
-        p_memsz: read_u64(part, 40),
-    }
+// A record of a table: its size in the file, and how it is read there.
+pub trait Record: Copy {
+    const SIZE: usize;
+
+    ghost SIZE: { ℕ };
+
+    // The record at a place of the file.
+    ghost at: { List ℕ → ℕ → Self };
+
+    // Reads the part of the file that is the record: its length is known, so that no field asks whether
+    // the file ends in it.
+    fn read(part: &[u8]) -> Self
+        ensures { result ≡ at part.now 0 };
+
+    ghost in_part: { (s : List ℕ) (p : ℕ) → at (take SIZE (drop p s)) 0 ≡ at s p };
+
+    ghost some: { 0 < SIZE };
+
+    ghost few: { SIZE ≤ 64 };
 }
 
-pub(crate) fn shdr_at(file: &[u8], at: usize) -> Elf64Shdr
-    requires { at + 64 ≤ length file.now }
-    ensures { result ≡ section_header file.now at }
-{
-    let end = at + 64;
-    let part = &file[at..end];
-    Elf64Shdr {
-        sh_name: read_u32(part, 0),
-        sh_type: read_u32(part, 4),
-        sh_flags: read_u64(part, 8),
-        sh_addr: read_u64(part, 16),
-        sh_offset: read_u64(part, 24),
-        sh_size: read_u64(part, 32),
+impl Record for Elf64Phdr {
+    const SIZE: usize = 56;
+
+    ghost SIZE = { 56 };
+
+    ghost at = { program_header };
+
+    #[tactic(auto, unfolding(crate::specs::Types::program_header))]
+    fn read(part: &[u8]) -> Elf64Phdr {
+        Elf64Phdr {
+            p_type: read_u32(part, 0),
+            p_offset: read_u64(part, 8),
+            p_vaddr: read_u64(part, 16),
+            p_filesz: read_u64(part, 32),
+            p_memsz: read_u64(part, 40),
+        }
     }
+
+    ghost in_part = { program_header_part };
+
+    ghost some = { lit< tt };
+
+    ghost few = { lit≤ tt };
 }
 
-pub(crate) fn sym_at(file: &[u8], at: usize) -> Elf64Sym
-    requires { at + 24 ≤ length file.now }
-    ensures { result ≡ sym file.now at }
-{
-    let end = at + 24;
-    let part = &file[at..end];
-    Elf64Sym {
-        st_name: read_u32(part, 0),
-        st_info: read_u8(part, 4),
-        st_value: read_u64(part, 8),
+impl Record for Elf64Shdr {
+    const SIZE: usize = 64;
+
+    ghost SIZE = { 64 };
+
+    ghost at = { section_header };
+
+    #[tactic(auto, unfolding(crate::specs::Types::section_header))]
+    fn read(part: &[u8]) -> Elf64Shdr {
+        Elf64Shdr {
+            sh_name: read_u32(part, 0),
+            sh_type: read_u32(part, 4),
+            sh_flags: read_u64(part, 8),
+            sh_addr: read_u64(part, 16),
+            sh_offset: read_u64(part, 24),
+            sh_size: read_u64(part, 32),
+        }
     }
+
+    ghost in_part = { section_header_part };
+
+    ghost some = { lit< tt };
+
+    ghost few = { lit≤ tt };
 }
 
-pub(crate) fn rel_at(file: &[u8], at: usize) -> Elf64Rel
-    requires { at + 16 ≤ length file.now }
-    ensures { result ≡ rel file.now at }
-{
-    let end = at + 16;
-    let part = &file[at..end];
-    Elf64Rel {
-        r_offset: read_u64(part, 0),
-        r_info: read_u64(part, 8),
+impl Record for Elf64Sym {
+    const SIZE: usize = 24;
+
+    ghost SIZE = { 24 };
+
+    ghost at = { sym };
+
+    #[tactic(auto, unfolding(crate::specs::Types::sym))]
+    fn read(part: &[u8]) -> Elf64Sym {
+        Elf64Sym {
+            st_name: read_u32(part, 0),
+            st_info: read_u8(part, 4),
+            st_value: read_u64(part, 8),
+        }
     }
+
+    ghost in_part = { sym_part };
+
+    ghost some = { lit< tt };
+
+    ghost few = { lit≤ tt };
 }
 
-pub(crate) fn rela_at(file: &[u8], at: usize) -> Elf64Rela
-    requires { at + 24 ≤ length file.now }
-    ensures { result ≡ rela file.now at }
-{
-    let end = at + 24;
-    let part = &file[at..end];
-    Elf64Rela {
-        r_offset: read_u64(part, 0),
-        r_info: read_u64(part, 8),
-        r_addend: read_u64(part, 16),
+impl Record for Elf64Rel {
+    const SIZE: usize = 16;
+
+    ghost SIZE = { 16 };
+
+    ghost at = { rel };
+
+    #[tactic(auto, unfolding(crate::specs::Types::rel))]
+    fn read(part: &[u8]) -> Elf64Rel {
+        Elf64Rel {
+            r_offset: read_u64(part, 0),
+            r_info: read_u64(part, 8),
+        }
     }
+
+    ghost in_part = { rel_part };
+
+    ghost some = { lit< tt };
+
+    ghost few = { lit≤ tt };
+}
+
+impl Record for Elf64Rela {
+    const SIZE: usize = 24;
+
+    ghost SIZE = { 24 };
+
+    ghost at = { rela };
+
+    #[tactic(auto, unfolding(crate::specs::Types::rela))]
+    fn read(part: &[u8]) -> Elf64Rela {
+        Elf64Rela {
+            r_offset: read_u64(part, 0),
+            r_info: read_u64(part, 8),
+            r_addend: read_u64(part, 16),
+        }
+    }
+
+    ghost in_part = { rela_part };
+
+    ghost some = { lit< tt };
+
+    ghost few = { lit≤ tt };
+}
+
+impl Record for Elf64Dyn {
+    const SIZE: usize = 16;
+
+    ghost SIZE = { 16 };
+
+    ghost at = { dynamic };
+
+    #[tactic(auto, unfolding(crate::specs::Types::dynamic))]
+    fn read(part: &[u8]) -> Elf64Dyn {
+        Elf64Dyn {
+            d_tag: read_u64(part, 0),
+            d_val: read_u64(part, 8),
+        }
+    }
+
+    ghost in_part = { dynamic_part };
+
+    ghost some = { lit< tt };
+
+    ghost few = { lit≤ tt };
+}
+
+// The record at a place of the file.
+pub(crate) fn record_at<T: Record>(file: &[u8], at: usize) -> T
+    requires { at + T.SIZE ≤ length file.now }
+    ensures { result ≡ T.at file.now at }
+{
+    let end = at + T::SIZE;
+    T::read(&file[at..end])
+}
+
+// The record number `i` of a table that lies in the file.
+pub(crate) fn nth_record<T: Record>(file: &[u8], table: Entries, i: u64) -> T
+    requires inside { table.offset + T.SIZE * table.count ≤ length file.now }
+    requires below { i < table.count }
+    ensures { result ≡ T.at file.now (table.offset + T.SIZE * i) }
+{
+    record_at(file, table.offset as usize + T::SIZE * i as usize)
 }

@@ -1,25 +1,21 @@
--- `elf_parser::program_headers::header_for_vaddr` meets its contract. The loop's invariant: what is left gives the whole, and lies in the file.
--- Assumes nothing.
-use native.Mathlib.Omega.{arith}
-use mathlib.Core.Path.{refl, sym, ap, ◌∙◌}
-use Rattle.elf_parser.specs.Loops.{over_next, over_stop, over_end}
-use Rattle.elf_parser.specs.ProgramHeaders.{mapped_turn, mapped_by}
+-- A header that refuses or contains the address ends the loop, another goes on.
+use Rattle.std.proofs.Common.{sym, ◌∙◌}
+use Rattle.std.proofs.lemmas.Result.{err_from_is_err_and}
+use Rattle.elf_parser.specs.ProgramHeaders.{found_is, found_end}
 use Rattle.elf_parser.proofs.program_headers.header_for_vaddr.Goals as goal
 
-pub loop-left-init : goal.loop-left-init
-loop-left-init c = (omega arith, refl)
+pub returns-in_err-offset : goal.returns-in_err-offset
+returns-in_err-offset c =
+    let p = err_from_is_err_and c.from_residual.result c.from_residual.ensures.1 in
+    rw (p.1, p.2, c.loop-i.invariant, found_is _ _ _ _ _ c.loop-i-test.true, ← c.nth_record.ensures, ← c.contains_step.ensures, c.in_err-offset.was)
 
-pub returns-in-At : goal.returns-in-At
-returns-in-At c =
-    sym (c.loop-left.invariant.1 ∙ ap mapped_by (over_stop _ 56 _ _ _ _ c.loop-left-test.true (ap mapped_turn (sym c.contains_step.ensures ∙ c.in-At.is))))
+pub returns-in-Some : goal.returns-in-Some
+returns-in-Some c =
+    rw (c.loop-i.invariant, found_is _ _ _ _ _ c.loop-i-test.true, ← c.nth_record.ensures, ← c.contains_step.ensures, c.in_ok-offset.was, c.in-Some.is)
 
-pub returns-in-Refused : goal.returns-in-Refused
-returns-in-Refused c =
-    sym (c.loop-left.invariant.1 ∙ ap mapped_by (over_stop _ 56 _ _ _ _ c.loop-left-test.true (ap mapped_turn (sym c.contains_step.ensures ∙ c.in-Refused.is))))
-
-pub loop-left-preserved : goal.loop-left-preserved
-loop-left-preserved c =
-    (omega arith, c.loop-left.invariant.1 ∙ ap mapped_by (over_next _ 56 _ _ _ _ c.loop-left-test.true (ap mapped_turn (sym c.contains_step.ensures ∙ c.in-Nothing.is))))
+pub loop-i-preserved : goal.loop-i-preserved
+loop-i-preserved c =
+    rw (c.loop-i.invariant, found_is _ _ _ _ _ c.loop-i-test.true, ← c.nth_record.ensures, ← c.contains_step.ensures, c.in_ok-offset.was, c.in_default.is)
 
 pub returns : goal.returns
-returns c = sym (c.loop-left.invariant.1 ∙ ap mapped_by (over_end _ 56 _ _ _ c.loop-left-test.false))
+returns c = sym (c.loop-i.invariant ∙ found_end _ _ _ _ _ c.loop-i-test.false)

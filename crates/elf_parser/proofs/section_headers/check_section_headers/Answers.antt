@@ -1,34 +1,17 @@
--- `elf_parser::section_headers::check_section_headers` meets its contract. The loop's invariant: the headers that are left, from the state now,
--- give what all give from the start.
--- Assumes nothing.
-use native.Mathlib.Omega.{arith}
-use mathlib.Core.Path.{refl, ap, sym, ◌∙◌}
-use Rattle.elf_parser.specs.Loops.{over_next, over_stop, over_end}
-use Rattle.elf_parser.specs.ProgramHeaders.{turn_of, check_of}
+-- A step that refuses ends the loop, one that does not goes on, and behind the last entry the state is the answer.
+use Rattle.std.proofs.Common.{ap, sym, ◌∙◌}
+use Rattle.std.proofs.lemmas.Result.{err_from_is_err_and}
+use Rattle.elf_parser.specs.Loops.{rest_next, rest_stop, rest_end}
+use Rattle.elf_parser.specs.ProgramHeaders.{check_of}
 use Rattle.elf_parser.proofs.section_headers.check_section_headers.Goals as goal
 
-pub loop-left-init : goal.loop-left-init
-loop-left-init c = (omega arith, refl)
+pub returns-in_err-low : goal.returns-in_err-low
+returns-in_err-low c =
+    let p = err_from_is_err_and c.from_residual.result c.from_residual.ensures.1 in
+    rw (p.1, p.2) (sym (c.loop-i.invariant ∙ ap check_of (rest_stop _ 64 _ _ _ _ _ c.loop-i-test.true (rw (← c.nth_record.ensures, ← c.section_step.ensures) (c.in_err-low.was)))))
 
-pub section_step-requires : goal.section_step-requires
-section_step-requires c = omega arith
-
-pub returns-in-Refused : goal.returns-in-Refused
-returns-in-Refused c =
-    sym (c.loop-left.invariant.1 ∙ ap check_of (over_stop _ 64 _ _ _ _ c.loop-left-test.true (ap turn_of (sym c.section_step.ensures ∙ c.in-Refused.is))))
-
-pub overflow_add-at : goal.overflow_add-at
-overflow_add-at c = omega arith
-
-pub overflow_sub-left : goal.overflow_sub-left
-overflow_sub-left c = omega arith
-
-pub loop-left-smaller : goal.loop-left-smaller
-loop-left-smaller c = omega arith
-
-pub loop-left-preserved : goal.loop-left-preserved
-loop-left-preserved c =
-    (omega arith, c.loop-left.invariant.1 ∙ ap check_of (over_next _ 64 _ _ _ _ c.loop-left-test.true (ap turn_of (sym c.section_step.ensures ∙ c.in-Next.is))))
+pub loop-i-preserved : goal.loop-i-preserved
+loop-i-preserved c = c.loop-i.invariant ∙ ap check_of (rest_next _ 64 _ _ _ _ _ c.loop-i-test.true (rw (← c.nth_record.ensures, ← c.section_step.ensures) (c.in_ok-low.was)))
 
 pub returns : goal.returns
-returns c = sym (c.loop-left.invariant.1 ∙ ap check_of (over_end _ 64 _ _ _ c.loop-left-test.false))
+returns c = sym (c.loop-i.invariant ∙ ap check_of (rest_end _ 64 _ _ _ _ c.loop-i-test.false))
