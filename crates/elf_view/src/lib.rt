@@ -8,12 +8,12 @@ ghost use Rattle.elf_parser.specs.Parts.{part_of};
 ghost use Rattle.hash_table.specs.Find.{find_symbol};
 ghost use Rattle.elf_parser.specs.Records.{section_place_of, dynamic_relocation_of, dynamic_rela_of};
 
+use elf_parser::types::{Elf64Rel, Elf64Rela};
 use elf_parser::{
-    Layout, Place, Rel, Rela, dynamic_rela, dynamic_relocation, dynamic_symbol_name,
-    dynamic_symbol_name_part, section_contents, section_name, section_name_part, section_place,
-    symbol_name, symbol_name_part,
+    ElfParserError, Layout, Place, dynamic_rela, dynamic_relocation, dynamic_symbol_name, part_of,
+    section_contents, section_name, section_place, symbol_name,
 };
-use hash_table::{FoundSymbol, find_symbol};
+use hash_table::{BadHashTable, find_symbol};
 
 #[derive(Clone, Copy)]
 pub struct Elf64<'a> {
@@ -54,27 +54,27 @@ impl<'a> Elf64<'a> {
     }
 
     // The dynamic relocation number `index`, without an addend and with one.
-    pub fn dynamic_relocation(self, index: u32) -> Rel
+    pub fn dynamic_relocation(self, index: u32) -> Result<Elf64Rel, ElfParserError>
         ensures { result ≡ dynamic_relocation_of self.entry.file.now self.entry.layout index }
     {
         dynamic_relocation(self.file, self.layout, index)
     }
 
-    pub fn dynamic_rela(self, index: u32) -> Rela
+    pub fn dynamic_rela(self, index: u32) -> Result<Elf64Rela, ElfParserError>
         ensures { result ≡ dynamic_rela_of self.entry.file.now self.entry.layout index }
     {
         dynamic_rela(self.file, self.layout, index)
     }
 
     // The dynamic symbol with a name.
-    pub fn find_symbol(self, name: &[u8]) -> FoundSymbol
+    pub fn find_symbol(self, name: &[u8]) -> Result<Option<u32>, BadHashTable>
         ensures { result ≡ find_symbol self.entry.file.now self.entry.layout name.now }
     {
         find_symbol(self.file, self.layout, name)
     }
 
     // Where the contents of section `index` stand.
-    pub fn section_place(self, index: u32) -> Place
+    pub fn section_place(self, index: u32) -> Result<Place, ElfParserError>
         ensures { result ≡ section_place_of self.entry.file.now self.entry.layout index }
     {
         section_place(self.file, self.layout, index)
@@ -88,40 +88,28 @@ impl<'a> Elf64<'a> {
     }
 
     // Where the name at a string offset stands.
-    pub fn section_name(self, sh_name: u32) -> Place
+    pub fn section_name(self, sh_name: u32) -> Result<Place, ElfParserError>
         ensures { result ≡ section_name self.entry.file.now self.entry.layout sh_name }
     {
         section_name(self.file, self.layout, sh_name)
     }
 
-    pub fn symbol_name(self, st_name: u32) -> Place
+    pub fn symbol_name(self, st_name: u32) -> Result<Place, ElfParserError>
         ensures { result ≡ symbol_name self.entry.file.now self.entry.layout st_name }
     {
         symbol_name(self.file, self.layout, st_name)
     }
 
-    pub fn dynamic_symbol_name(self, st_name: u32) -> Place
+    pub fn dynamic_symbol_name(self, st_name: u32) -> Result<Place, ElfParserError>
         ensures { result ≡ dynamic_symbol_name self.entry.file.now self.entry.layout st_name }
     {
         dynamic_symbol_name(self.file, self.layout, st_name)
     }
 
-    // The same names as parts of the file, empty where they are refused.
-    pub fn section_name_part(self, sh_name: u32) -> &'a [u8]
-        ensures { result.now ≡ part_of self.entry.file.now (section_name self.entry.file.now self.entry.layout sh_name) }
+    // The bytes at a place, as a part of the file: none where it is refused.
+    pub fn part_of(self, place: Result<Place, ElfParserError>) -> &'a [u8]
+        ensures { result.now ≡ part_of self.entry.file.now place }
     {
-        section_name_part(self.file, self.layout, sh_name)
-    }
-
-    pub fn symbol_name_part(self, st_name: u32) -> &'a [u8]
-        ensures { result.now ≡ part_of self.entry.file.now (symbol_name self.entry.file.now self.entry.layout st_name) }
-    {
-        symbol_name_part(self.file, self.layout, st_name)
-    }
-
-    pub fn dynamic_symbol_name_part(self, st_name: u32) -> &'a [u8]
-        ensures { result.now ≡ part_of self.entry.file.now (dynamic_symbol_name self.entry.file.now self.entry.layout st_name) }
-    {
-        dynamic_symbol_name_part(self.file, self.layout, st_name)
+        part_of(self.file, place)
     }
 }

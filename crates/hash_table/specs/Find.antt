@@ -1,50 +1,48 @@
 -- A dynamic symbol by its name, through the hash table under tag 4.
-use Rattle.std.specs.Prelude.{ℕ, zero, suc, ◌+◌, ◌*◌, ◌%◌, ◌≤◌, ◌<◌, not, List, length, ltb, leb, eqb}
-use Rattle.ebpf.specs.Choice.{◌if◌else◌}
+use Rattle.std.specs.Prelude.{ℕ, zero, suc, ◌+◌, ◌-◌, ◌*◌, ◌%◌, ◌≤◌, ◌<◌, not, List, length, ltb, leb, eqb, Bool, true, false, Option, Some, None, Result, Ok, Err, ◌≡◌}
+use Rattle.std.specs.declared.ops.ControlFlow.{ControlFlow}
+use Rattle.std.specs.declared.ops.ControlFlow.TheVariants.{Break, Continue}
+use Rattle.std.proofs.Common.{arith, ltb-false}
+use Rattle.std.proofs.lemmas.Bool.{eqb-false}
+use Rattle.ebpf.specs.Choice.{◌if◌else◌, row_rest, not_first}
 use Rattle.ebpf.specs.LittleEndian.{le}
 use Rattle.elf_parser.specs.declared.layout.Layout.{Layout}
 use Rattle.elf_parser.specs.declared.parts.Place.{Place}
-use Rattle.elf_parser.specs.declared.parts.Place.TheVariants.{At as Stands, Refused as NoPlace}
-use Rattle.elf_parser.specs.declared.program_headers.Mapped.{Mapped}
-use Rattle.elf_parser.specs.declared.program_headers.Mapped.TheVariants.{At as Maps, Nothing as Unmapped, Refused as NoMap}
-use Rattle.elf_parser.specs.declared.records.Sym.{Sym}
-use Rattle.elf_parser.specs.declared.records.Sym.TheVariants.{Symbol, Refused as NoSym}
+use Rattle.elf_parser.specs.declared.error.ElfParserError.{ElfParserError}
 use Rattle.elf_parser.specs.Dynamic.{file_offset}
+use Rattle.elf_parser.specs.Errors.{and_then as then_read}
 use Rattle.elf_parser.specs.Names.{dynamic_symbol_name}
 use Rattle.elf_parser.specs.Parts.{bytes_at}
 use Rattle.elf_parser.specs.Records.{dynamic_symbol_of}
 use Rattle.elf_parser.specs.SectionNames.{same_bytes}
 use Rattle.hash_table.specs.declared.HashTable.{HashTable}
-use Rattle.hash_table.specs.declared.Table.{Table}
-use Rattle.hash_table.specs.declared.Table.TheVariants.{At as Is, Bad}
-use Rattle.hash_table.specs.declared.FoundSymbol.{FoundSymbol}
-use Rattle.hash_table.specs.declared.FoundSymbol.TheVariants.{At, Nothing, BadHashTable}
-use Rattle.hash_table.specs.declared.Carried.{Carried}
-use Rattle.hash_table.specs.declared.Carried.TheVariants.{Yes, No, Unreadable}
-use Rattle.hash_table.specs.declared.Link.{Link}
-use Rattle.hash_table.specs.declared.Link.TheVariants.{Ends, Next}
+use Rattle.hash_table.specs.declared.BadHashTable.{BadHashTable}
 use Rattle.hash_table.specs.Hash.{elf_hash}
+
+-- the table cannot be used
+abbrev pub bad_table : BadHashTable
+bad_table = record {}
 
 -- ---- the table
 
 -- at a place: it has buckets, as many chains as there are symbols, and lies in the file
-unfoldable pub table_at : List ℕ → ℕ → ℕ → Table
+unfoldable pub table_at : List ℕ → ℕ → ℕ → Result HashTable BadHashTable
 table_at s symbols at =
-    Bad if ltb (length s) (at + 8) else
-    Bad if eqb (le 4 s at) 0 else
-    Bad if not (eqb (le 4 s (at + 4)) symbols) else
-    Bad if ltb (length s) (at + (8 + (le 4 s at + le 4 s (at + 4)) * 4)) else
-    Is (record { buckets = at + 8; nbucket = le 4 s at; nchain = le 4 s (at + 4) })
+    Err bad_table if ltb (length s) (at + 8) else
+    Err bad_table if eqb (le 4 s at) 0 else
+    Err bad_table if not (eqb (le 4 s (at + 4)) symbols) else
+    Err bad_table if ltb (length s) (at + (8 + (le 4 s at + le 4 s (at + 4)) * 4)) else
+    Ok (record { buckets = at + 8; nbucket = le 4 s at; nchain = le 4 s (at + 4) })
 
-abbrev pub table_by : List ℕ → ℕ → Mapped → Table
-table_by s symbols (Maps at) = table_at s symbols at
-table_by s symbols Unmapped = Bad
-table_by s symbols (NoMap r) = Bad
+abbrev pub table_by : List ℕ → ℕ → Result (Option ℕ) ElfParserError → Result HashTable BadHashTable
+table_by s symbols (Ok (Some at)) = table_at s symbols at
+table_by s symbols (Ok None) = Err bad_table
+table_by s symbols (Err r) = Err bad_table
 
 -- by the address under tag 4, located as the relocations are
-unfoldable pub hash_table_of : List ℕ → Layout → Table
+unfoldable pub hash_table_of : List ℕ → Layout → Result HashTable BadHashTable
 hash_table_of s l =
-    Bad if eqb l.hash_table 0 else
+    Err bad_table if eqb l.hash_table 0 else
     table_by s l.dynamic_symbols.count (file_offset s l l.hash_table)
 
 -- such a table has buckets and lies in the file
@@ -64,49 +62,87 @@ chain_at s t index = number_at s t (t.nbucket + index)
 
 -- ---- a symbol's name
 
-abbrev pub name_of_record : List ℕ → Layout → Sym → Place
-name_of_record s l (Symbol y) = dynamic_symbol_name s l y.st_name
-name_of_record s l (NoSym r) = NoPlace r
+abbrev pub name_at : List ℕ → Layout → ℕ → Result Place ElfParserError
+name_at s l index = then_read (dynamic_symbol_of s l index) (λ y. dynamic_symbol_name s l y.st_name)
 
-abbrev pub name_at : List ℕ → Layout → ℕ → Place
-name_at s l index = name_of_record s l (dynamic_symbol_of s l index)
+-- whether the bytes at a place are the name; a place that is refused is bad
+abbrev pub carries_at : List ℕ → Result Place ElfParserError → List ℕ → Result Bool BadHashTable
+carries_at s (Ok p) name = Ok (same_bytes (bytes_at s p.start p.length) name)
+carries_at s (Err r) name = Err bad_table
 
-unfoldable pub carried_at : List ℕ → Place → List ℕ → Carried
-carried_at s (Stands start n) name = Yes if same_bytes (bytes_at s start n) name else No
-carried_at s (NoPlace r) name = Unreadable
-
-abbrev pub carried : List ℕ → Layout → List ℕ → ℕ → Carried
-carried s l name index = carried_at s (name_at s l index) name
+abbrev pub carries : List ℕ → Layout → List ℕ → ℕ → Result Bool BadHashTable
+carries s l name index = carries_at s (name_at s l index) name
 
 -- ---- the walk
 
-abbrev pub link_by : Carried → ℕ → ℕ → Link
-link_by Yes index next = Ends (At index)
-link_by No index next = Next next
-link_by Unreadable index next = Ends BadHashTable
+-- the end of the walk with the symbol, or the next index
+abbrev pub link_by : Result Bool BadHashTable → ℕ → ℕ → Result (ControlFlow (Option ℕ) ℕ) BadHashTable
+link_by (Ok true) index next = Ok (Break (Some index))
+link_by (Ok false) index next = Ok (Continue next)
+link_by (Err r) index next = Err r
 
 -- a chain ends at index 0; an index that is no symbol's, and a name that cannot be read, are bad
-unfoldable pub link_at : List ℕ → Layout → List ℕ → HashTable → ℕ → Link
+unfoldable pub link_at : List ℕ → Layout → List ℕ → HashTable → ℕ → Result (ControlFlow (Option ℕ) ℕ) BadHashTable
 link_at s l name t index =
-    Ends Nothing if eqb index 0 else
-    Ends BadHashTable if leb t.nchain index else
-    link_by (carried s l name index) index (chain_at s t index)
+    Ok (Break None) if eqb index 0 else
+    Err bad_table if leb t.nchain index else
+    link_by (carries s l name index) index (chain_at s t index)
 
 -- what a link says, and how the walk goes on
-unfoldable pub on_link : (ℕ → FoundSymbol) → Link → FoundSymbol
-on_link rest (Ends found) = found
-on_link rest (Next index) = rest index
+unfoldable pub on_link : (ℕ → Result (Option ℕ) BadHashTable) → Result (ControlFlow (Option ℕ) ℕ) BadHashTable → Result (Option ℕ) BadHashTable
+on_link rest (Ok (Break found)) = Ok found
+on_link rest (Ok (Continue index)) = rest index
+on_link rest (Err r) = Err r
 
 -- n links at most, from a symbol on: more are bad
-unfoldable pub walked : List ℕ → Layout → List ℕ → HashTable → ℕ → ℕ → FoundSymbol
-walked s l name t zero index = BadHashTable
+unfoldable pub walked : List ℕ → Layout → List ℕ → HashTable → ℕ → ℕ → Result (Option ℕ) BadHashTable
+walked s l name t zero index = Err bad_table
 walked s l name t (suc n) index = on_link (walked s l name t n) (link_at s l name t index)
 
 -- no chain without a circle has more than `nchain` links, of which one is its end
-abbrev pub found_in : List ℕ → Layout → List ℕ → Table → FoundSymbol
-found_in s l name Bad = BadHashTable
-found_in s l name (Is t) = walked s l name t (t.nchain + 1) (bucket_at s t (elf_hash name))
+abbrev pub found_in : List ℕ → Layout → List ℕ → Result HashTable BadHashTable → Result (Option ℕ) BadHashTable
+found_in s l name (Err r) = Err r
+found_in s l name (Ok t) = walked s l name t (t.nchain + 1) (bucket_at s t (elf_hash name))
 
 -- THE SYMBOL WITH A NAME: the first on the name's chain that carries it
-abbrev pub find_symbol : List ℕ → Layout → List ℕ → FoundSymbol
+abbrev pub find_symbol : List ℕ → Layout → List ℕ → Result (Option ℕ) BadHashTable
 find_symbol s l name = found_in s l name (hash_table_of s l)
+
+-- ---- a table that is found has buckets and lies in the file
+
+not_found : (r : BadHashTable) (t : HashTable) → Err r ≡ Ok t → ⊥
+not_found r t e = let z : ◌≡◌ {A = ℕ} 0 1 = cc in omega arith
+
+above : (i : ℕ) → (i ≡ 0 → ⊥) → 0 < i
+above i d = omega (arith, d)
+
+table_at_lies : (s : List ℕ) (symbols at : ℕ) (t : HashTable) → table_at s symbols at ≡ Ok t → Usable (length s) t
+unfolding table_at
+table_at_lies s symbols at t e =
+    let e1 = row_rest _ _ _ _ (not_found _ t) e in
+    let e2 = row_rest _ _ _ _ (not_found _ t) e1 in
+    let e3 = row_rest _ _ _ _ (not_found _ t) e2 in
+    let e4 = row_rest _ _ _ _ (not_found _ t) e3 in
+    let p : record { buckets = at + 8; nbucket = le 4 s at; nchain = le 4 s (at + 4) } ≡ t = cc in
+    let q = ltb-false (length s) (at + (8 + (le 4 s at + le 4 s (at + 4)) * 4)) (not_first _ _ _ _ (not_found _ t) e3) in
+    let n = eqb-false (le 4 s at) 0 (not_first _ _ _ _ (not_found _ t) e1) in
+    rw (← p) (record { some = above (le 4 s at) n; within = omega (arith, q) })
+
+pub table_lies : (s : List ℕ) (l : Layout) (t : HashTable) → hash_table_of s l ≡ Ok t → Usable (length s) t
+unfolding hash_table_of
+table_lies s l t e = go (file_offset s l l.hash_table) (row_rest _ _ _ _ (not_found _ t) e)
+  where
+    go : (m : Result (Option ℕ) ElfParserError) → table_by s l.dynamic_symbols.count m ≡ Ok t → Usable (length s) t
+    go (Ok (Some at)) q = table_at_lies s l.dynamic_symbols.count at t q
+    go (Ok None) q = absurd (not_found _ t q)
+    go (Err r) q = absurd (not_found _ t q)
+
+-- ---- the walk from the i-th link of n on, for a loop over the links
+module _ (s : List ℕ) (l : Layout) (name : List ℕ) (t : HashTable) (n : ℕ) where
+  pub walked_is : (i index : ℕ) → i < n → walked s l name t (n - i) index ≡ on_link (walked s l name t (n - (i + 1))) (link_at s l name t index)
+  unfolding walked
+  walked_is i index h = let k : n - i ≡ suc (n - (i + 1)) = omega arith in rw k
+
+  pub walked_end : (i index : ℕ) → n ≤ i → walked s l name t (n - i) index ≡ Err bad_table
+  unfolding walked
+  walked_end i index h = let k : n - i ≡ 0 = omega arith in rw k

@@ -3,12 +3,13 @@
 // chains, numbers of 32 bits each. Every function takes the file and its layout, also one that no parse made.
 ghost use Rattle.std.specs.Prelude.{◌≡◌, ◌+◌, ◌%◌, ◌<◌, length};
 ghost use Rattle.hash_table.specs.Hash.{sum_with, high_bits, without_high, hash_with, elf_hash};
-ghost use Rattle.hash_table.specs.Find.{table_at, hash_table_of, Usable, number_at, bucket_at, chain_at, name_at, carried_at, carried, link_at, walked, find_symbol};
+ghost use Rattle.hash_table.specs.Find.{table_at, hash_table_of, Usable, number_at, bucket_at, chain_at, name_at, carries_at, carries, link_at, walked, find_symbol};
+
+use std::ops::ControlFlow;
 
 use ebpf::little_endian::read_u32;
 use elf_parser::{
-    Layout, Mapped, Place, Sym, dynamic_symbol, dynamic_symbol_name, file_offset, part_of, past,
-    same_bytes,
+    ElfParserError, Layout, Place, bytes_at, dynamic_symbol, dynamic_symbol_name, file_offset, past,
 };
 
 // (h << 4) + byte, modulo 2^32.
@@ -41,15 +42,13 @@ fn hash_with(h: u32, byte: u8) -> u32
 }
 
 // The gABI's hash of a name.
+#[tactic(auto, using(crate::specs::Hash::hash_next, crate::specs::Hash::hash_end))]
 pub fn elf_hash(name: &[u8]) -> u32
     ensures { result ≡ elf_hash name.now }
 {
-    let len = name.len();
-    let mut h: u32 = 0;
-    let mut i: usize = 0;
-    while i < len {
-        h = hash_with(h, name[i]);
-        i += 1;
+    let mut h = 0;
+    for byte in name {
+        h = hash_with(h, *byte);
     }
     h
 }
@@ -62,56 +61,32 @@ struct HashTable {
     nchain: u32,
 }
 
+// The hash table cannot be used: 48.
 #[derive(Clone, Copy)]
-enum Table {
-    At(HashTable),
-    Bad,
-}
-
-// The number of the symbol, that there is none of the name, or that the table cannot be used: 48.
-#[derive(Clone, Copy)]
-pub enum FoundSymbol {
-    At(u32),
-    Nothing,
-    BadHashTable,
-}
-
-// Whether a symbol carries a name.
-#[derive(Clone, Copy)]
-enum Carried {
-    Yes,
-    No,
-    Unreadable,
-}
-
-// One link of a chain: the end of the walk, or where it goes on.
-#[derive(Clone, Copy)]
-enum Link {
-    Ends(FoundSymbol),
-    Next(u32),
-}
+pub struct BadHashTable;
 
 // The table at a place in the file, with as many chains as there are symbols.
-fn table_at(file: &[u8], symbols: u64, at: u64) -> Table
+#[tactic(auto, using(ebpf::specs::Choice::choices), unfolding(crate::specs::Find::table_at))]
+fn table_at(file: &[u8], symbols: u64, at: u64) -> Result<HashTable, BadHashTable>
     ensures { result ≡ table_at file.now symbols at }
 {
     let len = file.len() as u64;
     if past(len, at, 8) {
-        return Table::Bad;
+        return Err(BadHashTable);
     }
     let from = at as usize;
     let nbucket = read_u32(file, from);
     let nchain = read_u32(file, from + 4);
     if nbucket == 0 {
-        return Table::Bad;
+        return Err(BadHashTable);
     }
     if nchain as u64 != symbols {
-        return Table::Bad;
+        return Err(BadHashTable);
     }
     if past(len, at, 8 + (nbucket as u64 + nchain as u64) * 4) {
-        return Table::Bad;
+        return Err(BadHashTable);
     }
-    Table::At(HashTable {
+    Ok(HashTable {
         buckets: from + 8,
         nbucket,
         nchain,
@@ -119,18 +94,17 @@ fn table_at(file: &[u8], symbols: u64, at: u64) -> Table
 }
 
 // The table that tag 4 leads to.
-fn hash_table(file: &[u8], layout: Layout) -> Table
+#[tactic(auto, using(ebpf::specs::Choice::choices), unfolding(crate::specs::Find::hash_table_of))]
+fn hash_table(file: &[u8], layout: Layout) -> Result<HashTable, BadHashTable>
     ensures { result ≡ hash_table_of file.now layout }
 {
     let vaddr = layout.hash_table;
-    let symbols = layout.dynamic_symbols;
     if vaddr == 0 {
-        return Table::Bad;
+        return Err(BadHashTable);
     }
     match file_offset(file, layout, vaddr) {
-        Mapped::At(at) => table_at(file, symbols.count, at),
-        Mapped::Nothing => Table::Bad,
-        Mapped::Refused(_) => Table::Bad,
+        Ok(Some(at)) => table_at(file, layout.dynamic_symbols.count, at),
+        _ => Err(BadHashTable),
     }
 }
 
@@ -169,82 +143,92 @@ fn chain_at(file: &[u8], t: HashTable, index: u32) -> u32
 }
 
 // Where the name of a dynamic symbol stands.
-fn name_at(file: &[u8], layout: Layout, index: u32) -> Place
+fn name_at(file: &[u8], layout: Layout, index: u32) -> Result<Place, ElfParserError>
     ensures { result ≡ name_at file.now layout index }
 {
-    match dynamic_symbol(file, layout, index) {
-        Sym::Symbol(y) => dynamic_symbol_name(file, layout, y.st_name),
-        Sym::Refused(r) => Place::Refused(r),
-    }
+    let symbol = dynamic_symbol(file, layout, index)?;
+    dynamic_symbol_name(file, layout, symbol.st_name)
 }
 
 // Whether the bytes at a place are the name.
-fn carried_at(file: &[u8], place: Place, name: &[u8]) -> Carried
-    ensures { result ≡ carried_at file.now place name.now }
+#[tactic(auto, using(elf_parser::specs::SectionNames::same_tested))]
+fn carries_at(
+    file: &[u8],
+    place: Result<Place, ElfParserError>,
+    name: &[u8],
+) -> Result<bool, BadHashTable>
+    ensures { result ≡ carries_at file.now place name.now }
 {
     match place {
-        Place::Refused(_) => Carried::Unreadable,
-        Place::At { start, length } => {
-            let part = part_of(file, Place::At { start, length });
-            if same_bytes(part, name) {
-                return Carried::Yes;
-            }
-            Carried::No
-        }
+        Ok(place) => Ok(bytes_at(file, place) == name),
+        Err(_) => Err(BadHashTable),
     }
 }
 
-fn carries_name(file: &[u8], layout: Layout, name: &[u8], index: u32) -> Carried
-    ensures { result ≡ carried file.now layout name.now index }
+// Whether a symbol carries the name, which is refused where its own cannot be read.
+fn carries_name(
+    file: &[u8],
+    layout: Layout,
+    name: &[u8],
+    index: u32,
+) -> Result<bool, BadHashTable>
+    ensures { result ≡ carries file.now layout name.now index }
 {
-    carried_at(file, name_at(file, layout, index), name)
+    carries_at(file, name_at(file, layout, index), name)
 }
 
-fn link_at(file: &[u8], layout: Layout, name: &[u8], t: HashTable, index: u32) -> Link
+// One link of a chain: the end of the walk, or where it goes on.
+#[tactic(auto, using(ebpf::specs::Choice::choices), unfolding(crate::specs::Find::link_at))]
+fn link_at(
+    file: &[u8],
+    layout: Layout,
+    name: &[u8],
+    t: HashTable,
+    index: u32,
+) -> Result<ControlFlow<Option<u32>, u32>, BadHashTable>
     requires { Usable (length file.now) t }
     ensures { result ≡ link_at file.now layout name.now t index }
 {
     if index == 0 {
-        return Link::Ends(FoundSymbol::Nothing);
+        return Ok(ControlFlow::Break(None));
     }
     if t.nchain <= index {
-        return Link::Ends(FoundSymbol::BadHashTable);
+        return Err(BadHashTable);
     }
-    match carries_name(file, layout, name, index) {
-        Carried::Yes => Link::Ends(FoundSymbol::At(index)),
-        Carried::Unreadable => Link::Ends(FoundSymbol::BadHashTable),
-        Carried::No => Link::Next(chain_at(file, t, index)),
+    if carries_name(file, layout, name, index)? {
+        return Ok(ControlFlow::Break(Some(index)));
     }
+    Ok(ControlFlow::Continue(chain_at(file, t, index)))
 }
 
 // The walk along a chain from a symbol on: a chain has no more links than there are symbols, and the end.
-fn walk(file: &[u8], layout: Layout, name: &[u8], t: HashTable, first: u32) -> FoundSymbol
+#[tactic(auto, using(crate::specs::Find::walked_is, crate::specs::Find::walked_end), unfolding(crate::specs::Find::on_link))]
+fn walk(
+    file: &[u8],
+    layout: Layout,
+    name: &[u8],
+    t: HashTable,
+    first: u32,
+) -> Result<Option<u32>, BadHashTable>
     requires { Usable (length file.now) t }
     ensures { result ≡ walked file.now layout name.now t (t.nchain + 1) first }
 {
     let mut index = first;
-    let mut left = t.nchain as u64 + 1;
-    while 0 < left {
-        match link_at(file, layout, name, t, index) {
-            Link::Ends(found) => return found,
-            Link::Next(next) => {
-                index = next;
-                left -= 1;
-            }
+    for _ in 0..t.nchain as u64 + 1 {
+        match link_at(file, layout, name, t, index)? {
+            ControlFlow::Break(found) => return Ok(found),
+            ControlFlow::Continue(next) => index = next,
         }
     }
-    FoundSymbol::BadHashTable
+    Err(BadHashTable)
 }
 
-// The dynamic symbol with a name: the first on the name's chain that carries it.
-pub fn find_symbol(file: &[u8], layout: Layout, name: &[u8]) -> FoundSymbol
+// The dynamic symbol with a name: the first on the name's chain that carries it, if one does.
+#[tactic(auto, using(crate::specs::Find::table_lies))]
+pub fn find_symbol(file: &[u8], layout: Layout, name: &[u8]) -> Result<Option<u32>, BadHashTable>
     ensures { result ≡ find_symbol file.now layout name.now }
 {
-    match hash_table(file, layout) {
-        Table::Bad => FoundSymbol::BadHashTable,
-        Table::At(t) => {
-            let first = bucket_at(file, t, elf_hash(name));
-            walk(file, layout, name, t, first)
-        }
-    }
+    let t = hash_table(file, layout)?;
+    let first = bucket_at(file, t, elf_hash(name));
+    walk(file, layout, name, t, first)
 }
