@@ -1,5 +1,6 @@
 pub mod Reading
 pub mod Blocks
+pub mod Rotation
 pub mod Words
 pub mod Table
 pub mod Undo

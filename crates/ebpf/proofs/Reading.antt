@@ -10,7 +10,7 @@ use borrow.Author.Tests.{lt-leb}
 use Rattle.ebpf.specs.Choice.{no_go}
 use Rattle.ebpf.specs.LittleEndian.{le, join, le_byte, le_join, le_past, le_part}
 use Rattle.ebpf.specs.Instructions.{slot_at, insn_at}
-use Rattle.ebpf.specs.declared.Slot.TheVariants.{Holds, Past}
+use Rattle.std.specs.Prelude.{Some, None}
 
 -- the bytes of a slot
 abbrev slot : List ℕ → ℕ → List ℕ
@@ -36,9 +36,9 @@ byte s at = sym (le_byte s at)
 -- a slot whose fields were read one by one, in the part of the text that is the slot
 pub slot_read : (s : List ℕ) (pc opc regs off imm : ℕ)
     → pc < length s / 8 → regs ≡ le 1 (slot s pc) 1 → opc ≡ le 1 (slot s pc) 0 → off ≡ le 2 (slot s pc) 2 → imm ≡ le 4 (slot s pc) 4
-    → Holds (record { opc = opc; dst = regs % 16; src = regs / 16; off = off; imm = imm }) ≡ insn_at s pc
+    → Some (record { opc = opc; dst = regs % 16; src = regs / 16; off = off; imm = imm }) ≡ insn_at s pc
 unfolding insn_at slot_at
-slot_read s pc opc regs off imm h er eo ef ei = no_go (leb (length s / 8) pc) Past _ _ (lt-leb (length s / 8) pc h) (rw (er, eo, ef, ei, field 1 0 (omega arith), field 1 1 (omega arith), field 2 2 (omega arith), field 4 4 (omega arith), add-zero))
+slot_read s pc opc regs off imm h er eo ef ei = no_go (leb (length s / 8) pc) None _ _ (lt-leb (length s / 8) pc h) (rw (er, eo, ef, ei, field 1 0 (omega arith), field 1 1 (omega arith), field 2 2 (omega arith), field 4 4 (omega arith), add-zero))
   where
     field : (k at : ℕ) → at + k ≤ 8 → le k (slot s pc) at ≡ le k s (8 * pc + at)
     field k at l = le_part k (8 * pc + 8 - 8 * pc) (8 * pc) s at (omega arith)

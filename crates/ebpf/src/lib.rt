@@ -47,26 +47,19 @@ pub struct Insn {
     pub imm: u32,
 }
 
-#[derive(Clone, Copy)]
-pub enum Slot {
-    Holds(Insn),
-    // The index is past the last whole slot.
-    Past,
-}
-
-// The slot number `pc` of a text.
-pub fn get_insn(prog: &[u8], pc: usize) -> Slot
+// The slot number `pc` of a text; none where the text has no more than `pc` whole slots.
+pub fn get_insn(prog: &[u8], pc: usize) -> Option<Insn>
     ensures { result ≡ insn_at prog.now pc }
 {
     if prog.len() / INSN_SIZE <= pc {
-        return Slot::Past;
+        return None;
     }
     let at = INSN_SIZE * pc;
     // in a part of known length no field asks whether the text ends in it
     let end = at + INSN_SIZE;
     let slot = &prog[at..end];
     let registers = little_endian::read_u8(slot, 1);
-    Slot::Holds(Insn {
+    Some(Insn {
         opc: little_endian::read_u8(slot, 0),
         dst: registers % 16,
         src: registers / 16,
