@@ -29,10 +29,10 @@ pub fn hash_symbol_name(name: &[u8]) -> u32
     let mut h: u32 = 0;
     let mut i: usize = 0;
     while 4 <= len - i {
-        h = murmur3::mixed(h, little_endian::whole_u32(name, i));
+        h = murmur3::mixed(h, little_endian::read(name, i));
         i += 4;
     }
-    let t = h ^ murmur3::scrambled(little_endian::read_u32(name, i));
+    let t = h ^ murmur3::scrambled(little_endian::read(name, i));
     murmur3::fmix(t ^ ((len % 0x1_0000_0000) as u32))
 }
 
@@ -58,12 +58,12 @@ pub fn get_insn(prog: &[u8], pc: usize) -> Option<Insn>
     // in a part of known length no field asks whether the text ends in it
     let end = at + INSN_SIZE;
     let slot = &prog[at..end];
-    let registers = little_endian::read_u8(slot, 1);
+    let registers: u8 = little_endian::read(slot, 1);
     Some(Insn {
-        opc: little_endian::read_u8(slot, 0),
+        opc: little_endian::read(slot, 0),
         dst: registers % 16,
         src: registers / 16,
-        off: little_endian::read_u16(slot, 2),
-        imm: little_endian::read_u32(slot, 4),
+        off: little_endian::read(slot, 2),
+        imm: little_endian::read(slot, 4),
     })
 }

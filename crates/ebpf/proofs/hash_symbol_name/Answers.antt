@@ -10,7 +10,7 @@ loop-i-preserved c = search (rules, again)
 pub returns : goal.returns
 returns c =
     ended c.args.name.now c.loop-i.h c.loop-i.i _ _ _ c.loop-i.invariant.0 c.loop-i-test.false
-    c.read_u32.ensures
+    c.read-2.ensures
     c.scrambled.ensures
     c.fmix.ensures
     c.loop-i.invariant.1
