@@ -1,41 +1,53 @@
 -- The bytes and the number at a place, in the shapes in which the readers meet them. Assumes nothing.
-use Rattle.std.specs.Prelude.{◌≡◌, ℕ, zero, suc, ◌+◌, ◌-◌, ◌*◌, ◌/◌, ◌%◌, ◌≤◌, ◌<◌, min, List, [], ◌∷◌, ◌++◌, length, get_or, take, drop, replicate, leb, Some, None}
+use Rattle.std.specs.Prelude.{◌≡◌, ℕ, zero, suc, ◌+◌, ◌-◌, ◌*◌, ◌/◌, ◌%◌, ◌≤◌, ◌<◌, List, [], ◌∷◌, ◌++◌, length, get_or, take, drop, set, replicate, slice_range, leb, Some, None}
 use Rattle.std.specs.Int.{w8, w16, w32, w64, from_le_bytes}
 use Rattle.std.proofs.Math.ListN.{get_or-eq_default}
-use Rattle.std.proofs.Common.{arith, suc-add, refl, sym, ap, ◌∙◌, add-zero, zero-add, add-one, drop-cons}
+use Rattle.std.proofs.Common.{arith, suc-add, refl, sym, ap, ◌∙◌, add-zero, zero-add, add-one, add_assoc, get_or-drop, length-drop}
 use Rattle.std.proofs.lemmas.Bool.{lt-leb}
-use Rattle.std.proofs.Math.Nat.{add-sub_cancel_left}
-use Rattle.std.proofs.lemmas.List.{drop-replicate}
+use Rattle.std.proofs.lemmas.List.{take_all, take_more_set}
 use Rattle.ebpf.specs.Choice.{no_go}
 use Rattle.ebpf.specs.LittleEndian.{le, bytes_at, le_part}
 use Rattle.ebpf.specs.Instructions.{slot_at, insn_at}
 
-pub whole : (n : ℕ) (s : List ℕ) (at : ℕ) → at + n ≤ length s → take n (drop at s) ≡ bytes_at n s at
-unfolding bytes_at
-whole zero s at h = refl
-whole (suc n) s at h = rw (drop-cons s at 0 (omega arith), ← add-one at) (ap (λ (l : List ℕ). get_or s at 0 ∷ l) (whole n s (at + 1) (omega arith)))
-
-pub past : (n : ℕ) (s : List ℕ) (at : ℕ) → (0 < n → length s ≤ at) → replicate n 0 ≡ bytes_at n s at
+-- past the end stand zeros
+pub past : (n : ℕ) (s : List ℕ) (at : ℕ) → length s ≤ at → replicate n 0 ≡ bytes_at n s at
 unfolding bytes_at
 past zero s at h = refl
-past (suc n) s at h =
-    let out : length s ≤ at = h (omega arith) in
-    rw (get_or-eq_default s 0 out, ← past n s (at + 1) (λ _. omega arith)) refl
+past (suc n) s at h = rw (get_or-eq_default s 0 h, ← past n s (at + 1) (omega arith)) refl
 
-parts : (h k : ℕ) (s : List ℕ) (at : ℕ) → bytes_at (h + k) s at ≡ bytes_at h s at ++ bytes_at k s (at + h)
+-- no byte, and one byte more
+pub none_yet : (s : List ℕ) (at : ℕ) → [] ≡ bytes_at 0 s at
 unfolding bytes_at
-parts zero k s at = simp (zero-add, add-zero)
-parts (suc h) k s at =
-    let step : at + suc h ≡ at + 1 + h = omega arith in
-    rw (suc-add, step, parts h k s (at + 1)) refl
+none_yet s at = refl
 
--- the bytes up to the end of s, and zeros for the rest of n
-pub cut : (n h : ℕ) (s : List ℕ) (at : ℕ) → h ≡ min n (length s - at) → at < length s → take (at + h - at) (drop at s) ++ drop h (replicate n 0) ≡ bytes_at n s at
-cut n h s at e l =
-    let all : n ≡ h + (n - h) = omega arith in
-    let front = whole h s at (omega arith) in
-    let back = past (n - h) s (at + h) (λ (more : 0 < n - h). omega arith) in
-    rw (add-sub_cancel_left at h, drop-replicate {X = ℕ} h n 0, front, back) (sym (ap (λ (m : ℕ). bytes_at m s at) all ∙ parts h (n - h) s at))
+more : (n : ℕ) (s : List ℕ) (at : ℕ) → bytes_at (n + 1) s at ≡ bytes_at n s at ++ get_or s (at + n) 0 ∷ []
+unfolding bytes_at
+more zero s at = rw add-zero refl
+more (suc n) s at =
+    let step : at + suc n ≡ at + 1 + n = omega arith in
+    let next = more n s (at + 1) in
+    rw (step, suc-add, next) refl
+
+pub one_more : (i y : ℕ) (s xs : List ℕ) → i < length xs → take i xs ≡ bytes_at i s 0 → y ≡ get_or s i 0 → take (i + 1) (set xs i y) ≡ bytes_at (i + 1) s 0
+one_more i y s xs h so_far e = take_more_set xs i y h ∙ rw (so_far, e, more i s 0, zero-add) refl
+
+-- the bytes of what is left from a place on
+rest : (n k : ℕ) (s : List ℕ) (at : ℕ) → bytes_at n (drop k s) at ≡ bytes_at n s (k + at)
+unfolding bytes_at
+rest zero k s at = refl
+rest (suc n) k s at = rw (get_or-drop k s at 0, rest n k s (at + 1), add_assoc) refl
+
+pub from_rest : (n at : ℕ) (s part bytes : List ℕ) → part ≡ slice_range s at (length s) → bytes ≡ bytes_at n part 0 → bytes ≡ bytes_at n s at
+from_rest n at s part bytes e is =
+    let all : take (length s - at) (drop at s) ≡ drop at s = take_all (length s - at) (drop at s) (simp length-drop (omega arith)) in
+    is ∙ rw (e, all, rest n at s 0, add-zero) refl
+
+-- the first bytes of a list that has them
+pub whole : (n : ℕ) (s : List ℕ) → n ≤ length s → take n s ≡ bytes_at n s 0
+unfolding bytes_at
+whole zero s h = refl
+whole (suc n) [] h = absurd (omega arith)
+whole (suc n) (x ∷ s) h = ap (λ (l : List ℕ). x ∷ l) (whole n s (omega arith) ∙ rest n 1 (x ∷ s) 0)
 
 pub number_8 : (s : List ℕ) (at : ℕ) → from_le_bytes w8 (bytes_at 1 s at) ≡ le 1 s at
 unfolding le bytes_at

@@ -25,15 +25,13 @@ pub const CALL_IMM: u8 = 0x85;
 pub fn hash_symbol_name(name: &[u8]) -> u32
     ensures { result ≡ murmur3 name.now }
 {
-    let len = name.len();
-    let mut h: u32 = 0;
-    let mut i: usize = 0;
-    while 4 <= len - i {
-        h = murmur3::mixed(h, little_endian::read(name, i));
-        i += 4;
+    let (blocks, tail) = name.as_chunks();
+    let mut h = 0;
+    for block in blocks {
+        h = murmur3::mixed(h, u32::from_le_bytes(*block));
     }
-    let t = h ^ murmur3::scrambled(little_endian::read(name, i));
-    murmur3::fmix(t ^ ((len % 0x1_0000_0000) as u32))
+    h ^= murmur3::scrambled(little_endian::read(tail, 0));
+    murmur3::fmix(h ^ (name.len() % 0x1_0000_0000) as u32)
 }
 
 // An instruction slot. `off` and `imm` are signed in the Rust: here they are the two's complement

@@ -3,32 +3,29 @@
 ghost use Rattle.std.specs.Prelude.{◌≡◌, ℕ, List, length};
 ghost use Rattle.ebpf.specs.LittleEndian.{le, bytes_at};
 
-// The bytes at a place that the end of the slice cuts, with zeros past the end.
-#[cold]
-fn cut_bytes<const N: usize>(s: &[u8], at: usize) -> [u8; N]
-    ensures { result ≡ bytes_at N s.now at }
+// The first bytes of a slice that may have fewer, with zeros past its end.
+fn padded<const N: usize>(s: &[u8]) -> [u8; N]
+    ensures { result ≡ bytes_at N s.now 0 }
 {
-    let mut bytes = [0u8; N];
-    if at < s.len() {
-        let held = N.min(s.len() - at);
-        bytes[..held].copy_from_slice(&s[at..at + held]);
+    let mut bytes = [0; N];
+    for i in 0..N {
+        bytes[i] = s.get(i).copied().unwrap_or(0);
     }
     bytes
 }
 
-// The bytes at a place, as many as the array has. Where all lie inside, LLVM makes one load of them.
-#[inline]
+// The bytes from a place on, with zeros past the end. Where the slice has them all, LLVM makes one
+// load of them.
 fn bytes_at<const N: usize>(s: &[u8], at: usize) -> [u8; N]
     ensures { result ≡ bytes_at N s.now at }
 {
-    if at <= s.len() {
-        if N <= s.len() - at {
-            if let Ok(bytes) = <[u8; N]>::try_from(&s[at..at + N]) {
-                return bytes;
-            }
-        }
+    let Some(rest) = s.get(at..) else {
+        return [0; N];
+    };
+    match rest.first_chunk() {
+        Some(bytes) => *bytes,
+        None => padded(rest),
     }
-    cut_bytes(s, at)
 }
 
 // An unsigned number that is read from its bytes, the lowest first.
@@ -77,7 +74,6 @@ impl LittleEndian for u64 {
 }
 
 // The number at a place, of the type that the caller asks for.
-#[inline]
 pub fn read<T: LittleEndian>(s: &[u8], at: usize) -> T
     ensures { result ≡ T.number_at s.now at }
 {

@@ -11,7 +11,7 @@ use crate::layout::Layout;
 use crate::program_headers::{Mapped, header_for_vaddr};
 use crate::records::{Entries, Sliced, slice_from_bytes, symbol_table_in};
 use crate::types::{phdr_at, shdr_at};
-use ebpf::little_endian::{read_u32, read_u64};
+use ebpf::little_endian::read;
 
 // Where the header tables stand: offsets and counts, as the file header has them.
 #[derive(Clone, Copy)]
@@ -50,9 +50,9 @@ fn field_at(file: &[u8], at: usize, wide: bool) -> u64
     ensures { result ≡ field wide file.now at }
 {
     if wide {
-        return read_u64(file, at);
+        return read(file, at);
     }
-    read_u32(file, at) as u64
+    read::<u32>(file, at) as u64
 }
 
 // The first of `count` entries of `width` bytes, from `from` on, whose field at `offset` is `value`.
@@ -150,11 +150,11 @@ fn dynamic_values(file: &[u8], from: usize, count: u64) -> [u64; 35]
     let mut left = count;
     let mut at = from;
     while 0 < left {
-        let d_tag = read_u64(file, at);
+        let d_tag = read::<u64>(file, at);
         if d_tag == DT_NULL {
             return values;
         }
-        let d_val = read_u64(file, at + 8);
+        let d_val = read::<u64>(file, at + 8);
         let next = with_tag(values, d_tag, d_val);
         values = next;
         at += 16;
@@ -177,7 +177,7 @@ fn relocation_offset(file: &[u8], t: Tables, vaddr: u64) -> Mapped
         Mapped::At(offset) => Mapped::At(offset),
         Mapped::Refused(r) => Mapped::Refused(r),
         Mapped::Nothing => match first_with(file, shoff, shnum, 64, 16, true, vaddr) {
-            Found::At(at) => Mapped::At(read_u64(file, at + 24)),
+            Found::At(at) => Mapped::At(read(file, at + 24)),
             Found::Nothing => Mapped::Nothing,
         },
     }

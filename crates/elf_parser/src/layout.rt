@@ -11,7 +11,7 @@ use crate::records::Entries;
 use crate::section_headers::{Ranges, check_section_headers};
 use crate::section_names::{Named, Naming, find_named};
 use crate::types::{Elf64Ehdr, file_header, shdr_at};
-use ebpf::little_endian::read_u32;
+use ebpf::little_endian::read;
 
 // Where things stand in a file: plain numbers. A section header that was found by name, or is the
 // name table's, is given by its offset in the file, 0 where there is none. The hash table of the dynamic
@@ -52,7 +52,7 @@ fn check_file(file: &[u8]) -> Check
         return Check::Refused(r);
     }
     let from = e_shoff as usize;
-    if read_u32(file, from + 4) != SHT_NULL {
+    if read::<u32>(file, from + 4) != SHT_NULL {
         return Check::Refused(ElfParserError::InvalidSectionHeader);
     }
     if let Check::Refused(r) = check_program_headers(file, e_phoff as usize, e_phnum as u64) {

@@ -7,7 +7,7 @@ use crate::error::ElfParserError;
 use crate::parts::{Place, part_of};
 use crate::strings::get_string_in_section;
 use crate::types::Elf64Shdr;
-use ebpf::little_endian::read_u32;
+use ebpf::little_endian::read;
 
 // Which of the names that the reader knows a section has.
 #[derive(Clone, Copy)]
@@ -108,7 +108,7 @@ fn place_role(role: Role, at: usize, n: Named) -> Naming
 fn name_step(file: &[u8], names: Elf64Shdr, at: usize, n: Named) -> Naming
     ensures { result ≡ name_step file.now names at n }
 {
-    let place = get_string_in_section(file, names, read_u32(file, at), SECTION_NAME_LENGTH_MAXIMUM);
+    let place = get_string_in_section(file, names, read(file, at), SECTION_NAME_LENGTH_MAXIMUM);
     match place {
         Place::Refused(r) => Naming::Refused(r),
         Place::At {

@@ -5,7 +5,7 @@ ghost use Rattle.std.specs.Prelude.{◌≡◌, ◌+◌, ◌%◌, ◌<◌, length
 ghost use Rattle.hash_table.specs.Hash.{sum_with, high_bits, without_high, hash_with, elf_hash};
 ghost use Rattle.hash_table.specs.Find.{table_at, hash_table_of, Usable, number_at, bucket_at, chain_at, name_at, carried_at, carried, link_at, walked, find_symbol};
 
-use ebpf::little_endian::read_u32;
+use ebpf::little_endian::read;
 use elf_parser::{
     Layout, Mapped, Place, Sym, dynamic_symbol, dynamic_symbol_name, file_offset, part_of, past,
     same_bytes,
@@ -100,8 +100,8 @@ fn table_at(file: &[u8], symbols: u64, at: u64) -> Table
         return Table::Bad;
     }
     let from = at as usize;
-    let nbucket = read_u32(file, from);
-    let nchain = read_u32(file, from + 4);
+    let nbucket = read::<u32>(file, from);
+    let nchain = read::<u32>(file, from + 4);
     if nbucket == 0 {
         return Table::Bad;
     }
@@ -148,7 +148,7 @@ fn number_at(file: &[u8], t: HashTable, first: u32, index: u32) -> u32
     requires { Usable (length file.now) t × (first + index < t.nbucket + t.nchain) }
     ensures { result ≡ number_at file.now t (first + index) }
 {
-    read_u32(file, t.buckets + (first as usize + index as usize) * 4)
+    read(file, t.buckets + (first as usize + index as usize) * 4)
 }
 
 // The first symbol of the bucket that a hash falls into.

@@ -1,8 +1,15 @@
 -- `ebpf::little_endian::bytes_at` meets its contract. Assumes nothing.
 use Rattle.std.proofs.Common.{arith, ◌∙◌}
-use Rattle.std.proofs.Math.Nat.{add-sub_cancel_left}
-use Rattle.ebpf.proofs.Reading.{whole}
+use Rattle.ebpf.proofs.Reading.{past, whole, from_rest}
 use Rattle.ebpf.proofs.little_endian.bytes_at.Goals as goal
 
-pub returns-in-Ok : goal.returns-in-Ok
-returns-in-Ok g c = let part = whole g.row.N c.args.s.now c.args.at (omega (arith, c.if-at-s.true, c.if-s-at.true)) in c.in-Ok.ensures.1.same ∙ rw add-sub_cancel_left part
+pub returns-in_default : goal.returns-in_default
+returns-in_default g c = past _ _ _ (omega (arith, c.in_default.ensures.lookup.0))
+
+pub returns-in-Some-first_chunk : goal.returns-in-Some-first_chunk
+returns-in-Some-first_chunk g c =
+    let first = c.in-Some-first_chunk.ensures.cases in
+    from_rest _ _ _ _ _ c.in-Some.ensures.lookup.0.2 (first.same ∙ whole _ _ first.enough)
+
+pub returns-in-None : goal.returns-in-None
+returns-in-None g c = from_rest _ _ _ _ _ c.in-Some.ensures.lookup.0.2 c.padded.ensures
