@@ -22,18 +22,18 @@ overflow_add-from c =
 
 pub returns-then-nbucket-eq0 : goal.returns-then-nbucket-eq0
 unfolding table_at ◌if◌else◌
-returns-then-nbucket-eq0 c = rw (← c.past.ensures, c.if-past.false, ← c.read_u32-nbucket.ensures, eq-eqb _ 0 c.if-nbucket-eq0.true)
+returns-then-nbucket-eq0 c = rw (← c.past.ensures, c.if-past.false, ← c.read-nbucket.ensures, eq-eqb _ 0 c.if-nbucket-eq0.true)
 
 pub returns-then-nchain-symbols : goal.returns-then-nchain-symbols
 unfolding table_at ◌if◌else◌
 returns-then-nchain-symbols c =
-    let other : not (eqb c.read_u32-nchain.result c.args.symbols) ≡ true = ne_not _ _ c.if-nchain-symbols.true in
-    rw (← c.past.ensures, c.if-past.false, ← c.read_u32-nbucket.ensures, ne_eqb _ _ c.if-nbucket-eq0.false, ← c.read_u32-nchain.ensures, other)
+    let other : not (eqb c.read-nchain.result c.args.symbols) ≡ true = ne_not _ _ c.if-nchain-symbols.true in
+    rw (← c.past.ensures, c.if-past.false, ← c.read-nbucket.ensures, ne_eqb _ _ c.if-nbucket-eq0.false, ← c.read-nchain.ensures, other)
 
 pub returns-then-past-2 : goal.returns-then-past-2
 unfolding table_at ◌if◌else◌
 returns-then-past-2 c =
-    rw (← c.past.ensures, c.if-past.false, ← c.read_u32-nbucket.ensures, ne_eqb _ 0 c.if-nbucket-eq0.false, ← c.read_u32-nchain.ensures, eq_not _ _ c.if-nchain-symbols.false, ← c.past-2.ensures, c.if-past-2.true)
+    rw (← c.past.ensures, c.if-past.false, ← c.read-nbucket.ensures, ne_eqb _ 0 c.if-nbucket-eq0.false, ← c.read-nchain.ensures, eq_not _ _ c.if-nchain-symbols.false, ← c.past-2.ensures, c.if-past-2.true)
 
 pub overflow_add-result : goal.overflow_add-result
 unfolding table_at ◌if◌else◌
@@ -43,4 +43,4 @@ overflow_add-result c =
 pub returns : goal.returns
 unfolding table_at ◌if◌else◌
 returns c =
-    rw (← c.past.ensures, c.if-past.false, ← c.read_u32-nbucket.ensures, ne_eqb _ 0 c.if-nbucket-eq0.false, ← c.read_u32-nchain.ensures, eq_not _ _ c.if-nchain-symbols.false, ← c.past-2.ensures, c.if-past-2.false)
+    rw (← c.past.ensures, c.if-past.false, ← c.read-nbucket.ensures, ne_eqb _ 0 c.if-nbucket-eq0.false, ← c.read-nchain.ensures, eq_not _ _ c.if-nchain-symbols.false, ← c.past-2.ensures, c.if-past-2.false)

@@ -10,13 +10,13 @@ loop-left-init c = (omega arith, refl)
 
 pub returns-then-d_tag-eq-DT_NULL : goal.returns-then-d_tag-eq-DT_NULL
 returns-then-d_tag-eq-DT_NULL c =
-    sym (c.loop-left.invariant.1 ∙ values_stop _ _ _ _ (sym c.read_u64-d_tag.ensures ∙ c.if-d_tag-eq-DT_NULL.true))
+    sym (c.loop-left.invariant.1 ∙ values_stop _ _ _ _ (sym c.read-d_tag.ensures ∙ c.if-d_tag-eq-DT_NULL.true))
 
 pub loop-left-preserved : goal.loop-left-preserved
 loop-left-preserved c = (
   omega arith,
-  rw (c.with_tag-next.ensures, c.read_u64-d_tag.ensures, c.read_u64-d_val.ensures)
-      (c.loop-left.invariant.1 ∙ values_next _ _ _ _ c.loop-left-test.true (λ h. c.if-d_tag-eq-DT_NULL.false (c.read_u64-d_tag.ensures ∙ h))),
+  rw (c.with_tag-next.ensures, c.read-d_tag.ensures, c.read-d_val.ensures)
+      (c.loop-left.invariant.1 ∙ values_next _ _ _ _ c.loop-left-test.true (λ h. c.if-d_tag-eq-DT_NULL.false (c.read-d_tag.ensures ∙ h))),
 )
 
 pub returns : goal.returns

@@ -3,7 +3,7 @@
 use Rattle.elf_parser.proofs.dynamic.field_at.Goals as goal
 
 pub returns-then-wide : goal.returns-then-wide
-returns-then-wide c = rw c.if-wide.true c.read_u64.ensures
+returns-then-wide c = rw c.if-wide.true c.read.ensures
 
 pub returns : goal.returns
-returns c = rw c.if-wide.false c.read_u32.ensures
+returns c = rw c.if-wide.false c.read-2.ensures

@@ -21,7 +21,7 @@ returns-in-Refused c = rw (← c.header_for_vaddr.ensures, c.in-Refused.is)
 pub returns-in-At-first_with : goal.returns-in-At-first_with
 unfolding or_section section_offset section_header
 returns-in-At-first_with c =
-    rw (← c.header_for_vaddr.ensures, c.in-Nothing.is, ← c.first_with.ensures, c.in-At-first_with.is, c.read_u64.ensures)
+    rw (← c.header_for_vaddr.ensures, c.in-Nothing.is, ← c.first_with.ensures, c.in-At-first_with.is, c.read.ensures)
 
 pub returns-in-Nothing-first_with : goal.returns-in-Nothing-first_with
 unfolding or_section section_offset section_header

@@ -41,11 +41,11 @@ pub overflow_add-from : goal.overflow_add-from
 overflow_add-from c =
     record { fits = omega (arith, placed (goal.at.overflow_add-from c).In_default-check_tables, c.well_formed.0.0) }
 
-pub returns-then-read_u32-ne-SHT_NULL : goal.returns-then-read_u32-ne-SHT_NULL
+pub returns-then-read-ne-SHT_NULL : goal.returns-then-read-ne-SHT_NULL
 unfolding file_check
-returns-then-read_u32-ne-SHT_NULL c =
+returns-then-read-ne-SHT_NULL c =
     rw (← c.file_header-h.ensures)
-    (then_go _ _ _ (header_passed (goal.at.returns-then-read_u32-ne-SHT_NULL c).In_default) (then_go _ _ _ (sym c.check_tables.ensures ∙ tables_passed (goal.at.returns-then-read_u32-ne-SHT_NULL c).In_default-check_tables) (then_stop _ _ _ (first_refused _ _ (λ e. c.if-read_u32-ne-SHT_NULL.true (c.read_u32.ensures ∙ e))))))
+    (then_go _ _ _ (header_passed (goal.at.returns-then-read-ne-SHT_NULL c).In_default) (then_go _ _ _ (sym c.check_tables.ensures ∙ tables_passed (goal.at.returns-then-read-ne-SHT_NULL c).In_default-check_tables) (then_stop _ _ _ (first_refused _ _ (λ e. c.if-read-ne-SHT_NULL.true (c.read.ensures ∙ e))))))
 
 pub check_program_headers-requires : goal.check_program_headers-requires
 check_program_headers-requires c = omega (arith, placed (goal.at.check_program_headers-requires c).In_default-check_tables)
@@ -54,7 +54,7 @@ pub returns-in-Refused-check_program_headers : goal.returns-in-Refused-check_pro
 unfolding file_check
 returns-in-Refused-check_program_headers c =
     rw (← c.file_header-h.ensures)
-    (then_go _ _ _ (header_passed (goal.at.returns-in-Refused-check_program_headers c).In_default) (then_go _ _ _ (sym c.check_tables.ensures ∙ tables_passed (goal.at.returns-in-Refused-check_program_headers c).In_default-check_tables) (then_go _ _ _ (first_passes _ _ (sym c.read_u32.ensures ∙ c.if-read_u32-ne-SHT_NULL.false)) (then_stop _ _ _ (sym c.check_program_headers.ensures ∙ c.in-Refused-check_program_headers.is)))))
+    (then_go _ _ _ (header_passed (goal.at.returns-in-Refused-check_program_headers c).In_default) (then_go _ _ _ (sym c.check_tables.ensures ∙ tables_passed (goal.at.returns-in-Refused-check_program_headers c).In_default-check_tables) (then_go _ _ _ (first_passes _ _ (sym c.read.ensures ∙ c.if-read-ne-SHT_NULL.false)) (then_stop _ _ _ (sym c.check_program_headers.ensures ∙ c.in-Refused-check_program_headers.is)))))
 
 pub overflow_add-t : goal.overflow_add-t
 overflow_add-t c = record { fits = omega (arith, placed (goal.at.overflow_add-t c).In_default-check_tables, c.well_formed.0.0) }
@@ -70,4 +70,4 @@ pub returns : goal.returns
 unfolding file_check
 returns c =
     rw (← c.file_header-h.ensures)
-    (then_go _ _ _ (header_passed (goal.at.returns c).In_default) (then_go _ _ _ (sym c.check_tables.ensures ∙ tables_passed (goal.at.returns c).In_default-check_tables) (then_go _ _ _ (first_passes _ _ (sym c.read_u32.ensures ∙ c.if-read_u32-ne-SHT_NULL.false)) (then_go _ _ _ (sym c.check_program_headers.ensures ∙ c.in_default-check_program_headers.is) c.check_section_headers.ensures))))
+    (then_go _ _ _ (header_passed (goal.at.returns c).In_default) (then_go _ _ _ (sym c.check_tables.ensures ∙ tables_passed (goal.at.returns c).In_default-check_tables) (then_go _ _ _ (first_passes _ _ (sym c.read.ensures ∙ c.if-read-ne-SHT_NULL.false)) (then_go _ _ _ (sym c.check_program_headers.ensures ∙ c.in_default-check_program_headers.is) c.check_section_headers.ensures))))

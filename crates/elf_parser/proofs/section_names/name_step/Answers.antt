@@ -5,9 +5,9 @@ use Rattle.elf_parser.proofs.section_names.name_step.Goals as goal
 
 pub returns-in-Refused : goal.returns-in-Refused
 unfolding named
-returns-in-Refused c = rw (← c.read_u32.ensures, ← c.get_string_in_section-place.ensures, c.in-Refused.is)
+returns-in-Refused c = rw (← c.read.ensures, ← c.get_string_in_section-place.ensures, c.in-Refused.is)
 
 pub returns-in-At : goal.returns-in-At
 returns-in-At c =
-    rw (← c.read_u32.ensures, ← c.get_string_in_section-place.ensures, c.place_role.ensures, c.role_of.ensures, c.part_of.ensures)
+    rw (← c.read.ensures, ← c.get_string_in_section-place.ensures, c.place_role.ensures, c.role_of.ensures, c.part_of.ensures)
     (named_at _ _ _ _ _ _ c.in-At.is)
