@@ -1,10 +1,11 @@
 -- `body` at a list: a whole block is taken, or the tail is met. Assumes nothing.
-use Rattle.std.specs.Prelude.{◌≡◌, ℕ, zero, suc, ◌+◌, ◌-◌, ◌*◌, ◌/◌, ◌%◌, ◌^◌, ◌≤◌, ◌<◌, List, [], ◌∷◌, length, get_or, take, drop, bit_xor}
+use Rattle.std.specs.Prelude.{◌≡◌, ℕ, ◌+◌, ◌*◌, ◌/◌, ◌%◌, ◌^◌, ◌≤◌, ◌<◌, List, [], ◌∷◌, length, get_or, take, drop, bit_xor}
 use Rattle.std.specs.Int.{w32, from_le_bytes}
 use Rattle.std.specs.Simd.{first_chunks}
-use Rattle.std.proofs.Common.{arith, refl, sym, ap, ◌∙◌, add_comm, zero-mul, suc-mul, length-drop, drop-drop}
+use Rattle.std.proofs.Common.{arith, refl, sym, ap, ◌∙◌, length-drop, drop-drop}
 use Rattle.std.specs.Int.Bits.{xor_zero_r}
 use Rattle.ebpf.specs.LittleEndian.{le}
+use Rattle.ebpf.proofs.Slots.{chunk_at}
 use Rattle.ebpf.specs.Murmur3.{body, mix, scramble, block, fmix32, murmur3}
 
 first : (h : ℕ) (l : List ℕ) → 4 ≤ length l → body h l ≡ body (mix h (from_le_bytes w32 (take 4 l))) (drop 4 l)
@@ -26,11 +27,6 @@ short h (a ∷ []) p = refl
 short h (a ∷ b ∷ []) p = refl
 short h (a ∷ b ∷ c ∷ []) p = refl
 short h (a ∷ b ∷ c ∷ d ∷ l) p = absurd (omega arith)
-
-chunk_at : (n k i : ℕ) (xs d : List ℕ) → i < k → get_or (first_chunks n k xs) i d ≡ take n (drop (i * n) xs)
-chunk_at n zero i xs d p = absurd (omega arith)
-chunk_at n (suc k) zero xs d p = rw zero-mul refl
-chunk_at n (suc k) (suc i) xs d p = chunk_at n k i (drop n xs) d (omega arith) ∙ rw (drop-drop (i * n) n xs, suc-mul, add_comm n (i * n)) refl
 
 -- a turn of the loop, and what follows it, in the shapes of what the calls ensure
 pub again : (s : List ℕ) (blocks : List (List ℕ)) (h i w r : ℕ)

@@ -1,4 +1,5 @@
 pub mod Reading
+pub mod Slots
 pub mod Blocks
 pub mod Rotation
 pub mod Words

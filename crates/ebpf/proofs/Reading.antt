@@ -1,13 +1,10 @@
--- The bytes and the number at a place, in the shapes in which the readers meet them. Assumes nothing.
-use Rattle.std.specs.Prelude.{◌≡◌, ℕ, zero, suc, ◌+◌, ◌-◌, ◌*◌, ◌/◌, ◌%◌, ◌≤◌, ◌<◌, List, [], ◌∷◌, ◌++◌, length, get_or, take, drop, set, replicate, slice_range, leb, Some, None}
+-- The bytes and the number at a place, in the shapes in which the reader meets them. Assumes nothing.
+use Rattle.std.specs.Prelude.{◌≡◌, ℕ, zero, suc, ◌+◌, ◌-◌, ◌≤◌, ◌<◌, List, [], ◌∷◌, ◌++◌, length, get_or, take, drop, set, replicate, slice_range}
 use Rattle.std.specs.Int.{w8, w16, w32, w64, from_le_bytes}
 use Rattle.std.proofs.Math.ListN.{get_or-eq_default}
-use Rattle.std.proofs.Common.{arith, suc-add, refl, sym, ap, ◌∙◌, add-zero, zero-add, add-one, add_assoc, get_or-drop, length-drop}
-use Rattle.std.proofs.lemmas.Bool.{lt-leb}
+use Rattle.std.proofs.Common.{arith, suc-add, refl, ap, ◌∙◌, add-zero, zero-add, add_assoc, get_or-drop, length-drop}
 use Rattle.std.proofs.lemmas.List.{take_all, take_more_set}
-use Rattle.ebpf.specs.Choice.{no_go}
-use Rattle.ebpf.specs.LittleEndian.{le, bytes_at, le_part}
-use Rattle.ebpf.specs.Instructions.{slot_at, insn_at}
+use Rattle.ebpf.specs.LittleEndian.{le, bytes_at}
 
 -- past the end stand zeros
 pub past : (n : ℕ) (s : List ℕ) (at : ℕ) → length s ≤ at → replicate n 0 ≡ bytes_at n s at
@@ -64,17 +61,3 @@ number_32 s at = omega arith
 pub number_64 : (s : List ℕ) (at : ℕ) → from_le_bytes w64 (bytes_at 8 s at) ≡ le 8 s at
 unfolding le bytes_at
 number_64 s at = omega arith
-
--- the bytes of a slot
-abbrev slot : List ℕ → ℕ → List ℕ
-slot s pc = take (8 * pc + 8 - 8 * pc) (drop (8 * pc) s)
-
--- a slot whose fields were read one by one, in the part of the text that is the slot
-pub slot_read : (s : List ℕ) (pc opc regs off imm : ℕ)
-    → pc < length s / 8 → regs ≡ le 1 (slot s pc) 1 → opc ≡ le 1 (slot s pc) 0 → off ≡ le 2 (slot s pc) 2 → imm ≡ le 4 (slot s pc) 4
-    → Some (record { opc = opc; dst = regs % 16; src = regs / 16; off = off; imm = imm }) ≡ insn_at s pc
-unfolding insn_at slot_at
-slot_read s pc opc regs off imm h er eo ef ei = no_go (leb (length s / 8) pc) None _ _ (lt-leb (length s / 8) pc h) (rw (er, eo, ef, ei, field 1 0 (omega arith), field 1 1 (omega arith), field 2 2 (omega arith), field 4 4 (omega arith), add-zero))
-  where
-    field : (k at : ℕ) → at + k ≤ 8 → le k (slot s pc) at ≡ le k s (8 * pc + at)
-    field k at l = le_part k (8 * pc + 8 - 8 * pc) (8 * pc) s at (omega arith)

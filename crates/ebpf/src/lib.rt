@@ -9,6 +9,7 @@ pub mod little_endian;
 mod murmur3;
 
 pub use index_keys::{index_key, index_key_in, key_table};
+use little_endian::read;
 
 // The e_flags of a version 2 file.
 pub const EF_SBPF_V2: u32 = 0x20;
@@ -30,13 +31,13 @@ pub fn hash_symbol_name(name: &[u8]) -> u32
     for block in blocks {
         h = murmur3::mixed(h, u32::from_le_bytes(*block));
     }
-    h ^= murmur3::scrambled(little_endian::read(tail, 0));
+    h ^= murmur3::scrambled(read(tail, 0));
     murmur3::fmix(h ^ (name.len() % 0x1_0000_0000) as u32)
 }
 
 // An instruction slot. `off` and `imm` are signed in the Rust: here they are the two's complement
 // bits that the text holds.
-#[derive(Clone, Copy)]
+#[derive(Clone, Copy, Debug, PartialEq, Eq)]
 pub struct Insn {
     pub opc: u8,
     pub dst: u8,
@@ -49,19 +50,14 @@ pub struct Insn {
 pub fn get_insn(prog: &[u8], pc: usize) -> Option<Insn>
     ensures { result ≡ insn_at prog.now pc }
 {
-    if prog.len() / INSN_SIZE <= pc {
-        return None;
-    }
-    let at = INSN_SIZE * pc;
-    // in a part of known length no field asks whether the text ends in it
-    let end = at + INSN_SIZE;
-    let slot = &prog[at..end];
-    let registers: u8 = little_endian::read(slot, 1);
+    let (slots, _) = prog.as_chunks::<INSN_SIZE>();
+    let slot = slots.get(pc)?;
+    let registers = slot[1];
     Some(Insn {
-        opc: little_endian::read(slot, 0),
+        opc: slot[0],
         dst: registers % 16,
         src: registers / 16,
-        off: little_endian::read(slot, 2),
-        imm: little_endian::read(slot, 4),
+        off: read(slot, 2),
+        imm: read(slot, 4),
     })
 }
