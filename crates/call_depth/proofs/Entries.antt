@@ -12,7 +12,7 @@ use lib.Seq.{drop-cons}
 use borrow.Author.Tests.{eq-eqb, ne_eqb}
 use Rattle.ebpf.specs.Choice.{◌if◌else◌}
 use Rattle.ebpf.specs.Instructions.{slot_at, insn_at}
-use Rattle.ebpf.specs.declared.Slot.TheVariants.{Holds, Past}
+use Rattle.std.specs.Prelude.{Some, None}
 use Rattle.ebpf.specs.LittleEndian.{le_byte}
 use Rattle.program.specs.Search.{index_of}
 use Rattle.program.proofs.Cases.{by_eq}
@@ -34,7 +34,7 @@ pub no_call : (text keys : List ℕ) (version2 : Bool) (s : ℕ) → (get_or tex
 unfolding callee_in calls_key insn_at slot_at ◌if◌else◌
 no_call text keys version2 s n = go (leb (length text / 8) s)
   where
-    go : (b : Bool) → length keys ≡ callee_by keys version2 (Past if b else Holds (slot_at text (8 * s)))
+    go : (b : Bool) → length keys ≡ callee_by keys version2 (None if b else Some (slot_at text (8 * s)))
     go true = refl
     go false = rw (le_byte text (8 * s), ne_eqb (get_or text (8 * s) 0) 0x85 n) refl
 

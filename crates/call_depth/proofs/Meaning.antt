@@ -13,8 +13,7 @@ use borrow.Author.Tests.{le-ltb, lt-leb}
 use Rattle.ebpf.specs.Choice.{◌if◌else◌}
 use Rattle.ebpf.specs.Instructions.{insn_at}
 use Rattle.ebpf.specs.declared.Insn.{Insn}
-use Rattle.ebpf.specs.declared.Slot.{Slot}
-use Rattle.ebpf.specs.declared.Slot.TheVariants.{Holds, Past}
+use Rattle.std.specs.Prelude.{Option, Some, None}
 use Rattle.program.specs.declared.FoundRow.{FoundRow}
 use Rattle.program.specs.declared.FoundRow.TheVariants.{At as AtRow, Nothing as NoRow}
 use Rattle.program.specs.Search.{index_of, binary_search}
@@ -84,8 +83,8 @@ module _ (a : Accepted) (im : List ℕ) (t : Slices) (table : IsTable t a.used) 
       (row_at t r, sym (lookups_agree t a.used table key) ∙ row_agrees t a.used table key ∙ ap (row_of_found t) e, sym (get_or-take a.used t.indices r 0 (omega (arith, used, l))) ∙ x)
 
   by_key : (insn : Insn) (j : ℕ) (b : Bool) → calls_key (eqb a.version 2) insn ≡ b
-      → callee_by (take a.used t.keys) (eqb a.version 2) (Holds insn) < P.rows
-      → P.index (callee_by (take a.used t.keys) (eqb a.version 2) (Holds insn)) ≡ j
+      → callee_by (take a.used t.keys) (eqb a.version 2) (Some insn) < P.rows
+      → P.index (callee_by (take a.used t.keys) (eqb a.version 2) (Some insn)) ≡ j
       → (calls_key (eqb a.version 2) insn ≡ true) × Finds (lookup_in t a.used) insn.imm j
   unfolding ◌if◌else◌
   by_key insn j true e l x =
@@ -93,12 +92,12 @@ module _ (a : Accepted) (im : List ℕ) (t : Slices) (table : IsTable t a.used) 
       (e, by_row insn.imm j (row_ascending_in t.keys a.used insn.imm) refl (rw (e, w) at l) (rw (e, w) at x))
   by_key insn j false e l x = absurd (let h : length (take a.used t.keys) < P.rows = rw e at l in omega (arith, many))
 
-  by_slot : (s j : ℕ) (x : Slot) → insn_at (text_of_image a im) s ≡ x
+  by_slot : (s j : ℕ) (x : Option Insn) → insn_at (text_of_image a im) s ≡ x
       → callee_by (take a.used t.keys) (eqb a.version 2) x < P.rows
       → P.index (callee_by (take a.used t.keys) (eqb a.version 2) x) ≡ j
       → SlotCalls a im t s j
-  by_slot s j Past e l x = absurd (omega (arith, many))
-  by_slot s j (Holds insn) e l x = let k = by_key insn j (calls_key (eqb a.version 2) insn) refl l x in (insn, e, k.0, k.1)
+  by_slot s j None e l x = absurd (omega (arith, many))
+  by_slot s j (Some insn) e l x = let k = by_key insn j (calls_key (eqb a.version 2) insn) refl l x in (insn, e, k.0, k.1)
 
   -- THE PROFILE'S CALLS are those that a lookup finds
   pub calls_to : (i j : ℕ) → CallsFunction P i j → FunctionCalls a im t i j

@@ -1,11 +1,9 @@
 -- Which function a slot of the image calls: by the text's bytes in the image, and the columns of keys and indices of the used rows.
-use Rattle.std.specs.Prelude.{ℕ, ◌/◌, ◌<◌, ◌≡◌, Bool, ◌&&◌, not, List, length, eqb}
+use Rattle.std.specs.Prelude.{ℕ, ◌/◌, ◌<◌, ◌≡◌, Bool, ◌&&◌, not, List, length, eqb, Option, Some, None}
 use Rattle.std.specs.Borrow.{Bor}
 use Rattle.ebpf.specs.Choice.{◌if◌else◌}
 use Rattle.ebpf.specs.Instructions.{insn_at}
 use Rattle.ebpf.specs.declared.Insn.{Insn}
-use Rattle.ebpf.specs.declared.Slot.{Slot}
-use Rattle.ebpf.specs.declared.Slot.TheVariants.{Holds, Past}
 use Rattle.program.specs.declared.FoundRow.{FoundRow}
 use Rattle.program.specs.declared.FoundRow.TheVariants.{At, Nothing}
 use Rattle.program.specs.Table.{Shared, row_ascending_in}
@@ -24,9 +22,9 @@ row_or rows Nothing = rows
 abbrev pub row_under : List ℕ → ℕ → ℕ
 row_under keys key = row_or (length keys) (row_ascending_in keys (length keys) key)
 
-abbrev pub callee_by : List ℕ → Bool → Slot → ℕ
-callee_by keys version2 Past = length keys
-callee_by keys version2 (Holds insn) = row_under keys insn.imm if calls_key version2 insn else length keys
+abbrev pub callee_by : List ℕ → Bool → Option Insn → ℕ
+callee_by keys version2 None = length keys
+callee_by keys version2 (Some insn) = row_under keys insn.imm if calls_key version2 insn else length keys
 
 -- the row that slot number s calls; as many as there are rows where it is no call, or its key finds none
 unfoldable pub callee_in : List ℕ → List ℕ → Bool → ℕ → ℕ

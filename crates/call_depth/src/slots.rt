@@ -4,7 +4,7 @@ ghost use Rattle.call_graph.specs.Marks.{Slots, always};
 ghost use Rattle.call_graph.specs.Words.{Scan};
 ghost use Rattle.call_depth.specs.Called.{calls_key, row_under, callee_by, callee_in, slots_in};
 
-use ebpf::{CALL_IMM, Insn, Slot, get_insn};
+use ebpf::{CALL_IMM, Insn, get_insn};
 use program::{FoundRow, row_ascending};
 
 // In the word of a row whose depth is not known yet.
@@ -49,17 +49,12 @@ fn row_under(keys: &[u32], key: u32) -> usize
     }
 }
 
-fn callee_by(keys: &[u32], version2: bool, slot: Slot) -> usize
+fn callee_by(keys: &[u32], version2: bool, slot: Option<Insn>) -> usize
     ensures { result ≡ callee_by keys.now version2 slot }
 {
     match slot {
-        Slot::Past => keys.len(),
-        Slot::Holds(insn) => {
-            if calls_key(version2, insn) {
-                return row_under(keys, insn.imm);
-            }
-            keys.len()
-        }
+        Some(insn) if calls_key(version2, insn) => row_under(keys, insn.imm),
+        _ => keys.len(),
     }
 }
 

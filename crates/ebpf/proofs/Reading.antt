@@ -1,44 +1,63 @@
--- A number at a place, in the shapes in which the readers meet it. Assumes nothing.
-use mathlib.Core.Path.{◌≡◌, sym}
-use mathlib.Core.List.{List}
-use Prim.Native.Nat.{ℕ, ◌+◌, ◌-◌, ◌*◌, ◌/◌, ◌%◌, ◌≤◌, ◌<◌}
-use native.Mathlib.Omega.{arith}
-use native.Mathlib.Nat.{add-zero}
-use lib.ListN.{length, get_or, take, drop}
-use lib.Dec.{leb}
-use borrow.Author.Tests.{lt-leb}
-use Rattle.ebpf.specs.Choice.{no_go}
-use Rattle.ebpf.specs.LittleEndian.{le, join, le_byte, le_join, le_past, le_part}
-use Rattle.ebpf.specs.Instructions.{slot_at, insn_at}
-use Rattle.ebpf.specs.declared.Slot.TheVariants.{Holds, Past}
+-- The bytes and the number at a place, in the shapes in which the reader meets them. Assumes nothing.
+use Rattle.std.specs.Prelude.{◌≡◌, ℕ, zero, suc, ◌+◌, ◌-◌, ◌≤◌, ◌<◌, List, [], ◌∷◌, ◌++◌, length, get_or, take, drop, set, replicate, slice_range}
+use Rattle.std.specs.Int.{w8, w16, w32, w64, from_le_bytes}
+use Rattle.std.proofs.Math.ListN.{get_or-eq_default}
+use Rattle.std.proofs.Common.{arith, suc-add, refl, ap, ◌∙◌, add-zero, zero-add, add_assoc, get_or-drop, length-drop}
+use Rattle.std.proofs.lemmas.List.{take_all, take_more_set}
+use Rattle.ebpf.specs.LittleEndian.{le, bytes_at}
 
--- the bytes of a slot
-abbrev slot : List ℕ → ℕ → List ℕ
-slot s pc = take (8 * pc + 8 - 8 * pc) (drop (8 * pc) s)
+-- past the end stand zeros
+pub past : (n : ℕ) (s : List ℕ) (at : ℕ) → length s ≤ at → replicate n 0 ≡ bytes_at n s at
+unfolding bytes_at
+past zero s at h = refl
+past (suc n) s at h = rw (get_or-eq_default s 0 h, ← past n s (at + 1) (omega arith)) refl
 
-pub past : (k : ℕ) (s : List ℕ) (at : ℕ) → length s ≤ at → 0 ≡ le k s at
-past k s at h = sym (le_past k s at h)
+-- no byte, and one byte more
+pub none_yet : (s : List ℕ) (at : ℕ) → [] ≡ bytes_at 0 s at
+unfolding bytes_at
+none_yet s at = refl
 
--- a number of two halves of k bytes
-pub halves : (k : ℕ) (s : List ℕ) (at a b r : ℕ) → a ≡ le k s at → b ≡ le k s (at + k) → r ≡ join k a b → r ≡ le (k + k) s at
-halves k s at a b r ea eb er = rw (le_join k k s at, ← ea, ← eb) er
+more : (n : ℕ) (s : List ℕ) (at : ℕ) → bytes_at (n + 1) s at ≡ bytes_at n s at ++ get_or s (at + n) 0 ∷ []
+unfolding bytes_at
+more zero s at = rw add-zero refl
+more (suc n) s at =
+    let step : at + suc n ≡ at + 1 + n = omega arith in
+    let next = more n s (at + 1) in
+    rw (step, suc-add, next) refl
 
-pub two_bytes : (s : List ℕ) (at r : ℕ) → r ≡ join 1 (get_or s at 0) (get_or s (at + 1) 0) → r ≡ le 2 s at
-two_bytes s at r e = halves 1 s at _ _ r (sym (le_byte s at)) (sym (le_byte s (at + 1))) e
+pub one_more : (i y : ℕ) (s xs : List ℕ) → i < length xs → take i xs ≡ bytes_at i s 0 → y ≡ get_or s i 0 → take (i + 1) (set xs i y) ≡ bytes_at (i + 1) s 0
+one_more i y s xs h so_far e = take_more_set xs i y h ∙ rw (so_far, e, more i s 0, zero-add) refl
 
--- the last byte, with a zero past the end
-pub cut_byte : (s : List ℕ) (at r : ℕ) → at < length s → length s - at < 2 → r ≡ join 1 (get_or s at 0) 0 → r ≡ le 2 s at
-cut_byte s at r p q e = halves 1 s at _ _ r (sym (le_byte s at)) (past 1 s (at + 1) (omega arith)) e
+-- the bytes of what is left from a place on
+rest : (n k : ℕ) (s : List ℕ) (at : ℕ) → bytes_at n (drop k s) at ≡ bytes_at n s (k + at)
+unfolding bytes_at
+rest zero k s at = refl
+rest (suc n) k s at = rw (get_or-drop k s at 0, rest n k s (at + 1), add_assoc) refl
 
-pub byte : (s : List ℕ) (at : ℕ) → get_or s at 0 ≡ le 1 s at
-byte s at = sym (le_byte s at)
+pub from_rest : (n at : ℕ) (s part bytes : List ℕ) → part ≡ slice_range s at (length s) → bytes ≡ bytes_at n part 0 → bytes ≡ bytes_at n s at
+from_rest n at s part bytes e is =
+    let all : take (length s - at) (drop at s) ≡ drop at s = take_all (length s - at) (drop at s) (simp length-drop (omega arith)) in
+    is ∙ rw (e, all, rest n at s 0, add-zero) refl
 
--- a slot whose fields were read one by one, in the part of the text that is the slot
-pub slot_read : (s : List ℕ) (pc opc regs off imm : ℕ)
-    → pc < length s / 8 → regs ≡ le 1 (slot s pc) 1 → opc ≡ le 1 (slot s pc) 0 → off ≡ le 2 (slot s pc) 2 → imm ≡ le 4 (slot s pc) 4
-    → Holds (record { opc = opc; dst = regs % 16; src = regs / 16; off = off; imm = imm }) ≡ insn_at s pc
-unfolding insn_at slot_at
-slot_read s pc opc regs off imm h er eo ef ei = no_go (leb (length s / 8) pc) Past _ _ (lt-leb (length s / 8) pc h) (rw (er, eo, ef, ei, field 1 0 (omega arith), field 1 1 (omega arith), field 2 2 (omega arith), field 4 4 (omega arith), add-zero))
-  where
-    field : (k at : ℕ) → at + k ≤ 8 → le k (slot s pc) at ≡ le k s (8 * pc + at)
-    field k at l = le_part k (8 * pc + 8 - 8 * pc) (8 * pc) s at (omega arith)
+-- the first bytes of a list that has them
+pub whole : (n : ℕ) (s : List ℕ) → n ≤ length s → take n s ≡ bytes_at n s 0
+unfolding bytes_at
+whole zero s h = refl
+whole (suc n) [] h = absurd (omega arith)
+whole (suc n) (x ∷ s) h = ap (λ (l : List ℕ). x ∷ l) (whole n s (omega arith) ∙ rest n 1 (x ∷ s) 0)
+
+pub number_8 : (s : List ℕ) (at : ℕ) → from_le_bytes w8 (bytes_at 1 s at) ≡ le 1 s at
+unfolding le bytes_at
+number_8 s at = omega arith
+
+pub number_16 : (s : List ℕ) (at : ℕ) → from_le_bytes w16 (bytes_at 2 s at) ≡ le 2 s at
+unfolding le bytes_at
+number_16 s at = omega arith
+
+pub number_32 : (s : List ℕ) (at : ℕ) → from_le_bytes w32 (bytes_at 4 s at) ≡ le 4 s at
+unfolding le bytes_at
+number_32 s at = omega arith
+
+pub number_64 : (s : List ℕ) (at : ℕ) → from_le_bytes w64 (bytes_at 8 s at) ≡ le 8 s at
+unfolding le bytes_at
+number_64 s at = omega arith

@@ -1,10 +1,9 @@
 -- A table that lists a function's values from 0 on, and what stands at a place of it. Assumes nothing.
-use mathlib.Core.Path.{◌≡◌, refl, sym, ◌∙◌}
-use mathlib.Core.List.{List, [], ◌∷◌}
-use Prim.Native.Nat.{ℕ, zero, suc, ◌+◌, ◌<◌, ◌≤◌}
+use mathlib.Core.Path.{◌≡◌, refl}
+use mathlib.Core.List.{List, []}
+use Prim.Native.Nat.{ℕ, zero, suc, ◌+◌}
 use native.Mathlib.Nat.{add-zero, zero-add, add-suc, suc-add}
-use native.Mathlib.Omega.{arith}
-use lib.ListN.{length, get_or, get_or-eq_default}
+use lib.ListN.{get_or}
 use Rattle.ebpf.specs.IndexKeys.{values, first_keys, index_key, key_in}
 
 -- past the list the default is the value too
@@ -22,17 +21,3 @@ key_in_lem table n i e = rw e (simp zero-add at (from index_key n 0 i))
 pub key_in_none : (i : ℕ) → key_in [] i ≡ index_key i
 unfolding key_in
 key_in_none i = refl
-
--- what a table answers, in the shapes of the code
-pub inside : (table : List ℕ) (i : ℕ) → i < length table → get_or table i 0 ≡ key_in table i
-unfolding key_in
-inside table i h = other table i h
-  where
-    other : (t : List ℕ) (k : ℕ) → k < length t → get_or t k 0 ≡ get_or t k (index_key i)
-    other [] k p = absurd (omega arith)
-    other (x ∷ t) zero p = refl
-    other (x ∷ t) (suc k) p = other t k (omega arith)
-
-pub outside : (table : List ℕ) (i r : ℕ) → length table ≤ i → r ≡ index_key i → r ≡ key_in table i
-unfolding key_in
-outside table i r h e = e ∙ sym (get_or-eq_default table (index_key i) h)

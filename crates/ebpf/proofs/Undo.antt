@@ -1,11 +1,13 @@
 -- The hash's steps on a word of 32 bits, each with a left inverse. Assumes nothing.
-use mathlib.Core.Path.{◌≡◌, refl, sym, ap, ap₂, ◌∙◌}
-use Prim.Native.Nat.{ℕ, zero, suc, ◌+◌, ◌*◌, ◌/◌, ◌%◌, ◌^◌, ◌≤◌, ◌<◌}
-use native.Mathlib.Nat.{mul_comm, mul_assoc, mul_right_comm, mul-one, add-mul, mod-lt, mod-eq_of_lt, mul-add-mod_self_right, div-add-mod', div-eq_of_lt, lt_of_lt_of_le, lt_of_le_of_lt, mul-lt-mul_of_pos_right, div-lt_iff_lt-mul}
+use mathlib.Core.Path.{◌≡◌, sym, ap, ap₂, ◌∙◌}
+use Prim.Native.Nat.{ℕ, ◌+◌, ◌*◌, ◌/◌, ◌%◌, ◌^◌, ◌≤◌, ◌<◌}
+use native.Mathlib.Nat.{mul_comm, mul_assoc, mul-one, add-mul, mod-lt, mod-eq_of_lt, div-eq_of_lt, lt_of_lt_of_le, lt_of_le_of_lt, mul-lt-mul_of_pos_right, div-lt_iff_lt-mul}
 use native.Mathlib.Omega.{arith}
-use lib.Arith.{bin_ind, digits_lt, digits_mod}
+use lib.Arith.{digits_lt, digits_mod}
 use lib.Pow.{pow_mono, pow_pos, split, high, shr-shr, shr_le}
-use lib.Bits.{bit_xor, xor_shr, xor_mod, xor_self, xor_zero_r, xor_lt}
+use lib.Bits.{bit_xor, xor_shr, xor_self, xor_zero_r, xor_lt}
+use Rattle.std.specs.Int.Bits.{xor_assoc}
+use Rattle.std.proofs.lemmas.Nat.{mul-mod_first, mul-mod_second}
 use Rattle.ebpf.specs.Murmur3.{times, plus, fold}
 
 -- f takes words to words, and back undoes it
@@ -27,23 +29,13 @@ injective u x y hx hy e = sym (u.undone x hx) ∙ ap u.back e ∙ u.undone y hy
 
 -- ---- a product, with a constant that has an inverse
 
-mul_mod : (a b m : ℕ) → a % m * b % m ≡ a * b % m
-mul_mod a b m =
-    sym
-    (ap (λ x. x * b % m) (sym (div-add-mod' a m)) ∙ ap (λ x. x % m) (add-mul (a / m * m) (a % m) b)
-    ∙ ap (λ x. (x + a % m * b) % m) (mul_right_comm (a / m) m b)
-    ∙ mul-add-mod_self_right (a / m * b) m (a % m * b))
-
-mod_mul : (a b m : ℕ) → a * (b % m) % m ≡ a * b % m
-mod_mul a b m = rw (mul_comm a (b % m), mul_mod b a m, mul_comm b a)
-
 pub times_undo : (c d : ℕ) → c * d % 2 ^ 32 ≡ 1 → Undo (times c)
 times_undo c d e =
     record {
       back = times d;
       stays = λ x h. mod-lt (x * c) (pow_pos 32);
       undone = λ x h.
-          mul_mod (x * c) d (2 ^ 32) ∙ ap (λ y. y % 2 ^ 32) (mul_assoc x c d) ∙ sym (mod_mul x (c * d) (2 ^ 32)) ∙ ap (λ y. x * y % 2 ^ 32) e
+          mul-mod_first (x * c) d (2 ^ 32) ∙ ap (λ y. y % 2 ^ 32) (mul_assoc x c d) ∙ sym (mul-mod_second x (c * d) (2 ^ 32)) ∙ ap (λ y. x * y % 2 ^ 32) e
           ∙ ap (λ y. y % 2 ^ 32) (mul-one x)
           ∙ mod-eq_of_lt h;
     }
@@ -77,31 +69,7 @@ rotl_undo j k e = record { back = rotl k j; stays = λ x h. rw (moved x, ← e) 
     top : (x : ℕ) → x < 2 ^ 32 → x / 2 ^ k < 2 ^ j
     top x h = (div-lt_iff_lt-mul (pow_pos k)).1 (rw e' h)
 
--- ---- xor is associative: by halves, and on bits by cases
-
-bits_assoc : (x y z : ℕ) → x < 2 → y < 2 → z < 2 → bit_xor (bit_xor x y) z ≡ bit_xor x (bit_xor y z)
-bits_assoc zero y z hx hy hz = refl
-bits_assoc (suc zero) zero z hx hy hz = refl
-bits_assoc (suc zero) (suc zero) zero hx hy hz = refl
-bits_assoc (suc zero) (suc zero) (suc zero) hx hy hz = refl
-bits_assoc (suc zero) (suc zero) (suc (suc z)) hx hy hz = absurd (omega arith)
-bits_assoc (suc zero) (suc (suc y)) z hx hy hz = absurd (omega arith)
-bits_assoc (suc (suc x)) y z hx hy hz = absurd (omega arith)
-
-by_halves : (a b : ℕ) → a / 2 ≡ b / 2 → a % 2 ≡ b % 2 → a ≡ b
-by_halves a b p q = omega arith
-
-xor_assoc : (a b c : ℕ) → bit_xor (bit_xor a b) c ≡ bit_xor a (bit_xor b c)
-xor_assoc a =
-    bin_ind (λ n. (b c : ℕ) → bit_xor (bit_xor n b) c ≡ bit_xor n (bit_xor b c)) (λ b c. refl)
-    (λ n ih b c.
-    by_halves (bit_xor (bit_xor n b) c) (bit_xor n (bit_xor b c))
-    (xor_shr (bit_xor n b) c 1 ∙ ap (λ x. bit_xor x (c / 2)) (xor_shr n b 1) ∙ ih (b / 2) (c / 2) ∙ ap (bit_xor (n / 2)) (sym (xor_shr b c 1)) ∙ sym (xor_shr n (bit_xor b c) 1))
-    (xor_mod (bit_xor n b) c 1 ∙ ap (λ x. bit_xor x (c % 2)) (xor_mod n b 1)
-    ∙ bits_assoc (n % 2) (b % 2) (c % 2) (omega arith) (omega arith) (omega arith)
-    ∙ ap (bit_xor (n % 2)) (sym (xor_mod b c 1))
-    ∙ sym (xor_mod n (bit_xor b c) 1)))
-    a
+-- ---- xor, twice the same
 
 pub xor_undo : (c : ℕ) → c < 2 ^ 32 → Undo (λ x. bit_xor x c)
 xor_undo c hc =

@@ -16,6 +16,3 @@ upper n h = omega arith
 pub key : (n : ℕ) → n < 2 ^ 64 → key_of (n % 2 ^ 32) (n / 2 ^ 32) ≡ index_key n
 unfolding index_key bytes_of murmur3 body
 key n h = ap₂ key_of (word n) (upper n h ∙ word (n / 256 / 256 / 256 / 256))
-
-pub from_words : (n r : ℕ) → n < 2 ^ 64 → r ≡ key_of (n % 2 ^ 32) (n / 2 ^ 32) → r ≡ index_key n
-from_words n r h e = e ∙ key n h

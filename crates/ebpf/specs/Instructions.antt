@@ -1,10 +1,8 @@
 -- Instruction slots of a text: 8 bytes each.
-use Rattle.std.specs.Prelude.{ℕ, ◌+◌, ◌*◌, ◌/◌, ◌%◌, List, length, leb}
+use Rattle.std.specs.Prelude.{ℕ, ◌+◌, ◌*◌, ◌/◌, ◌%◌, List, length, leb, Option, Some, None}
 use Rattle.ebpf.specs.Choice.{◌if◌else◌}
 use Rattle.ebpf.specs.LittleEndian.{le}
 use Rattle.ebpf.specs.declared.Insn.{Insn}
-use Rattle.ebpf.specs.declared.Slot.{Slot}
-use Rattle.ebpf.specs.declared.Slot.TheVariants.{Holds, Past}
 
 -- the slot at a byte of the text: opcode; destination in the low nibble and source in the high one; offset; immediate.
 -- Offset and immediate are two's complement bits: an immediate n from 2 ^ 31 on stands for n - 2 ^ 32
@@ -18,6 +16,6 @@ slot_at s at =
       imm = le 4 s (at + 4);
     }
 
--- the slot number pc; `Past` where the text has no more than pc whole slots
-unfoldable pub insn_at : List ℕ → ℕ → Slot
-insn_at s pc = Past if leb (length s / 8) pc else Holds (slot_at s (8 * pc))
+-- the slot number pc; `None` where the text has no more than pc whole slots
+unfoldable pub insn_at : List ℕ → ℕ → Option Insn
+insn_at s pc = None if leb (length s / 8) pc else Some (slot_at s (8 * pc))

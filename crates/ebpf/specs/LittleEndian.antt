@@ -9,6 +9,11 @@ unfoldable pub le : ℕ → List ℕ → ℕ → ℕ
 le zero s at = 0
 le (suc k) s at = get_or s at 0 + 256 * le k s (at + 1)
 
+-- the k bytes at `at` in s; past the end of s stand zeros
+unfoldable pub bytes_at : ℕ → List ℕ → ℕ → List ℕ
+bytes_at zero s at = []
+bytes_at (suc k) s at = get_or s at 0 ∷ bytes_at k s (at + 1)
+
 -- a number of two halves, the lower one of k bytes
 abbrev pub join : ℕ → ℕ → ℕ → ℕ
 join k a b = a + 256 ^ k * b

@@ -15,6 +15,7 @@ fn key_of(lo: u32, hi: u32) -> u32
 }
 
 // The key of an index, worked out without a table.
+#[tactic(auto, using(crate::proofs::Words::key))]
 pub fn index_key(index: u64) -> u32
     ensures { result ≡ index_key index }
 {
@@ -26,13 +27,14 @@ pub fn index_key(index: u64) -> u32
 
 // The key of an index from a lent table, and past its end worked out. With the table of `key_table`
 // this is the key for every index.
+#[tactic(auto, unfolding(crate::specs::IndexKeys::key_in))]
 pub fn index_key_in(table: &[u32], index: u64) -> u32
     ensures { result ≡ key_in table.now index }
 {
-    if index < table.len() as u64 {
-        return table[index as usize];
+    match table.get(index as usize) {
+        Some(&key) => key,
+        None => index_key(index),
     }
-    index_key(index)
 }
 
 // The keys of the first indices. A constant array is copied at each use: a caller makes this table

@@ -9,6 +9,7 @@ pub mod little_endian;
 mod murmur3;
 
 pub use index_keys::{index_key, index_key_in, key_table};
+use little_endian::read;
 
 // The e_flags of a version 2 file.
 pub const EF_SBPF_V2: u32 = 0x20;
@@ -25,20 +26,18 @@ pub const CALL_IMM: u8 = 0x85;
 pub fn hash_symbol_name(name: &[u8]) -> u32
     ensures { result ≡ murmur3 name.now }
 {
-    let len = name.len();
-    let mut h: u32 = 0;
-    let mut i: usize = 0;
-    while 4 <= len - i {
-        h = murmur3::mixed(h, little_endian::whole_u32(name, i));
-        i += 4;
+    let (blocks, tail) = name.as_chunks();
+    let mut h = 0;
+    for block in blocks {
+        h = murmur3::mixed(h, u32::from_le_bytes(*block));
     }
-    let t = h ^ murmur3::scrambled(little_endian::read_u32(name, i));
-    murmur3::fmix(t ^ ((len % 0x1_0000_0000) as u32))
+    h ^= murmur3::scrambled(read(tail, 0));
+    murmur3::fmix(h ^ (name.len() % 0x1_0000_0000) as u32)
 }
 
 // An instruction slot. `off` and `imm` are signed in the Rust: here they are the two's complement
 // bits that the text holds.
-#[derive(Clone, Copy)]
+#[derive(Clone, Copy, Debug, PartialEq, Eq)]
 pub struct Insn {
     pub opc: u8,
     pub dst: u8,
@@ -47,30 +46,18 @@ pub struct Insn {
     pub imm: u32,
 }
 
-#[derive(Clone, Copy)]
-pub enum Slot {
-    Holds(Insn),
-    // The index is past the last whole slot.
-    Past,
-}
-
-// The slot number `pc` of a text.
-pub fn get_insn(prog: &[u8], pc: usize) -> Slot
+// The slot number `pc` of a text; none where the text has no more than `pc` whole slots.
+pub fn get_insn(prog: &[u8], pc: usize) -> Option<Insn>
     ensures { result ≡ insn_at prog.now pc }
 {
-    if prog.len() / INSN_SIZE <= pc {
-        return Slot::Past;
-    }
-    let at = INSN_SIZE * pc;
-    // in a part of known length no field asks whether the text ends in it
-    let end = at + INSN_SIZE;
-    let slot = &prog[at..end];
-    let registers = little_endian::read_u8(slot, 1);
-    Slot::Holds(Insn {
-        opc: little_endian::read_u8(slot, 0),
+    let (slots, _) = prog.as_chunks::<INSN_SIZE>();
+    let slot = slots.get(pc)?;
+    let registers = slot[1];
+    Some(Insn {
+        opc: slot[0],
         dst: registers % 16,
         src: registers / 16,
-        off: little_endian::read_u16(slot, 2),
-        imm: little_endian::read_u32(slot, 4),
+        off: read(slot, 2),
+        imm: read(slot, 4),
     })
 }

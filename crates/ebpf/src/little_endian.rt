@@ -1,92 +1,81 @@
 // Little-endian numbers of a slice of bytes. A read past the end finds zeros there, so that no
 // read demands anything; a caller that must refuse such a place compares with the length first.
-ghost use Rattle.std.specs.Prelude.{◌≡◌, ◌+◌, ◌≤◌, length};
-ghost use Rattle.ebpf.specs.LittleEndian.{le, join};
+ghost use Rattle.std.specs.Prelude.{◌≡◌, ℕ, List, length};
+ghost use Rattle.ebpf.specs.LittleEndian.{le, bytes_at};
 
-fn join_u16(a: u8, b: u8) -> u16
-    ensures { result ≡ join 1 a b }
+// The first bytes of a slice that may have fewer, with zeros past its end.
+fn padded<const N: usize>(s: &[u8]) -> [u8; N]
+    ensures { result ≡ bytes_at N s.now 0 }
 {
-    (a as u16) + (b as u16) * 0x100
-}
-
-fn join_u32(a: u16, b: u16) -> u32
-    ensures { result ≡ join 2 a b }
-{
-    (a as u32) + (b as u32) * 0x1_0000
-}
-
-fn join_u64(a: u32, b: u32) -> u64
-    ensures { result ≡ join 4 a b }
-{
-    (a as u64) + (b as u64) * 0x1_0000_0000
-}
-
-// The next three are for places that are known to lie inside: LLVM makes one load of each.
-fn whole_u16(s: &[u8], at: usize) -> u16
-    requires { at + 2 ≤ length s.now }
-    ensures { result ≡ le 2 s.now at }
-{
-    join_u16(s[at], s[at + 1])
-}
-
-pub(crate) fn whole_u32(s: &[u8], at: usize) -> u32
-    requires { at + 4 ≤ length s.now }
-    ensures { result ≡ le 4 s.now at }
-{
-    join_u32(whole_u16(s, at), whole_u16(s, at + 2))
-}
-
-fn whole_u64(s: &[u8], at: usize) -> u64
-    requires { at + 8 ≤ length s.now }
-    ensures { result ≡ le 8 s.now at }
-{
-    join_u64(whole_u32(s, at), whole_u32(s, at + 4))
-}
-
-pub fn read_u8(s: &[u8], at: usize) -> u8
-    ensures { result ≡ le 1 s.now at }
-{
-    if s.len() <= at {
-        return 0;
+    let mut bytes = [0; N];
+    for i in 0..N {
+        bytes[i] = s.get(i).copied().unwrap_or(0);
     }
-    s[at]
+    bytes
 }
 
-pub fn read_u16(s: &[u8], at: usize) -> u16
-    ensures { result ≡ le 2 s.now at }
+// The bytes from a place on, with zeros past the end. Where the slice has them all, LLVM makes one
+// load of them.
+fn bytes_at<const N: usize>(s: &[u8], at: usize) -> [u8; N]
+    ensures { result ≡ bytes_at N s.now at }
 {
-    let len = s.len();
-    if len <= at {
-        return 0;
+    let Some(rest) = s.get(at..) else {
+        return [0; N];
+    };
+    match rest.first_chunk() {
+        Some(bytes) => *bytes,
+        None => padded(rest),
     }
-    if len - at < 2 {
-        return join_u16(s[at], 0);
-    }
-    whole_u16(s, at)
 }
 
-pub fn read_u32(s: &[u8], at: usize) -> u32
-    ensures { result ≡ le 4 s.now at }
-{
-    let len = s.len();
-    if len <= at {
-        return 0;
-    }
-    if len - at < 4 {
-        return join_u32(read_u16(s, at), read_u16(s, at + 2));
-    }
-    whole_u32(s, at)
+// An unsigned number that is read from its bytes, the lowest first.
+pub trait LittleEndian: Copy {
+    // The number at a place of the bytes.
+    ghost number_at: { List ℕ → ℕ → Self };
+
+    fn read(s: &[u8], at: usize) -> Self
+        ensures { result ≡ number_at s.now at };
 }
 
-pub fn read_u64(s: &[u8], at: usize) -> u64
-    ensures { result ≡ le 8 s.now at }
+impl LittleEndian for u8 {
+    ghost number_at = { le 1 };
+
+    #[tactic(auto, using(crate::proofs::Reading::number_8))]
+    fn read(s: &[u8], at: usize) -> u8 {
+        u8::from_le_bytes(bytes_at(s, at))
+    }
+}
+
+impl LittleEndian for u16 {
+    ghost number_at = { le 2 };
+
+    #[tactic(auto, using(crate::proofs::Reading::number_16))]
+    fn read(s: &[u8], at: usize) -> u16 {
+        u16::from_le_bytes(bytes_at(s, at))
+    }
+}
+
+impl LittleEndian for u32 {
+    ghost number_at = { le 4 };
+
+    #[tactic(auto, using(crate::proofs::Reading::number_32))]
+    fn read(s: &[u8], at: usize) -> u32 {
+        u32::from_le_bytes(bytes_at(s, at))
+    }
+}
+
+impl LittleEndian for u64 {
+    ghost number_at = { le 8 };
+
+    #[tactic(auto, using(crate::proofs::Reading::number_64))]
+    fn read(s: &[u8], at: usize) -> u64 {
+        u64::from_le_bytes(bytes_at(s, at))
+    }
+}
+
+// The number at a place, of the type that the caller asks for.
+pub fn read<T: LittleEndian>(s: &[u8], at: usize) -> T
+    ensures { result ≡ T.number_at s.now at }
 {
-    let len = s.len();
-    if len <= at {
-        return 0;
-    }
-    if len - at < 8 {
-        return join_u64(read_u32(s, at), read_u32(s, at + 4));
-    }
-    whole_u64(s, at)
+    T::read(s, at)
 }

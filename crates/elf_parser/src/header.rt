@@ -3,7 +3,7 @@ ghost use Rattle.std.specs.Prelude.{◌≡◌};
 ghost use Rattle.elf_parser.specs.FileHeader.{header_right, header_check, tables_check};
 
 use crate::error::ElfParserError;
-use ebpf::little_endian::{read_u8, read_u16, read_u32};
+use ebpf::little_endian::read;
 
 // Whether the fields of the file header are those of a file that is read here. The tests are
 // joined by & and not by &&: so they make no branches, and the proof has no cases.
@@ -11,15 +11,15 @@ use ebpf::little_endian::{read_u8, read_u16, read_u32};
 fn header_right(file: &[u8]) -> bool
     ensures { result ≡ header_right file.now }
 {
-    (read_u32(file, 0) == 0x464c_457f)
-        & (read_u8(file, 4) == 2)
-        & (read_u8(file, 5) == 1)
-        & (read_u8(file, 6) == 1)
-        & (read_u32(file, 20) == 1)
-        & (read_u16(file, 52) == 64)
-        & (read_u16(file, 54) == 56)
-        & (read_u16(file, 58) == 64)
-        & (read_u16(file, 62) < read_u16(file, 60))
+    (read::<u32>(file, 0) == 0x464c_457f)
+        & (read::<u8>(file, 4) == 2)
+        & (read::<u8>(file, 5) == 1)
+        & (read::<u8>(file, 6) == 1)
+        & (read::<u32>(file, 20) == 1)
+        & (read::<u16>(file, 52) == 64)
+        & (read::<u16>(file, 54) == 56)
+        & (read::<u16>(file, 58) == 64)
+        & (read::<u16>(file, 62) < read::<u16>(file, 60))
 }
 
 #[tactic(auto, using(ebpf::specs::Choice::choices), unfolding(crate::specs::FileHeader::header_check))]

@@ -5,7 +5,7 @@ ghost use Rattle.elf_parser.specs.Types.{file_header, program_header, section_he
 ghost use Rattle.elf_parser.specs.Fields.{program_header_part, section_header_part, sym_part, rel_part, rela_part, dynamic_part};
 
 use crate::records::Entries;
-use ebpf::little_endian::{read_u8, read_u16, read_u32, read_u64};
+use ebpf::little_endian::read;
 
 #[derive(Clone, Copy)]
 pub struct Elf64Ehdr {
@@ -74,16 +74,16 @@ pub fn file_header(file: &[u8]) -> Elf64Ehdr
     ensures { result ≡ file_header file.now }
 {
     Elf64Ehdr {
-        ei_osabi: read_u8(file, 7),
-        e_type: read_u16(file, 16),
-        e_machine: read_u16(file, 18),
-        e_entry: read_u64(file, 24),
-        e_phoff: read_u64(file, 32),
-        e_shoff: read_u64(file, 40),
-        e_flags: read_u32(file, 48),
-        e_phnum: read_u16(file, 56),
-        e_shnum: read_u16(file, 60),
-        e_shstrndx: read_u16(file, 62),
+        ei_osabi: read(file, 7),
+        e_type: read(file, 16),
+        e_machine: read(file, 18),
+        e_entry: read(file, 24),
+        e_phoff: read(file, 32),
+        e_shoff: read(file, 40),
+        e_flags: read(file, 48),
+        e_phnum: read(file, 56),
+        e_shnum: read(file, 60),
+        e_shstrndx: read(file, 62),
     }
 }
 
@@ -118,11 +118,11 @@ impl Record for Elf64Phdr {
     #[tactic(auto, unfolding(crate::specs::Types::program_header))]
     fn read(part: &[u8]) -> Elf64Phdr {
         Elf64Phdr {
-            p_type: read_u32(part, 0),
-            p_offset: read_u64(part, 8),
-            p_vaddr: read_u64(part, 16),
-            p_filesz: read_u64(part, 32),
-            p_memsz: read_u64(part, 40),
+            p_type: read(part, 0),
+            p_offset: read(part, 8),
+            p_vaddr: read(part, 16),
+            p_filesz: read(part, 32),
+            p_memsz: read(part, 40),
         }
     }
 
@@ -143,12 +143,12 @@ impl Record for Elf64Shdr {
     #[tactic(auto, unfolding(crate::specs::Types::section_header))]
     fn read(part: &[u8]) -> Elf64Shdr {
         Elf64Shdr {
-            sh_name: read_u32(part, 0),
-            sh_type: read_u32(part, 4),
-            sh_flags: read_u64(part, 8),
-            sh_addr: read_u64(part, 16),
-            sh_offset: read_u64(part, 24),
-            sh_size: read_u64(part, 32),
+            sh_name: read(part, 0),
+            sh_type: read(part, 4),
+            sh_flags: read(part, 8),
+            sh_addr: read(part, 16),
+            sh_offset: read(part, 24),
+            sh_size: read(part, 32),
         }
     }
 
@@ -169,9 +169,9 @@ impl Record for Elf64Sym {
     #[tactic(auto, unfolding(crate::specs::Types::sym))]
     fn read(part: &[u8]) -> Elf64Sym {
         Elf64Sym {
-            st_name: read_u32(part, 0),
-            st_info: read_u8(part, 4),
-            st_value: read_u64(part, 8),
+            st_name: read(part, 0),
+            st_info: read(part, 4),
+            st_value: read(part, 8),
         }
     }
 
@@ -192,8 +192,8 @@ impl Record for Elf64Rel {
     #[tactic(auto, unfolding(crate::specs::Types::rel))]
     fn read(part: &[u8]) -> Elf64Rel {
         Elf64Rel {
-            r_offset: read_u64(part, 0),
-            r_info: read_u64(part, 8),
+            r_offset: read(part, 0),
+            r_info: read(part, 8),
         }
     }
 
@@ -214,9 +214,9 @@ impl Record for Elf64Rela {
     #[tactic(auto, unfolding(crate::specs::Types::rela))]
     fn read(part: &[u8]) -> Elf64Rela {
         Elf64Rela {
-            r_offset: read_u64(part, 0),
-            r_info: read_u64(part, 8),
-            r_addend: read_u64(part, 16),
+            r_offset: read(part, 0),
+            r_info: read(part, 8),
+            r_addend: read(part, 16),
         }
     }
 
@@ -237,8 +237,8 @@ impl Record for Elf64Dyn {
     #[tactic(auto, unfolding(crate::specs::Types::dynamic))]
     fn read(part: &[u8]) -> Elf64Dyn {
         Elf64Dyn {
-            d_tag: read_u64(part, 0),
-            d_val: read_u64(part, 8),
+            d_tag: read(part, 0),
+            d_val: read(part, 8),
         }
     }
 

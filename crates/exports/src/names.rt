@@ -3,7 +3,7 @@ ghost use Rattle.std.specs.Prelude.{◌≡◌, ◌+◌, ◌≤◌, ◌<◌, leng
 ghost use Rattle.exports.specs.Answers.{written};
 ghost use Rattle.exports.specs.Names.{piece_of, left_behind, Starts, Named, refusal_name};
 
-use ebpf::little_endian::read_u8;
+use ebpf::little_endian::read;
 
 // Fills a slice: the bytes, as many as there is room for, and zeros behind them.
 fn fill_bytes(to: &mut [u8], bytes: &[u8])
@@ -11,7 +11,7 @@ fn fill_bytes(to: &mut [u8], bytes: &[u8])
 {
     let mut i = 0;
     while i < to.len() {
-        to[i] = read_u8(bytes, i);
+        to[i] = read(bytes, i);
         i += 1;
     }
 }

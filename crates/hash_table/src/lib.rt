@@ -7,7 +7,7 @@ ghost use Rattle.hash_table.specs.Find.{table_at, hash_table_of, Usable, number_
 
 use std::ops::ControlFlow;
 
-use ebpf::little_endian::read_u32;
+use ebpf::little_endian::read;
 use elf_parser::{
     ElfParserError, Layout, Place, bytes_at, dynamic_symbol, dynamic_symbol_name, file_offset, past,
 };
@@ -75,8 +75,8 @@ fn table_at(file: &[u8], symbols: u64, at: u64) -> Result<HashTable, BadHashTabl
         return Err(BadHashTable);
     }
     let from = at as usize;
-    let nbucket = read_u32(file, from);
-    let nchain = read_u32(file, from + 4);
+    let nbucket = read::<u32>(file, from);
+    let nchain = read::<u32>(file, from + 4);
     if nbucket == 0 {
         return Err(BadHashTable);
     }
@@ -122,7 +122,7 @@ fn number_at(file: &[u8], t: HashTable, first: u32, index: u32) -> u32
     requires { Usable (length file.now) t × (first + index < t.nbucket + t.nchain) }
     ensures { result ≡ number_at file.now t (first + index) }
 {
-    read_u32(file, t.buckets + (first as usize + index as usize) * 4)
+    read(file, t.buckets + (first as usize + index as usize) * 4)
 }
 
 // The first symbol of the bucket that a hash falls into.

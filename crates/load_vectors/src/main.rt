@@ -3,7 +3,7 @@
 // each on standard output. tools/differential/src/bin/vectors.rs made both and has the format;
 // README.md says how. What a case is lent are parts of arrays of fixed lengths, filled with
 // anything but zeros, so that what a load should clear and does not changes a hash of the line.
-use ebpf::little_endian::read_u32;
+use ebpf::little_endian::read;
 use input::read_full;
 use lines::print_line;
 use loader::{Config, load};
@@ -57,16 +57,16 @@ fn read_head(input: &mut impl Read) -> io::Result<Head> {
         return Ok(Head::Cut);
     }
     Ok(Head::Case(Sizes {
-        file: read_u32(&bytes, 0) as usize,
-        settings: read_u32(&bytes, 4),
-        builtins: read_u32(&bytes, 8) as usize,
-        image: read_u32(&bytes, 12) as usize,
-        ro_section: read_u32(&bytes, 16) as usize,
-        keys: read_u32(&bytes, 20) as usize,
-        indices: read_u32(&bytes, 24) as usize,
-        kinds: read_u32(&bytes, 28) as usize,
-        starts: read_u32(&bytes, 32) as usize,
-        lengths: read_u32(&bytes, 36) as usize,
+        file: read::<u32>(&bytes, 0) as usize,
+        settings: read(&bytes, 4),
+        builtins: read::<u32>(&bytes, 8) as usize,
+        image: read::<u32>(&bytes, 12) as usize,
+        ro_section: read::<u32>(&bytes, 16) as usize,
+        keys: read::<u32>(&bytes, 20) as usize,
+        indices: read::<u32>(&bytes, 24) as usize,
+        kinds: read::<u32>(&bytes, 28) as usize,
+        starts: read::<u32>(&bytes, 32) as usize,
+        lengths: read::<u32>(&bytes, 36) as usize,
     }))
 }
 
@@ -95,7 +95,7 @@ fn read_whole(input: &mut impl Read, bytes: &mut [u8]) -> io::Result<bool> {
 // The numbers that the bytes hold.
 fn fill_keys(keys: &mut [u32], bytes: &[u8]) {
     for (key, number) in keys.iter_mut().zip(bytes.chunks_exact(4)) {
-        *key = read_u32(number, 0);
+        *key = read(number, 0);
     }
 }
 

@@ -12,7 +12,7 @@ use Rattle.ebpf.specs.Choice.{◌if◌else◌, not_first}
 use Rattle.ebpf.specs.LittleEndian.{le, le_byte}
 use Rattle.ebpf.specs.Instructions.{slot_at, insn_at}
 use Rattle.ebpf.specs.declared.Insn.{Insn}
-use Rattle.ebpf.specs.declared.Slot.TheVariants.{Holds}
+use Rattle.std.specs.Prelude.{Some}
 use Rattle.program.specs.Table.{Slices}
 use Rattle.program.proofs.Cases.{zero_one}
 use Rattle.program.specs.declared.Legacy.{Legacy}
@@ -44,7 +44,7 @@ unfolding call_deed
 call_fits_in file builtins j i n h = by_fits builtins j i n (call_at (text_of file j) j.version2 i) h
 
 -- a slot that is there is one of the text's whole slots
-pub whole_slot : (text : List ℕ) (i : ℕ) (insn : Insn) → insn_at text i ≡ Holds insn → i < length text / 8
+pub whole_slot : (text : List ℕ) (i : ℕ) (insn : Insn) → insn_at text i ≡ Some insn → i < length text / 8
 unfolding insn_at
 whole_slot text i insn e = leb-false _ _ (not_first _ _ _ _ (λ p. zero_one (cc)) e)
 

@@ -8,8 +8,8 @@ use lib.ListN.{length, drop, length-take, length-drop}
 use lib.Dec.{ltb}
 use Rattle.ebpf.specs.Choice.{◌if◌else◌, row_cases}
 use Rattle.ebpf.specs.Instructions.{insn_at}
-use Rattle.ebpf.specs.declared.Slot.{Slot}
-use Rattle.ebpf.specs.declared.Slot.TheVariants.{Holds, Past}
+use Rattle.ebpf.specs.declared.Insn.{Insn}
+use Rattle.std.specs.Prelude.{Option, Some, None as NoInsn}
 use Rattle.ebpf.proofs.Injective.{key_lt}
 use Rattle.program.specs.declared.Row.{Row}
 use Rattle.program.specs.declared.FunctionName.TheVariants.{OfIndex}
@@ -41,16 +41,16 @@ target_lt count i imm to =
     (λ g e. absurd (zero_one (cc)))
     (λ g e. inside_lt count (i + 1 + imm - 0x1_0000_0000) to e))
 
-in_lt : (count : ℕ) (version2 : Bool) (i to : ℕ) (s : Slot) → call_in count version2 i s ≡ To to → to < count
+in_lt : (count : ℕ) (version2 : Bool) (i to : ℕ) (s : Option Insn) → call_in count version2 i s ≡ To to → to < count
 unfolding call_of
-in_lt count version2 i to Past e = absurd (zero_one (cc))
-in_lt count version2 i to (Holds insn) e = target_lt count i insn.imm to (row_cases _ _ _ _ _ (λ h q. q) (λ h q. absurd (zero_one (cc))) e)
+in_lt count version2 i to NoInsn e = absurd (zero_one (cc))
+in_lt count version2 i to (Some insn) e = target_lt count i insn.imm to (row_cases _ _ _ _ _ (λ h q. q) (λ h q. absurd (zero_one (cc))) e)
 
 -- what calls a target is a local call, and a local call calls something
-local_in : (count : ℕ) (version2 : Bool) (i to : ℕ) (s : Slot) → call_in count version2 i s ≡ To to → local_call_in version2 s ≡ true
+local_in : (count : ℕ) (version2 : Bool) (i to : ℕ) (s : Option Insn) → call_in count version2 i s ≡ To to → local_call_in version2 s ≡ true
 unfolding call_of
-local_in count version2 i to Past e = absurd (zero_one (cc))
-local_in count version2 i to (Holds insn) e = row_cases _ _ _ _ _ (λ h q. h) (λ h q. absurd (zero_one (cc))) e
+local_in count version2 i to NoInsn e = absurd (zero_one (cc))
+local_in count version2 i to (Some insn) e = row_cases _ _ _ _ _ (λ h q. h) (λ h q. absurd (zero_one (cc))) e
 
 not_none : (count i imm : ℕ) → target count i imm ≡ None → ⊥
 unfolding target inside ◌if◌else◌
@@ -66,10 +66,10 @@ not_none count i imm =
     in_out : (u : ℕ) → inside count u ≡ None → ⊥
     in_out u = by_lt u count (λ (b : Bool). (To u if b else Outside) ≡ None → ⊥) (λ l e. zero_one (cc)) (λ l e. zero_one (cc))
 
-some_in : (count : ℕ) (version2 : Bool) (i : ℕ) (s : Slot) → local_call_in version2 s ≡ true → call_in count version2 i s ≡ None → ⊥
+some_in : (count : ℕ) (version2 : Bool) (i : ℕ) (s : Option Insn) → local_call_in version2 s ≡ true → call_in count version2 i s ≡ None → ⊥
 unfolding call_of ◌if◌else◌
-some_in count version2 i Past h e = true≢false (sym h)
-some_in count version2 i (Holds insn) h e = not_none count i insn.imm (rw h at e)
+some_in count version2 i NoInsn h e = true≢false (sym h)
+some_in count version2 i (Some insn) h e = not_none count i insn.imm (rw h at e)
 
 pub calls_local : (file : List ℕ) (j : Job) (i to : ℕ) → CallsTo file j i to → LocalCall file j i
 unfolding call_at

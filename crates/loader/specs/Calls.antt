@@ -9,8 +9,7 @@ use borrow.Author.Tests.{eq-eqb, ne_eqb}
 use Rattle.ebpf.specs.Choice.{◌if◌else◌}
 use Rattle.ebpf.specs.Instructions.{insn_at}
 use Rattle.ebpf.specs.declared.Insn.{Insn}
-use Rattle.ebpf.specs.declared.Slot.{Slot}
-use Rattle.ebpf.specs.declared.Slot.TheVariants.{Holds, Past}
+use Rattle.std.specs.Prelude.{Option, Some, None as NoInsn}
 use Rattle.program.specs.declared.FunctionName.TheVariants.{OfIndex}
 use Rattle.program.specs.declared.Legacy.{Legacy}
 use Rattle.program.specs.declared.Legacy.TheVariants.{Free, Taken}
@@ -42,13 +41,13 @@ is_local_call version2 insn = eqb insn.opc 0x85 && (not (eqb insn.imm 0xffff_fff
 unfoldable pub call_of : ℕ → Bool → ℕ → Insn → Call
 call_of count version2 i insn = target count i insn.imm if is_local_call version2 insn else None
 
-abbrev pub local_call_in : Bool → Slot → Bool
-local_call_in version2 Past = false
-local_call_in version2 (Holds insn) = is_local_call version2 insn
+abbrev pub local_call_in : Bool → Option Insn → Bool
+local_call_in version2 NoInsn = false
+local_call_in version2 (Some insn) = is_local_call version2 insn
 
-abbrev pub call_in : ℕ → Bool → ℕ → Slot → Call
-call_in count version2 i Past = None
-call_in count version2 i (Holds insn) = call_of count version2 i insn
+abbrev pub call_in : ℕ → Bool → ℕ → Option Insn → Call
+call_in count version2 i NoInsn = None
+call_in count version2 i (Some insn) = call_of count version2 i insn
 
 -- what slot number i of a text calls
 unfoldable pub call_at : List ℕ → Bool → ℕ → Call

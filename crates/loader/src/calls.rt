@@ -10,7 +10,7 @@ use crate::deeds::{Outcome, enter_alike, store_u32};
 use crate::error::ElfError;
 use crate::read_only::copy_bytes;
 use crate::validate::Job;
-use ebpf::{CALL_IMM, Insn, Slot, get_insn};
+use ebpf::{CALL_IMM, Insn, get_insn};
 use program::{FunctionName, Row, is_taken, kept_name, legacy_key};
 
 // What a slot calls.
@@ -69,8 +69,8 @@ fn call_at(text: &[u8], version2: bool, i: usize) -> Call
     ensures { result ≡ call_at text.now version2 i }
 {
     match get_insn(text, i) {
-        Slot::Past => Call::None,
-        Slot::Holds(insn) => call_of((text.len() / 8) as u64, version2, i as u64, insn),
+        Some(insn) => call_of((text.len() / 8) as u64, version2, i as u64, insn),
+        None => Call::None,
     }
 }
 

@@ -14,7 +14,7 @@ use crate::deeds::Deed;
 use crate::error::ElfError;
 use crate::functions::{row_for, symbol_function};
 use crate::validate::Job;
-use ebpf::little_endian::{read_u32, read_u64};
+use ebpf::little_endian::read;
 use ebpf::{MM_PROGRAM_START, hash_symbol_name};
 use elf_parser::types::Elf64Sym;
 use elf_parser::{
@@ -318,7 +318,7 @@ fn plan_64_64(
         len,
         split,
         at,
-        addend_or(addend, read_u32(image, at as usize) as u64),
+        addend_or(addend, read::<u32>(image, at as usize) as u64),
         number,
     )
 }
@@ -371,15 +371,15 @@ fn plan_relative(image: &[u8], version2: bool, in_text: bool, r: u64, addend: Ad
     if in_text {
         let high = immediate_at(saturating_add(r, 8));
         let address = join_halves(
-            read_u32(image, low as usize),
-            read_u32(image, high as usize),
+            read(image, low as usize),
+            read(image, high as usize),
         );
         return relative_text(len, low, high, addend_or(addend, address));
     }
     let value = relative_value(
         version2,
-        addend_or(addend, read_u32(image, low as usize) as u64),
-        addend_or(addend, read_u64(image, r as usize)),
+        addend_or(addend, read::<u32>(image, low as usize) as u64),
+        addend_or(addend, read(image, r as usize)),
     );
     word_deed(len, r, value)
 }

@@ -3,7 +3,7 @@
 // each row, and the words of the image that are not the file's, with their places. The line of a
 // question: `refused` likewise, or how many bytes and where they start, or whether there is a symbol and
 // its number, or who wrote a byte.
-use ebpf::little_endian::read_u32;
+use ebpf::little_endian::read;
 use std::io;
 
 // The longest file, and the most rows.
@@ -50,8 +50,8 @@ fn print_rows(
 
 // The word at a place of the image, where the file has another one.
 fn print_changed(rt: &impl Print, file: &[u8], image: &[u8; FILE], at: usize) -> io::Result<()> {
-    let word = read_u32(image, at);
-    if word != read_u32(file, at) {
+    let word = read::<u32>(image, at);
+    if word != read::<u32>(file, at) {
         print!(rt; ", {word} at {at}")?;
     }
     Ok(())

@@ -7,7 +7,7 @@
 // the rows, what is asked, 0 for a load, and the number that a question has; and the file. Question 5, for
 // a symbol by its name, has the name behind the file, and its length as the number; question 6 asks who wrote
 // the byte with that number. What is lent holds anything but zeros before.
-use ebpf::little_endian::read_u32;
+use ebpf::little_endian::read;
 use exports::{
     sbpf_dynamic_symbol_name, sbpf_find_symbol, sbpf_load, sbpf_load_who_wrote, sbpf_section_name,
     sbpf_section_place, sbpf_symbol_name, sbpf_who_wrote, sbpf_who_wrote_all,
@@ -166,15 +166,15 @@ fn run_load(
     count: usize,
     question: u32,
 ) -> io::Result<bool> {
-    let builtins = [read_u32(numbers, 12)];
+    let builtins = [read::<u32>(numbers, 12)];
     if 6 < question || 1 < count {
         return bad_record(rt);
     }
     let builtins = &builtins[..count];
-    let settings = read_u32(numbers, 4);
-    let rows = read_u32(numbers, 16) as usize;
+    let settings = read::<u32>(numbers, 4);
+    let rows = read::<u32>(numbers, 16) as usize;
     if question == 6 {
-        let offset = read_u32(numbers, 24) as u64;
+        let offset = read::<u32>(numbers, 24) as u64;
         return load_and_print_wrote(rt, file, builtins, settings, rows, offset);
     }
     load_and_print(rt, file, builtins, settings, rows)
@@ -188,15 +188,15 @@ fn run(
     file: &mut [u8],
     name: &mut [u8],
 ) -> io::Result<bool> {
-    let length = read_u32(numbers, 0) as usize;
+    let length = read::<u32>(numbers, 0) as usize;
     if file.len() < length {
         return bad_record(rt);
     }
     read_full(input, &mut file[..length])?;
     let file = &file[..length];
-    let count = read_u32(numbers, 8) as usize;
-    let number = read_u32(numbers, 24);
-    match read_u32(numbers, 20) {
+    let count = read::<u32>(numbers, 8) as usize;
+    let number = read::<u32>(numbers, 24);
+    match read::<u32>(numbers, 20) {
         5 => find_and_print(rt, input, file, name, number as usize),
         question @ 1..=4 => ask_and_print(rt, file, question, number),
         question => run_load(rt, numbers, file, count, question),

@@ -5,7 +5,7 @@ ghost use Rattle.writers.specs.Asked.{Askable};
 
 use crate::Writer;
 use crate::text::Text;
-use ebpf::{Slot, get_insn};
+use ebpf::get_insn;
 use loader::is_local_call;
 
 // Whether slot number `i` of the text is, in the file, a local call.
@@ -15,10 +15,7 @@ pub(crate) fn is_call(file: &[u8], text: Text, i: usize) -> bool
 {
     let start = text.start;
     let end = start + text.length;
-    match get_insn(&file[start..end], i) {
-        Slot::Past => false,
-        Slot::Holds(insn) => is_local_call(text.version2, insn),
-    }
+    get_insn(&file[start..end], i).is_some_and(|insn| is_local_call(text.version2, insn))
 }
 
 // Where a slot's immediate starts: it has the last four bytes of eight.

@@ -15,7 +15,7 @@ loop-i-init c = (search rules, refl, so_far_start _ _)
 
 pub loop-i-preserved : goal.loop-i-preserved
 loop-i-preserved c =
-    (search rules, simp length-set c.loop-i.invariant.1, rw (c.loop-i.invariant.2, c.read_u8.ensures, le_byte, add-one) (so_far_turn _ _ _ (omega arith)))
+    (search rules, simp length-set c.loop-i.invariant.1, rw (c.loop-i.invariant.2, c.read.ensures, le_byte, add-one) (so_far_turn _ _ _ (omega arith)))
 
 pub returns : goal.returns
 returns c =

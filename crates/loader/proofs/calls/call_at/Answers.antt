@@ -8,12 +8,12 @@ use Rattle.loader.proofs.calls.call_at.Goals as goal
 
 pub call_of-requires : goal.call_of-requires
 unfolding call_at
-call_of-requires c = let h = whole_slot _ _ _ (sym c.get_insn.ensures ∙ c.in-Holds.is) in (omega arith, omega arith)
+call_of-requires c = let h = whole_slot _ _ _ (sym c.get_insn.ensures ∙ c.in-Some.is) in (omega arith, omega arith)
 
-pub returns-in-Past : goal.returns-in-Past
+pub returns-in-None : goal.returns-in-None
 unfolding call_at
-returns-in-Past c = rw (← c.get_insn.ensures, c.in-Past.is)
+returns-in-None c = rw (← c.get_insn.ensures, c.in-None.is)
 
-pub returns-in-Holds : goal.returns-in-Holds
+pub returns-in-Some : goal.returns-in-Some
 unfolding call_at
-returns-in-Holds c = rw (← c.get_insn.ensures, c.in-Holds.is) c.call_of.ensures
+returns-in-Some c = rw (← c.get_insn.ensures, c.in-Some.is) c.call_of.ensures
