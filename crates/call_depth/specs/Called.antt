@@ -1,13 +1,11 @@
 -- Which function a slot of the image calls: by the text's bytes in the image, and the columns of keys and indices of the used rows.
-use Rattle.std.specs.Prelude.{ℕ, ◌/◌, ◌<◌, ◌≡◌, Bool, ◌&&◌, not, List, length, eqb}
+use Rattle.std.specs.Prelude.{ℕ, ◌/◌, ◌<◌, ◌≡◌, Bool, ◌&&◌, not, List, length, eqb, Option, Some, None}
 use Rattle.std.specs.Borrow.{Bor}
 use Rattle.ebpf.specs.Choice.{◌if◌else◌}
 use Rattle.ebpf.specs.Instructions.{insn_at}
 use Rattle.ebpf.specs.declared.Insn.{Insn}
 use Rattle.ebpf.specs.declared.Slot.{Slot}
 use Rattle.ebpf.specs.declared.Slot.TheVariants.{Holds, Past}
-use Rattle.program.specs.declared.FoundRow.{FoundRow}
-use Rattle.program.specs.declared.FoundRow.TheVariants.{At, Nothing}
 use Rattle.program.specs.Table.{Shared, row_ascending_in}
 use Rattle.call_graph.specs.Profile.{Profile, next_above, nth_of}
 
@@ -16,9 +14,9 @@ unfoldable pub calls_key : Bool → Insn → Bool
 calls_key version2 insn = eqb insn.opc 0x85 && not (version2 && eqb insn.src 0)
 
 -- the number of a row, or of all rows where none was found
-abbrev pub row_or : ℕ → FoundRow → ℕ
-row_or rows (At r) = r
-row_or rows Nothing = rows
+abbrev pub row_or : ℕ → Option ℕ → ℕ
+row_or rows (Some r) = r
+row_or rows None = rows
 
 -- the row under a key
 abbrev pub row_under : List ℕ → ℕ → ℕ

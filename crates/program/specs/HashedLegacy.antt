@@ -59,10 +59,14 @@ is_taken builtins version2 check key = false if version2 else is_among key built
 abbrev pub row_of : ℕ → ℕ → KeptName → Row
 row_of k i name = record { key = k; index = i; kind = name.kind; start = name.start; length = name.length }
 
+-- what a registration comes to: the row to register, or the key that a built-in has
+abbrev pub LegacyResult : Type 0
+LegacyResult = Result Row SymbolHashCollision
+
 abbrev pub collision : ℕ → SymbolHashCollision
 collision k = record { key = k }
 
-unfoldable pub legacy_row : List ℕ → List ℕ → Bool → Bool → Bool → FunctionName → ℕ → Result Row SymbolHashCollision
+unfoldable pub legacy_row : List ℕ → List ℕ → Bool → Bool → Bool → FunctionName → ℕ → LegacyResult
 legacy_row table builtins version2 check labels name index =
     Err (collision (legacy_key table version2 name index)) if is_taken builtins version2 check (legacy_key table version2 name index)
     else Ok (row_of (legacy_key table version2 name index) index (kept_name labels name))
