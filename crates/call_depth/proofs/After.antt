@@ -9,17 +9,14 @@ use native.Mathlib.Omega.{arith}
 use lib.ListN.{length, get_or, take, replicate, length-append, length-replicate}
 use lib.Seq.{length-take-le, get_or-take}
 use borrow.Author.Tests.{le-leb, lt-ltb, le-ltb, eq-eqb}
+use Rattle.std.specs.Prelude.{Option, Some, None, Ok, Err}
 use Rattle.ebpf.specs.Choice.{◌if◌else◌}
 use Rattle.program.specs.declared.Row.{Row}
-use Rattle.program.specs.declared.Found.TheVariants.{At}
 use Rattle.program.specs.declared.FunctionName.{FunctionName}
 use Rattle.program.specs.declared.FunctionName.TheVariants.{Entrypoint}
-use Rattle.program.specs.declared.Legacy.TheVariants.{Free, Taken}
-use Rattle.program.specs.declared.FoundRow.{FoundRow}
-use Rattle.program.specs.declared.FoundRow.TheVariants.{At as AtRow, Nothing as NoRow}
 use Rattle.program.specs.Search.{index_of}
 use Rattle.program.specs.Table.{Slices, Lent, Shared, table_before, table_after, least, capacity, lookup_in, row_ascending_in, row_of_found, row_at, Ready as IsTable}
-use Rattle.program.specs.HashedLegacy.{legacy_row}
+use Rattle.program.specs.HashedLegacy.{legacy_row, collision}
 use Rattle.program.proofs.Cases.{by_eq, zero_one}
 use Rattle.program.proofs.Steps.{row_below}
 use Rattle.program.proofs.Tables.{lookups_agree, row_agrees}
@@ -117,12 +114,12 @@ module _ (file builtins : List ℕ) (c : Config) (n m rows : ℕ) where
 
 -- ---- the entry has a row
 
-free_index : (b : Bool) (key : ℕ) (x row : Row) → (Taken key if b else Free x) ≡ Free row → x ≡ row
+free_index : (b : Bool) (key : ℕ) (x row : Row) → (Err (collision key) if b else Ok x) ≡ Ok row → x ≡ row
 unfolding ◌if◌else◌
 free_index true key x row e = absurd (zero_one (cc))
 free_index false key x row e = cc
 
-row_index : (builtins : List ℕ) (j : Job) (name : FunctionName) (index : ℕ) (row : Row) → row_for builtins j name index ≡ Free row → row.index ≡ index
+row_index : (builtins : List ℕ) (j : Job) (name : FunctionName) (index : ℕ) (row : Row) → row_for builtins j name index ≡ Ok row → row.index ≡ index
 unfolding row_for legacy_row
 row_index builtins j name index row e = ap (λ r. r.index) (sym (free_index _ _ _ row e))
 
@@ -134,11 +131,11 @@ first_below k (x ∷ xs) (suc n) l e = by_eq x k (λ b. (0 if b else suc (index_
 
 -- what a lookup finds is one of the used rows
 module _ (t : Slices) (used : ℕ) (table : IsTable t used) where
-  at_row : (f : FoundRow) (row : Row) → row_of_found t f ≡ At row → (r : ℕ) × (f ≡ AtRow r) × (row_at t r ≡ row)
-  at_row (AtRow r) row e = (r, refl, cc)
-  at_row NoRow row e = absurd (zero_one (cc))
+  at_row : (f : Option ℕ) (row : Row) → row_of_found t f ≡ Some row → (r : ℕ) × (f ≡ Some r) × (row_at t r ≡ row)
+  at_row (Some r) row e = (r, refl, cc)
+  at_row None row e = absurd (zero_one (cc))
 
-  pub found_row : (key : ℕ) (row : Row) → lookup_in t used key ≡ At row → (r : ℕ) × (row_ascending_in t.keys used key ≡ AtRow r) × (r < used) × (get_or t.indices r 0 ≡ row.index)
+  pub found_row : (key : ℕ) (row : Row) → lookup_in t used key ≡ Some row → (r : ℕ) × (row_ascending_in t.keys used key ≡ Some r) × (r < used) × (get_or t.indices r 0 ≡ row.index)
   found_row key row e =
       let w = at_row (row_ascending_in t.keys used key) row (sym (row_agrees t used table key) ∙ lookups_agree t used table key ∙ e) in
       let b = row_below t.keys used key w.0 w.1 in

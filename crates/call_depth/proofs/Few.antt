@@ -7,8 +7,7 @@ use mathlib.Core.List.{List, []}
 use native.Mathlib.Omega.{arith}
 use lib.ListN.{length}
 use Rattle.program.specs.declared.Row.{Row}
-use Rattle.program.specs.declared.Registered.{Registered}
-use Rattle.program.specs.Rows.{registered, remove}
+use Rattle.program.specs.Rows.{registered, remove, RegisterResult}
 use Rattle.program.specs.Rows as table
 use Rattle.program.proofs.Cases.{zero_one}
 use Rattle.program.proofs.Laws.{by_registered, length_insert, registered_room}
@@ -113,7 +112,7 @@ module _ (file builtins : List ℕ) (j : Job) where
       (λ im₁. most_then (label_count file j + (0 + 1)) 0 (naming_trace file builtins j im₁) (placed_trace j.placing) (naming_most im₁) (placed_none j.placing))
 
 registered_le : (cap : ℕ) (r : Row) (rs : List Row) → length (registered cap r rs) ≤ suc (length rs)
-registered_le cap r rs = by_registered (λ (l : List Row) (_ : Registered). length l ≤ suc (length rs)) cap r rs
+registered_le cap r rs = by_registered (λ (l : List Row) (_ : RegisterResult). length l ≤ suc (length rs)) cap r rs
     (λ _ _ _. omega arith) (λ _ _ _. omega arith) (λ _ _. omega arith) (λ _ _. omega (arith, length_insert r rs))
 
 settle_few : (cap : ℕ) (T : Trace) (n : ℕ) (rows : List Row) (m : ℕ) (im : List ℕ) (held : List Row) (k : ℕ) → AtMost n T → settle cap T rows m ≡ accepted im held k → length held ≤ length rows + n

@@ -10,12 +10,10 @@ use lib.ListN.{length, get_or, take, get_or-eq_default}
 use lib.Seq.{length-take-le, get_or-take, take-take}
 use lib.Dec.{ltb, eqb}
 use borrow.Author.Tests.{le-ltb, lt-leb}
+use Rattle.std.specs.Prelude.{Option, Some, None}
 use Rattle.ebpf.specs.Choice.{◌if◌else◌}
 use Rattle.ebpf.specs.Instructions.{insn_at}
 use Rattle.ebpf.specs.declared.Insn.{Insn}
-use Rattle.std.specs.Prelude.{Option, Some, None}
-use Rattle.program.specs.declared.FoundRow.{FoundRow}
-use Rattle.program.specs.declared.FoundRow.TheVariants.{At as AtRow, Nothing as NoRow}
 use Rattle.program.specs.Search.{index_of, binary_search}
 use Rattle.program.specs.Table.{Slices, capacity, lookup_in, number_at, row_ascending_in, row_of_found, row_at, Ready as IsTable}
 use Rattle.program.proofs.Cases.{by_le, by_lt, zero_one}
@@ -47,7 +45,7 @@ use Rattle.call_depth.proofs.After.{found_row, Made, fits_after, entry_after}
 
 front_number : (keys : List ℕ) (n at k : ℕ) → number_at (take n keys) n at k ≡ number_at keys n at k
 unfolding number_at ◌if◌else◌
-front_number keys n at k = by_le n at (λ b. (NoRow if b else AtRow at if eqb (get_or (take n keys) at 0) k else NoRow) ≡ (NoRow if b else AtRow at if eqb (get_or keys at 0) k else NoRow))
+front_number keys n at k = by_le n at (λ b. (None if b else Some at if eqb (get_or (take n keys) at 0) k else None) ≡ (None if b else Some at if eqb (get_or keys at 0) k else None))
     (λ _. refl)
     (λ l. rw (get_or-take n keys at 0 l) refl)
 
@@ -75,10 +73,10 @@ module _ (a : Accepted) (im : List ℕ) (t : Slices) (table : IsTable t a.used) 
   many = length-take-le a.used t.keys in_keys ∙ sym (length-take-le a.used t.indices in_indices)
 
   -- a row that is found
-  by_row : (key j : ℕ) (f : FoundRow) → row_ascending_in t.keys a.used key ≡ f → row_or (length (take a.used t.keys)) f < P.rows → P.index (row_or (length (take a.used t.keys)) f) ≡ j
+  by_row : (key j : ℕ) (f : Option ℕ) → row_ascending_in t.keys a.used key ≡ f → row_or (length (take a.used t.keys)) f < P.rows → P.index (row_or (length (take a.used t.keys)) f) ≡ j
       → Finds (lookup_in t a.used) key j
-  by_row key j NoRow e l x = absurd (omega (arith, many))
-  by_row key j (AtRow r) e l x =
+  by_row key j None e l x = absurd (omega (arith, many))
+  by_row key j (Some r) e l x =
       let used : length (take a.used t.indices) ≡ a.used = length-take-le a.used t.indices in_indices in
       (row_at t r, sym (lookups_agree t a.used table key) ∙ row_agrees t a.used table key ∙ ap (row_of_found t) e, sym (get_or-take a.used t.indices r 0 (omega (arith, used, l))) ∙ x)
 

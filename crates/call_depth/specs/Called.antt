@@ -4,8 +4,6 @@ use Rattle.std.specs.Borrow.{Bor}
 use Rattle.ebpf.specs.Choice.{◌if◌else◌}
 use Rattle.ebpf.specs.Instructions.{insn_at}
 use Rattle.ebpf.specs.declared.Insn.{Insn}
-use Rattle.program.specs.declared.FoundRow.{FoundRow}
-use Rattle.program.specs.declared.FoundRow.TheVariants.{At, Nothing}
 use Rattle.program.specs.Table.{Shared, row_ascending_in}
 use Rattle.call_graph.specs.Profile.{Profile, next_above, nth_of}
 
@@ -14,9 +12,9 @@ unfoldable pub calls_key : Bool → Insn → Bool
 calls_key version2 insn = eqb insn.opc 0x85 && not (version2 && eqb insn.src 0)
 
 -- the number of a row, or of all rows where none was found
-abbrev pub row_or : ℕ → FoundRow → ℕ
-row_or rows (At r) = r
-row_or rows Nothing = rows
+abbrev pub row_or : ℕ → Option ℕ → ℕ
+row_or rows (Some r) = r
+row_or rows None = rows
 
 -- the row under a key
 abbrev pub row_under : List ℕ → ℕ → ℕ

@@ -12,7 +12,7 @@ ghost use Rattle.call_depth.specs.Loads.{LoadsAndMeasures};
 use call_graph::Depth;
 use elf_parser::past;
 use loader::{Accepted, Config, ElfError, Load, load};
-use program::rows_lent;
+use program::FunctionTable;
 use recursion::recursive;
 use settling::settle;
 use slots::FLAG;
@@ -174,13 +174,15 @@ pub fn call_depth(
 ) -> CallDepth
     ensures { result ≡ depth_asked (length work.old) (capacity (slices keys.now indices.now kinds.now starts.now lengths.now)) image.now keys.now indices.now answer limit }
 {
-    let rows = rows_lent(
-        keys.len(),
-        indices.len(),
-        kinds.len(),
-        starts.len(),
-        lengths.len(),
-    );
+    let table = FunctionTable {
+        keys,
+        indices,
+        kinds,
+        starts,
+        lengths,
+        used: 0,
+    };
+    let rows = table.rows_lent();
     match answer {
         Load::Refused(r) => CallDepth::Refused(r),
         Load::Accepted(a) => depth_by(work, image, keys, indices, rows, a, limit),

@@ -5,7 +5,7 @@ ghost use Rattle.call_graph.specs.Words.{Scan};
 ghost use Rattle.call_depth.specs.Called.{calls_key, row_under, callee_by, callee_in, slots_in};
 
 use ebpf::{CALL_IMM, Insn, get_insn};
-use program::{FoundRow, row_ascending};
+use program::row_ascending;
 
 // In the word of a row whose depth is not known yet.
 pub(crate) const FLAG: u32 = 0x8000_0000;
@@ -43,10 +43,7 @@ fn calls_key(version2: bool, insn: Insn) -> bool
 fn row_under(keys: &[u32], key: u32) -> usize
     ensures { result ≡ row_under keys.now key }
 {
-    match row_ascending(keys, keys.len(), key) {
-        FoundRow::At(r) => r,
-        FoundRow::Nothing => keys.len(),
-    }
+    row_ascending(keys, keys.len(), key).unwrap_or(keys.len())
 }
 
 fn callee_by(keys: &[u32], version2: bool, slot: Option<Insn>) -> usize

@@ -7,9 +7,8 @@ use mathlib.Core.List.{List}
 use native.Mathlib.Omega.{arith}
 use lib.ListN.{length}
 use borrow.Author.Tests.{ne_eqb}
+use Rattle.std.specs.Prelude.{Option, Some, None}
 use Rattle.ebpf.specs.Choice.{◌if◌else◌}
-use Rattle.program.specs.declared.FoundRow.{FoundRow}
-use Rattle.program.specs.declared.FoundRow.TheVariants.{At as AtRow, Nothing as NoRow}
 use Rattle.program.specs.Table.{row_ascending_in}
 use Rattle.program.proofs.Steps.{row_below}
 use Rattle.program.proofs.Cases.{by_lt}
@@ -22,11 +21,11 @@ use Rattle.exports.specs.Names.{names, bytes, name_in, refusal_name}
 use Rattle.exports.specs.Wrote.{wrote_answer, who_wrote_answer}
 use Rattle.exports.proofs.Named.{past, no_name, load_named}
 
-number_told : (f : FoundRow) (used : ℕ) → used < 2 ^ 64 → ((i : ℕ) → f ≡ AtRow i → i < used) → row_word f ≡ none_word → f ≡ NoRow
-number_told (AtRow i) used fits below e = absurd (let l = below i refl in omega arith)
-number_told NoRow used fits below e = refl
+number_told : (f : Option ℕ) (used : ℕ) → used < 2 ^ 64 → ((i : ℕ) → f ≡ Some i → i < used) → row_word f ≡ none_word → f ≡ None
+number_told (Some i) used fits below e = absurd (let l = below i refl in omega arith)
+number_told None used fits below e = refl
 
-pub row_told : (keys : List ℕ) (used k : ℕ) → used < 2 ^ 64 → row_word (row_ascending_in keys used k) ≡ none_word → row_ascending_in keys used k ≡ NoRow
+pub row_told : (keys : List ℕ) (used k : ℕ) → used < 2 ^ 64 → row_word (row_ascending_in keys used k) ≡ none_word → row_ascending_in keys used k ≡ None
 row_told keys used k fits = number_told (row_ascending_in keys used k) used fits (λ i e. omega (arith, row_below keys used k i e))
 
 -- a number that has a name is not 0, and small

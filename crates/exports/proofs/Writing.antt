@@ -8,8 +8,8 @@ use native.Mathlib.Omega.{arith}
 use lib.ListN.{length, length-set, length-drop, take, drop, get_or, set, replicate}
 use lib.Seq.{take-length, drop-length}
 use borrow.Rule.Slice.PartMut.{mid_of, put_mid, same_len_mid}
+use Rattle.std.specs.Prelude.{Some, None}
 use Rattle.program.specs.declared.Row.{Row}
-use Rattle.program.specs.declared.Found.TheVariants.{At, Nothing}
 use Rattle.exports.specs.Answers.{written, Given, row_answer, nine_words, cleared_from}
 
 -- the first i words are written
@@ -130,9 +130,9 @@ nine_given found index kind start size s h =
     rw (whole, cleared_whole (drop 9 s)) refl
 
 -- so a row's answer is given
-pub row_given : (r : Row) (s z : List ℕ) → z ≡ written (length s) (nine_words 1 r.index r.kind r.start r.length) → Given (row_answer (At r)) s z 0
+pub row_given : (r : Row) (s z : List ℕ) → z ≡ written (length s) (nine_words 1 r.index r.kind r.start r.length) → Given (row_answer (Some r)) s z 0
 row_given r s z e = record { number = refl; words = e ∙ nine_row (length s) 1 r.index r.kind r.start r.length }
 
-pub none_given : (s z : List ℕ) → z ≡ written (length s) (nine_words 0 0 0 0 0) → Given (row_answer Nothing) s z 0
+pub none_given : (s z : List ℕ) → z ≡ written (length s) (nine_words 0 0 0 0 0) → Given (row_answer None) s z 0
 unfolding written
 none_given s z e = record { number = refl; words = e ∙ nine_row (length s) 0 0 0 0 0 }

@@ -1,5 +1,6 @@
 -- What the exported functions answer: a number, 0 or why there is nothing, and 23 words behind it.
-use Rattle.std.specs.Prelude.{ℕ, zero, suc, ◌-◌, ◌/◌, ◌%◌, ◌^◌, ◌≡◌, Bool, true, false, eqb, List, [], ◌∷◌, length}
+use Rattle.program.specs.declared.Row.{Row}
+use Rattle.std.specs.Prelude.{ℕ, zero, suc, ◌-◌, ◌/◌, ◌%◌, ◌^◌, ◌≡◌, Bool, true, false, eqb, List, [], ◌∷◌, length, Option, Some, None}
 use Rattle.elf_parser.specs.declared.error.ElfParserError.{ElfParserError}
 use Rattle.elf_parser.specs.declared.error.Report.{Report}
 use Rattle.elf_parser.specs.declared.layout.Layout.{Layout}
@@ -13,12 +14,6 @@ use Rattle.elf_parser.specs.Errors.{report_of}
 use Rattle.elf_parser.specs.Parse.{parsed}
 use Rattle.hash_table.specs.declared.FoundSymbol.{FoundSymbol}
 use Rattle.hash_table.specs.declared.FoundSymbol.TheVariants.{At as SymbolAt, Nothing as NoSymbol, BadHashTable}
-use Rattle.program.specs.declared.Found.{Found}
-use Rattle.program.specs.declared.Found.TheVariants.{At, Nothing}
-use Rattle.program.specs.declared.FoundRow.{FoundRow}
-use Rattle.program.specs.declared.FoundRow.TheVariants.{At as AtRow, Nothing as NoRow}
-use Rattle.program.specs.declared.FoundIndex.{FoundIndex}
-use Rattle.program.specs.declared.FoundIndex.TheVariants.{At as AtIndex, Nothing as NoIndex}
 use Rattle.program.specs.Table.{Lent, Shared}
 use Rattle.loader.specs.declared.answer.Accepted.{Accepted}
 use Rattle.loader.specs.declared.answer.Load.{Load}
@@ -111,9 +106,9 @@ abbrev pub GivesAsked : Shared → (List ℕ → Layout → Answer) → Lent →
 GivesAsked file question answer r = Gives (asked (parsed file.entry.now) (question file.entry.now)) answer r
 
 -- a row: 1, its index, and its name's kind, start and length; 0 where there is none
-abbrev pub row_answer : Found → Answer
-row_answer (At r) = accepted (1 ∷ r.index ∷ r.kind ∷ r.start ∷ r.length ∷ [])
-row_answer Nothing = accepted (0 ∷ [])
+abbrev pub row_answer : Option Row → Answer
+row_answer (Some r) = accepted (1 ∷ r.index ∷ r.kind ∷ r.start ∷ r.length ∷ [])
+row_answer None = accepted (0 ∷ [])
 
 -- a symbol by its name: 1 and its number, 0 where there is none; 48 where the hash table cannot be used
 abbrev pub symbol_answer : FoundSymbol → Answer
@@ -126,13 +121,13 @@ abbrev pub none_word : ℕ
 none_word = 2 ^ 64 - 1
 
 -- an index as a word, and the number of a row
-abbrev pub index_word : FoundIndex → ℕ
-index_word (AtIndex index) = index
-index_word NoIndex = none_word
+abbrev pub index_word : Option ℕ → ℕ
+index_word (Some index) = index
+index_word None = none_word
 
-abbrev pub row_word : FoundRow → ℕ
-row_word (AtRow row) = row
-row_word NoRow = none_word
+abbrev pub row_word : Option ℕ → ℕ
+row_word (Some row) = row
+row_word None = none_word
 
 -- ---- a load
 

@@ -1,7 +1,6 @@
 -- Examples of the words and bits of the C interface: each holds by computation.
-use Rattle.std.specs.Prelude.{Bool, true, false, List, [], ◌∷◌, ◌≡◌, refl}
+use Rattle.std.specs.Prelude.{Bool, true, false, List, [], ◌∷◌, ◌≡◌, refl, Some, None}
 use Rattle.program.specs.declared.Row.{Row}
-use Rattle.program.specs.declared.Found.TheVariants.{At, Nothing}
 use Rattle.loader.specs.declared.validate.Config.{Config}
 use Rattle.exports.specs.Answers.{bit_of, config_of, written, words_of, row_answer}
 
@@ -43,7 +42,7 @@ bits = refl
 abbrev row : Row
 row = record { key = 7; index = 5; kind = 1; start = 64; length = 3 }
 
-lookups : written 10 (words_of (row_answer (At row))) ∷ written 10 (words_of (row_answer Nothing)) ∷ written 3 (words_of (row_answer (At row))) ∷ []
+lookups : written 10 (words_of (row_answer (Some row))) ∷ written 10 (words_of (row_answer None)) ∷ written 3 (words_of (row_answer (Some row))) ∷ []
     ≡ (0 ∷ 0 ∷ 0 ∷ 0 ∷ 1 ∷ 5 ∷ 1 ∷ 64 ∷ 3 ∷ 0 ∷ [])
     ∷ (0 ∷ 0 ∷ 0 ∷ 0 ∷ 0 ∷ 0 ∷ 0 ∷ 0 ∷ 0 ∷ 0 ∷ [])
     ∷ (0 ∷ 0 ∷ 0 ∷ [])

@@ -4,7 +4,7 @@ ghost use Rattle.exports.specs.Answers.{written, Gives, answer_with, reported, r
 
 use elf_parser::{ElfParserError, Layout, Parsed, Place, Report, Sliced, report_of};
 use hash_table::FoundSymbol;
-use program::{Found, FoundIndex, FoundRow};
+use program::Row;
 
 // A number, 0 where nothing was refused, and what goes with it.
 #[derive(Clone, Copy)]
@@ -128,23 +128,17 @@ pub(crate) fn symbol_answer(f: FoundSymbol) -> Answer
 const NONE: u64 = 18446744073709551615;
 
 // The index that is found, or that word.
-pub(crate) fn index_word(f: FoundIndex) -> u64
+pub(crate) fn index_word(f: Option<u32>) -> u64
     ensures { result ≡ index_word f }
 {
-    match f {
-        FoundIndex::At(index) => index as u64,
-        FoundIndex::Nothing => NONE,
-    }
+    f.map_or(NONE, |index| index as u64)
 }
 
 // The same of the number of a row.
-pub(crate) fn row_word(f: FoundRow) -> u64
+pub(crate) fn row_word(f: Option<usize>) -> u64
     ensures { result ≡ row_word f }
 {
-    match f {
-        FoundRow::At(row) => row as u64,
-        FoundRow::Nothing => NONE,
-    }
+    f.map_or(NONE, |row| row as u64)
 }
 
 // Fills the lent slice: the number, and the words behind it. The words are lent: by value they
@@ -209,11 +203,11 @@ fn give_nine(answer: &mut [u64], found: u64, index: u64, kind: u64, start: u64, 
 }
 
 // Fills the lent slice with the words of a row, or of none.
-pub(crate) fn give_row(answer: &mut [u64], f: Found) -> u32
+pub(crate) fn give_row(answer: &mut [u64], f: Option<Row>) -> u32
     ensures { Gives (row_answer f) answer result }
 {
     match f {
-        Found::At(row) => give_nine(
+        Some(row) => give_nine(
             answer,
             1,
             row.index as u64,
@@ -221,7 +215,7 @@ pub(crate) fn give_row(answer: &mut [u64], f: Found) -> u32
             row.start as u64,
             row.length as u64,
         ),
-        Found::Nothing => give_nine(answer, 0, 0, 0, 0, 0),
+        None => give_nine(answer, 0, 0, 0, 0, 0),
     }
     0
 }

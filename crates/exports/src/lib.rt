@@ -25,7 +25,7 @@ use elf_parser::parse;
 use loader::{load, text_place};
 use loading::{config_of, load_answer, text_answer};
 use names::refusal_name;
-use program::{index_ascending, lookup_ascending, lookup_by_key, row_ascending};
+use program::{FunctionTable, index_ascending, row_ascending};
 use writers::load_who_wrote;
 use wrote::{load_wrote_answer, numbers_answer, who_wrote_answer};
 
@@ -115,10 +115,15 @@ pub fn sbpf_lookup(
 ) -> u32
     ensures { Gives (row_answer (lookup_in (slices keys.now indices.now kinds.now starts.now lengths.now) used key)) answer result }
 {
-    give_row(
-        answer,
-        lookup_by_key(keys, indices, kinds, starts, lengths, used as usize, key),
-    )
+    let table = FunctionTable {
+        keys,
+        indices,
+        kinds,
+        starts,
+        lengths,
+        used: used as usize,
+    };
+    give_row(answer, table.lookup_by_key(key))
 }
 
 // The row with the key that a binary search over the used keys comes to: what `sbpf_lookup` answers
@@ -135,10 +140,15 @@ pub fn sbpf_lookup_ascending(
 ) -> u32
     ensures { Gives (row_answer (lookup_ascending_in (slices keys.now indices.now kinds.now starts.now lengths.now) used key)) answer result }
 {
-    give_row(
-        answer,
-        lookup_ascending(keys, indices, kinds, starts, lengths, used as usize, key),
-    )
+    let table = FunctionTable {
+        keys,
+        indices,
+        kinds,
+        starts,
+        lengths,
+        used: used as usize,
+    };
+    give_row(answer, table.lookup_ascending(key))
 }
 
 // The index of that row, by the columns of keys and indices alone; the largest word where there is

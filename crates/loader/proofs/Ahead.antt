@@ -6,10 +6,11 @@ use Prim.Native.Nat.{ℕ, zero, suc, ◌+◌, ◌-◌, ◌/◌, ◌%◌, ◌≤�
 use native.Mathlib.Omega.{arith}
 use lib.ListN.{length, take, drop, set, length-set, length-drop, length-take, take-append-drop}
 use lib.Seq.{paste, take-paste, drop-drop, length-take-le, set-append_left, take-set-lt, take_all, drop-length, length_front}
+use Rattle.program.specs.declared.RegisterError.TheVariants.{Collision, Full}
+use Rattle.program.specs.declared.Registered.TheVariants.{Inserted, Repeat}
+use Rattle.std.specs.Prelude.{Ok, Err}
 use Rattle.program.specs.declared.Row.{Row}
-use Rattle.program.specs.declared.Registered.{Registered}
-use Rattle.program.specs.declared.Registered.TheVariants.{Inserted, Repeat, Collision, Full}
-use Rattle.program.specs.Rows.{registered, remove, unregister}
+use Rattle.program.specs.Rows.{registered, remove, unregister, RegisterResult}
 use Rattle.program.specs.Rows as table
 use Rattle.program.specs.Runs.{moves_gone}
 use Rattle.program.specs.Table.{Slices, capacity, rows_of}
@@ -69,11 +70,11 @@ abbrev map_settled : (List ℕ → List ℕ) → Settled → Settled
 map_settled f (accepted im rows m) = accepted (f im) rows m
 map_settled f (refused r) = refused r
 
-on_registered_map : (f : List ℕ → List ℕ) (a : Registered) (rows key m : ℕ) (k : ℕ → Settled) → on_registered a rows key m (λ (n : ℕ). map_settled f (k n)) ≡ map_settled f (on_registered a rows key m k)
-on_registered_map f (Inserted n) rows key m k = refl
-on_registered_map f Repeat rows key m k = refl
-on_registered_map f Collision rows key m k = refl
-on_registered_map f Full rows key m k = refl
+on_registered_map : (f : List ℕ → List ℕ) (a : RegisterResult) (rows key m : ℕ) (k : ℕ → Settled) → on_registered a rows key m (λ (n : ℕ). map_settled f (k n)) ≡ map_settled f (on_registered a rows key m k)
+on_registered_map f (Ok (Inserted n)) rows key m k = refl
+on_registered_map f (Ok Repeat) rows key m k = refl
+on_registered_map f (Err Collision) rows key m k = refl
+on_registered_map f (Err Full) rows key m k = refl
 
 settle_map : (f : List ℕ → List ℕ) (cap : ℕ) (T : Trace) (rs : List Row) (m : ℕ) → settle cap (map_trace f T) rs m ≡ map_settled f (settle cap T rs m)
 unfolding settle

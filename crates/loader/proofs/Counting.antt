@@ -9,9 +9,9 @@ use mathlib.Core.List.{List, [], ◌∷◌, ◌++◌, map}
 use lib.ListN.{length}
 use lib.Dec.{eqb}
 use borrow.Author.Tests.{eq-eqb, ne_eqb}
+use Rattle.std.specs.Prelude.{Some, None}
 use Rattle.ebpf.specs.Choice.{◌if◌else◌}
 use Rattle.program.specs.declared.Row.{Row}
-use Rattle.program.specs.declared.Found.TheVariants.{At, Nothing}
 use Rattle.program.specs.Search.{Over}
 use Rattle.program.specs.Rows.{rank, Ascending, find, insert, remove}
 use Rattle.program.proofs.Cases.{by_lt, by_eq}
@@ -92,15 +92,15 @@ one_behind k (z ∷ zs) xs e = rw (one_behind k zs xs e) (or_true (eqb k z))
 abbrev pub keys_of : List Row → List ℕ
 keys_of rows = map (λ r. r.key) rows
 
-pub one_held : (k : ℕ) (x : Row) (rs : List Row) → find k rs ≡ At x → is_one_of k (keys_of rs) ≡ true
+pub one_held : (k : ℕ) (x : Row) (rs : List Row) → find k rs ≡ Some x → is_one_of k (keys_of rs) ≡ true
 unfolding ◌if◌else◌ rank
-one_held k x [] e = absurd (not_both x Nothing e refl)
-one_held k x (y ∷ rs) e = by_eq y.key k (λ (b : Bool). (At y if b else find k rs) ≡ At x → is_one_of k (keys_of (y ∷ rs)) ≡ true)
+one_held k x [] e = absurd (not_both x None e refl)
+one_held k x (y ∷ rs) e = by_eq y.key k (λ (b : Bool). (Some y if b else find k rs) ≡ Some x → is_one_of k (keys_of (y ∷ rs)) ≡ true)
     (λ h _. rw (eq-eqb k y.key (sym h)) refl)
     (λ ne e. rw (ne_eqb k y.key (λ h. ne (sym h))) (one_held k x rs e))
     e
 
-pub one_missing : (k : ℕ) (rs : List Row) → find k rs ≡ Nothing → is_one_of k (keys_of rs) ≡ false
+pub one_missing : (k : ℕ) (rs : List Row) → find k rs ≡ None → is_one_of k (keys_of rs) ≡ false
 unfolding rank
 one_missing k [] e = refl
 one_missing k (y ∷ rs) e = let m = missing_cons k y rs e in rw (ne_eqb k y.key (λ h. m.0 (sym h))) (one_missing k rs m.1)
@@ -145,10 +145,10 @@ remove_le k (x ∷ rs) = by_eq (rank x) k (λ (b : Bool). length (rs if b else (
     (λ _. suc-le-suc (remove_le k rs))
 
 -- what is found has the rank
-pub find_rank : (k : ℕ) (x : Row) (rs : List Row) → find k rs ≡ At x → rank x ≡ k
+pub find_rank : (k : ℕ) (x : Row) (rs : List Row) → find k rs ≡ Some x → rank x ≡ k
 unfolding ◌if◌else◌
-find_rank k x [] e = absurd (not_both x Nothing e refl)
-find_rank k x (y ∷ rs) e = by_eq (rank y) k (λ (b : Bool). (At y if b else find k rs) ≡ At x → rank x ≡ k)
+find_rank k x [] e = absurd (not_both x None e refl)
+find_rank k x (y ∷ rs) e = by_eq (rank y) k (λ (b : Bool). (Some y if b else find k rs) ≡ Some x → rank x ≡ k)
     (λ h e. let s : y ≡ x = cc in rw (← s) h)
     (λ _ e. find_rank k x rs e)
     e

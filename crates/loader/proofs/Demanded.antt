@@ -4,9 +4,9 @@ use mathlib.Core.Path.{◌≡◌, refl, sym, subst, fun_ext}
 use mathlib.Core.Logic.{◌⊎◌, ◌↔◌}
 use mathlib.Core.List.{List, [], ◌++◌, map}
 use lib.ListN.{length, replicate}
+use Rattle.std.specs.Prelude.{Option}
 use Rattle.ebpf.specs.LittleEndian.{le}
 use Rattle.program.specs.declared.Row.{Row}
-use Rattle.program.specs.declared.Found.{Found}
 use Rattle.program.specs.Rows.{find}
 use Rattle.program.specs.Table.{Slices, capacity, lay, lookup_in, Ready as IsTable}
 use Rattle.program.proofs.Tables.{ready_lay, lookup_lay}
@@ -89,13 +89,13 @@ module _ (file builtins : List ℕ) (c : Config) (im ro : List ℕ) (t : Slices)
     looks = fun_ext (λ k. sym (rw (h.table_is, h.used_is) (lookup_lay t h.rows (rows_room file builtins j (capacity t) h.image h.rows h.moves h.settles) k)))
 
     held_keys : Keys file builtins j (lookup_in t' used)
-    held_keys = subst (λ (look : ℕ → Found). Keys file builtins j look) looks (keys_found file builtins j (capacity t) h.image h.rows h.moves h.settles)
+    held_keys = subst (λ (look : ℕ → Option Row). Keys file builtins j look) looks (keys_found file builtins j (capacity t) h.image h.rows h.moves h.settles)
 
     held_entry : Entry j (lookup_in t' used)
-    held_entry = subst (λ (look : ℕ → Found). Entry j look) looks (entry_found file builtins j (capacity t) h.image h.rows h.moves h.settles)
+    held_entry = subst (λ (look : ℕ → Option Row). Entry j look) looks (entry_found file builtins j (capacity t) h.image h.rows h.moves h.settles)
 
     held_others : Others file builtins j (lookup_in t' used)
-    held_others = subst (λ (look : ℕ → Found). Others file builtins j look) looks (others_found file builtins j (capacity t) h.image h.rows h.moves h.settles)
+    held_others = subst (λ (look : ℕ → Option Row). Others file builtins j look) looks (others_found file builtins j (capacity t) h.image h.rows h.moves h.settles)
 
     held_bytes : Bytes file j im'
     held_bytes = rw h.image_is (lent_bytes file builtins j inside h.image (settle_ends (capacity t) h.image h.rows h.moves (job_trace file builtins j file) [] 0 h.settles) (length im - length h.image))
@@ -105,7 +105,7 @@ module _ (file builtins : List ℕ) (c : Config) (im ro : List ℕ) (t : Slices)
         let target = call_target file builtins j (capacity t) h.image h.rows h.moves h.settles i c in
         let to = target.0 in
         let key : le 4 im' (immediate j i) ≡ key_of j.version2 to = rw h.image_is (lent_keyed file builtins j inside h.image (settle_ends (capacity t) h.image h.rows h.moves (job_trace file builtins j file) [] 0 h.settles) (length im - length h.image) i to target.1 free) in
-        let found = subst (λ (look : ℕ → Found). IsNameKey j (key_of j.version2 to) ⊎ Finds look (key_of j.version2 to) to) looks (call_found file builtins j (capacity t) h.image h.rows h.moves h.settles i to target.1) in
+        let found = subst (λ (look : ℕ → Option Row). IsNameKey j (key_of j.version2 to) ⊎ Finds look (key_of j.version2 to) to) looks (call_found file builtins j (capacity t) h.image h.rows h.moves h.settles i to target.1) in
         (to, target.1, to_in file j i to target.1, subst (λ (k : ℕ). IsNameKey j k ⊎ Finds (lookup_in t' used) k to) (sym key) found)
 
     held_table : IsTable t' used

@@ -10,6 +10,7 @@ use mathlib.Core.List.{List, []}
 use lib.ListN.{length, take, drop, length-take}
 use lib.Dec.{ltb, leb}
 use borrow.Author.Tests.{ltb-true, not-false}
+use Rattle.std.specs.Prelude.{Ok}
 use Rattle.ebpf.specs.Choice.{◌if◌else◌, and_right}
 use Rattle.ebpf.specs.IndexKeys.{index_key, key_in}
 use Rattle.ebpf.proofs.Table.{key_in_none}
@@ -25,10 +26,8 @@ use Rattle.elf_parser.specs.Records.{sym_of, dynamic_symbol_of}
 use Rattle.program.specs.declared.FunctionName.{FunctionName}
 use Rattle.program.specs.declared.FunctionName.TheVariants.{OfIndex}
 use Rattle.program.specs.declared.KeptName.{KeptName}
-use Rattle.program.specs.declared.Legacy.{Legacy}
-use Rattle.program.specs.declared.Legacy.TheVariants.{Free}
 use Rattle.program.specs.declared.Row.{Row}
-use Rattle.program.specs.HashedLegacy.{is_entrypoint, legacy_key, kept_name, is_taken, row_of, legacy_row}
+use Rattle.program.specs.HashedLegacy.{LegacyResult, is_entrypoint, legacy_key, kept_name, is_taken, row_of, legacy_row}
 use Rattle.program.specs.HashedLegacy as legacy
 use Rattle.program.proofs.Cases.{by_test}
 use Rattle.loader.specs.declared.calls.Call.{Call}
@@ -68,7 +67,7 @@ untaken builtins false check key e = rw e refl
 abbrev pub row_of_function : Job → FunctionName → ℕ → Row
 row_of_function j name index = row_of (legacy_key [] j.version2 name index) index (kept_name j.labels name)
 
-pub free_row : (builtins : List ℕ) (j : Job) (name : FunctionName) (index : ℕ) → j.check_collision ≡ false → row_for builtins j name index ≡ Free (row_of_function j name index)
+pub free_row : (builtins : List ℕ) (j : Job) (name : FunctionName) (index : ℕ) → j.check_collision ≡ false → row_for builtins j name index ≡ Ok (row_of_function j name index)
 unfolding row_for legacy_row ◌if◌else◌
 free_row builtins j name index e = rw (untaken builtins j.version2 j.check_collision (legacy_key [] j.version2 name index) e) refl
 
@@ -142,7 +141,7 @@ module _ (file builtins : List ℕ) (j : Job) (off : j.check_collision ≡ false
   good_row name index l = good_key j.version2 name index (kept_name j.labels name) l
 
   -- what is made of a row, where it is steady with any good one
-  by_row : (f : Legacy → Deed) (name : FunctionName) (index : ℕ) → index < 2 ^ 32 → ((row : Row) → G row → SteadyDeed G (f (Free row))) → SteadyDeed G (f (row_for builtins j name index))
+  by_row : (f : LegacyResult → Deed) (name : FunctionName) (index : ℕ) → index < 2 ^ 32 → ((row : Row) → G row → SteadyDeed G (f (Ok row))) → SteadyDeed G (f (row_for builtins j name index))
   by_row f name index l s = rw (free_row builtins j name index off) (s (row_of_function j name index) (good_row name index l))
 
   -- calls

@@ -7,11 +7,12 @@ use native.Mathlib.Omega.{arith}
 use mir.Syntax.{w64}
 use mir.Val.{Fits}
 use lib.ListN.{length}
+use Rattle.program.specs.declared.RegisterError.TheVariants.{Collision, Full}
+use Rattle.program.specs.declared.Registered.TheVariants.{Inserted, Repeat}
+use Rattle.std.specs.Prelude.{Ok, Err}
 use Rattle.program.specs.declared.Row.{Row}
-use Rattle.program.specs.declared.Registered.{Registered}
-use Rattle.program.specs.declared.Registered.TheVariants.{Inserted, Repeat, Collision, Full}
 use Rattle.program.specs.Table.{Slices, capacity, rows_of, Registration}
-use Rattle.program.specs.Rows.{register, registered}
+use Rattle.program.specs.Rows.{register, registered, RegisterResult}
 use Rattle.program.specs.Runs.{moves_of}
 use Rattle.program.proofs.Cases.{zero_one}
 use Rattle.program.proofs.Laying.{length_rows}
@@ -24,25 +25,25 @@ use Rattle.loader.specs.declared.deeds.Outcome.TheVariants.{Holds, Refused}
 use Rattle.loader.specs.Trace.{Settled, refused, on_registered, settle}
 use Rattle.loader.specs.InnerContracts.{entered_by, Begins, Enters}
 
-pub entered_as : (a b : Registered) (used moves key rows : ℕ) → a ≡ b → entered_by b used moves key rows ≡ entered_by a used moves key rows
-entered_as a b used moves key rows e = ap (λ (a : Registered). entered_by a used moves key rows) (sym e)
+pub entered_as : (a b : RegisterResult) (used moves key rows : ℕ) → a ≡ b → entered_by b used moves key rows ≡ entered_by a used moves key rows
+entered_as a b used moves key rows e = ap (λ (a : RegisterResult). entered_by a used moves key rows) (sym e)
 
-pub moves_fit : (a : Registered) (n moves : ℕ) → a ≡ Inserted n → moves + moves_of a < 2 ^ 64 → Fits w64 (moves + n)
+pub moves_fit : (a : RegisterResult) (n moves : ℕ) → a ≡ Ok (Inserted n) → moves + moves_of a < 2 ^ 64 → Fits w64 (moves + n)
 moves_fit a n moves e h = record { fits = rw e at h }
 
 -- a registration that is held: the rest goes on with its moves
-held_on : (a : Registered) (used moves key rows used' moves' : ℕ) (k : ℕ → Settled) → entered_by a used moves key rows ≡ Holds used' moves' → on_registered a rows key moves k ≡ k moves'
-held_on (Inserted n) used moves key rows used' moves' k e = let m : moves + n ≡ moves' = cc in ap k m
-held_on Repeat used moves key rows used' moves' k e = let m : moves ≡ moves' = cc in ap k m
-held_on Collision used moves key rows used' moves' k e = absurd (zero_one (cc))
-held_on Full used moves key rows used' moves' k e = absurd (zero_one (cc))
+held_on : (a : RegisterResult) (used moves key rows used' moves' : ℕ) (k : ℕ → Settled) → entered_by a used moves key rows ≡ Holds used' moves' → on_registered a rows key moves k ≡ k moves'
+held_on (Ok (Inserted n)) used moves key rows used' moves' k e = let m : moves + n ≡ moves' = cc in ap k m
+held_on (Ok Repeat) used moves key rows used' moves' k e = let m : moves ≡ moves' = cc in ap k m
+held_on (Err Collision) used moves key rows used' moves' k e = absurd (zero_one (cc))
+held_on (Err Full) used moves key rows used' moves' k e = absurd (zero_one (cc))
 
 -- one that is refused: the rest does not matter
-held_not : (a : Registered) (used moves key rows : ℕ) (r : ElfError) (k : ℕ → Settled) → entered_by a used moves key rows ≡ Refused r → on_registered a rows key moves k ≡ refused r
-held_not (Inserted n) used moves key rows r k e = absurd (zero_one (cc))
-held_not Repeat used moves key rows r k e = absurd (zero_one (cc))
-held_not Collision used moves key rows r k e = let m : SymbolHashCollision key ≡ r = cc in ap refused m
-held_not Full used moves key rows r k e = let m : TableFull rows ≡ r = cc in ap refused m
+held_not : (a : RegisterResult) (used moves key rows : ℕ) (r : ElfError) (k : ℕ → Settled) → entered_by a used moves key rows ≡ Refused r → on_registered a rows key moves k ≡ refused r
+held_not (Ok (Inserted n)) used moves key rows r k e = absurd (zero_one (cc))
+held_not (Ok Repeat) used moves key rows r k e = absurd (zero_one (cc))
+held_not (Err Collision) used moves key rows r k e = let m : SymbolHashCollision key ≡ r = cc in ap refused m
+held_not (Err Full) used moves key rows r k e = let m : TableFull rows ≡ r = cc in ap refused m
 
 -- how many rows there are then, and how many moved
 pub record Grown (cap : ℕ) (r : Row) (rs : List Row) (moves used' moves' : ℕ) : Type 0 where
@@ -50,28 +51,28 @@ pub record Grown (cap : ℕ) (r : Row) (rs : List Row) (moves used' moves' : ℕ
   pub one_more : used' ≤ length rs + 1
   pub few_moved : moves' ≤ moves + length rs
 
-grown : (a : Registered) (cap : ℕ) (r : Row) (rs : List Row) (moves key rows used' moves' : ℕ) → a ≡ register cap r rs → entered_by a (length rs) moves key rows ≡ Holds used' moves' → Grown cap r rs moves used' moves'
-grown (Inserted n) cap r rs moves key rows used' moves' is e =
+grown : (a : RegisterResult) (cap : ℕ) (r : Row) (rs : List Row) (moves key rows used' moves' : ℕ) → a ≡ register cap r rs → entered_by a (length rs) moves key rows ≡ Holds used' moves' → Grown cap r rs moves used' moves'
+grown (Ok (Inserted n)) cap r rs moves key rows used' moves' is e =
     let u : length rs + 1 ≡ used' = cc in
     let m : moves + n ≡ moves' = cc in
     let both = more_rows cap r rs n (sym is) in
     record { rows_now = omega (arith, both.0); one_more = omega arith; few_moved = omega (arith, both.1) }
-grown Repeat cap r rs moves key rows used' moves' is e =
+grown (Ok Repeat) cap r rs moves key rows used' moves' is e =
     let u : length rs ≡ used' = cc in
     let m : moves ≡ moves' = cc in
     let same = kept_rows cap r rs (λ n h. zero_one (cc)) in
     record { rows_now = ap length same ∙ u; one_more = omega arith; few_moved = omega arith }
-grown Collision cap r rs moves key rows used' moves' is e = absurd (zero_one (cc))
-grown Full cap r rs moves key rows used' moves' is e = absurd (zero_one (cc))
+grown (Err Collision) cap r rs moves key rows used' moves' is e = absurd (zero_one (cc))
+grown (Err Full) cap r rs moves key rows used' moves' is e = absurd (zero_one (cc))
 
-moved_at_most : (a : Registered) (cap : ℕ) (r : Row) (rs : List Row) → a ≡ register cap r rs → moves_of a ≤ length rs
-moved_at_most (Inserted n) cap r rs is = (more_rows cap r rs n (sym is)).1
-moved_at_most Repeat cap r rs is = omega arith
-moved_at_most Collision cap r rs is = omega arith
-moved_at_most Full cap r rs is = omega arith
+moved_at_most : (a : RegisterResult) (cap : ℕ) (r : Row) (rs : List Row) → a ≡ register cap r rs → moves_of a ≤ length rs
+moved_at_most (Ok (Inserted n)) cap r rs is = (more_rows cap r rs n (sym is)).1
+moved_at_most (Ok Repeat) cap r rs is = omega arith
+moved_at_most (Err Collision) cap r rs is = omega arith
+moved_at_most (Err Full) cap r rs is = omega arith
 
 -- the slices after a registration
-module _ (t u : Slices) (rows used moves : ℕ) (row : Row) (a : Registered) (begins : Begins 1 t rows used moves) (did : Registration t u used row a) where
+module _ (t u : Slices) (rows used moves : ℕ) (row : Row) (a : RegisterResult) (begins : Begins 1 t rows used moves) (did : Registration t u used row a) where
   -- the sums of `entered` do not wrap
   pub sums_fit : (used < 2 ^ 32) × (moves + moves_of a < 2 ^ 64)
   sums_fit =

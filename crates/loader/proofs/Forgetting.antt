@@ -6,9 +6,8 @@ use Prim.Native.Nat.{ℕ, ◌+◌, ◌≤◌, ◌<◌, ◌^◌}
 use native.Mathlib.Omega.{arith}
 use mir.Syntax.{w64}
 use mir.Val.{Fits}
+use Rattle.std.specs.Prelude.{Option, Some, None}
 use Rattle.program.specs.declared.Row.{Row}
-use Rattle.program.specs.declared.Removed.{Removed}
-use Rattle.program.specs.declared.Removed.TheVariants.{Gone, Absent}
 use Rattle.program.specs.Rows.{remove, unregister}
 use Rattle.program.specs.Runs.{moves_gone}
 use Rattle.program.specs.Table.{Slices, rows_of, Removal, Unregisters}
@@ -22,10 +21,10 @@ use Rattle.loader.specs.Trace.{done, forget, accepted, settle}
 use Rattle.loader.specs.Entry.{forgotten_by}
 use Rattle.loader.specs.InnerContracts.{Begins, Forgets, Settles}
 
-pub forgotten_as : (a b : Removed) (used moves : ℕ) → a ≡ b → forgotten_by b used moves ≡ forgotten_by a used moves
-forgotten_as a b used moves e = ap (λ (x : Removed). forgotten_by x used moves) (sym e)
+pub forgotten_as : (a b : Option ℕ) (used moves : ℕ) → a ≡ b → forgotten_by b used moves ≡ forgotten_by a used moves
+forgotten_as a b used moves e = ap (λ (x : Option ℕ). forgotten_by x used moves) (sym e)
 
-pub gone_fit : (a : Removed) (n moves : ℕ) → a ≡ Gone n → moves + moves_gone a < 2 ^ 64 → Fits w64 (moves + n)
+pub gone_fit : (a : Option ℕ) (n moves : ℕ) → a ≡ Some n → moves + moves_gone a < 2 ^ 64 → Fits w64 (moves + n)
 gone_fit a n moves e h = record { fits = rw e at h }
 
 -- version 2 forgets nothing
@@ -34,20 +33,20 @@ unfolding settle
 forgets_nothing t rows used moves b im = record { answers = refl; sound = b.ready; near = (omega arith, omega arith) }
 
 module _ (t u : Slices) (rows used moves : ℕ) (begins : Begins 1 t rows used moves) where
-  few : (k m : ℕ) → Removal t u used k (Gone m) → m < used
+  few : (k m : ℕ) → Removal t u used k (Some m) → m < used
   few k m did = (after_gone t u used k begins.ready m did).1
 
-  moves_few : (k : ℕ) (a : Removed) → Removal t u used k a → moves_gone a ≤ used
-  moves_few k (Gone m) did = omega (arith, few k m did)
-  moves_few k Absent did = omega arith
+  moves_few : (k : ℕ) (a : Option ℕ) → Removal t u used k a → moves_gone a ≤ used
+  moves_few k (Some m) did = omega (arith, few k m did)
+  moves_few k None did = omega arith
 
   -- the sum of `forgotten` does not wrap
-  pub gone_sums : (k : ℕ) (a : Removed) → Unregisters t u used k a → moves + moves_gone a < 2 ^ 64
+  pub gone_sums : (k : ℕ) (a : Option ℕ) → Unregisters t u used k a → moves + moves_gone a < 2 ^ 64
   gone_sums k a did = omega (arith, moves_few k a (unregisters_ready t used begins.ready u k a did), begins.room.few, begins.room.moved)
 
-  forgets_by : (k : ℕ) (a : Removed) → Removal t u used k a → (im : List ℕ) → Settles (forget k (done im)) im t u 1 used moves (forgotten_by a used moves)
+  forgets_by : (k : ℕ) (a : Option ℕ) → Removal t u used k a → (im : List ℕ) → Settles (forget k (done im)) im t u 1 used moves (forgotten_by a used moves)
   unfolding settle
-  forgets_by k (Gone m) did im =
+  forgets_by k (Some m) did im =
       let is = after_gone t u used k begins.ready m did in
       let moved : m ≡ moves_gone (unregister k (rows_of t used)) = ap moves_gone did.answers in
       record {
@@ -55,7 +54,7 @@ module _ (t u : Slices) (rows used moves : ℕ) (begins : Begins 1 t rows used m
         sound = is.0.ready;
         near = (omega arith, omega (arith, is.1, begins.room.few));
       }
-  forgets_by k Absent did im =
+  forgets_by k None did im =
       let same : u ≡ t = after_absent t u used k begins.ready did in
       let kept : remove k (rows_of t used) ≡ rows_of t used = remove_missing k (rows_of t used) ((absent_iff k (rows_of t used)).0 (sym did.answers)) in
       let moved : 0 ≡ moves_gone (unregister k (rows_of t used)) = ap moves_gone did.answers in
@@ -66,6 +65,6 @@ module _ (t u : Slices) (rows used moves : ℕ) (begins : Begins 1 t rows used m
         near = (omega arith, omega arith);
       }
 
-  pub forgets : (a : Removed) (b : Outcome) → Unregisters t u used 0x71e3cf81 a → b ≡ forgotten_by a used moves → Forgets false t u used moves b
+  pub forgets : (a : Option ℕ) (b : Outcome) → Unregisters t u used 0x71e3cf81 a → b ≡ forgotten_by a used moves → Forgets false t u used moves b
   forgets a b did e im =
       rw (e, entrypoint_key) (forgets_by 0x71e3cf81 a (unregisters_ready t used begins.ready u 0x71e3cf81 a did) im)

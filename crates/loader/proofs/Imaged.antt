@@ -7,6 +7,8 @@ use mathlib.Core.Bool.{Bool, true, false}
 use mathlib.Core.Logic.{inl}
 use mathlib.Core.List.{List, [], ◌∷◌, ◌++◌}
 use lib.ListN.{length, get_or, take, drop, replicate}
+use Rattle.program.specs.HashedLegacy.{LegacyResult}
+use Rattle.std.specs.Prelude.{Ok, Err}
 use Rattle.ebpf.specs.Choice.{◌if◌else◌}
 use Rattle.ebpf.specs.LittleEndian.{le}
 use Rattle.elf_parser.specs.declared.types.Elf64Sym.{Elf64Sym}
@@ -18,8 +20,6 @@ use Rattle.elf_parser.specs.declared.records.Sym.TheVariants.{Symbol, Refused as
 use Rattle.elf_parser.specs.Names.{symbol_name}
 use Rattle.elf_parser.specs.Records.{sym_of}
 use Rattle.program.specs.declared.FunctionName.TheVariants.{OfIndex, Entrypoint}
-use Rattle.program.specs.declared.Legacy.{Legacy}
-use Rattle.program.specs.declared.Legacy.TheVariants.{Free, Taken}
 use Rattle.loader.specs.declared.calls.Call.{Call}
 use Rattle.loader.specs.declared.calls.Call.TheVariants.{None, To, Outside}
 use Rattle.loader.specs.declared.deeds.Deed.{Deed}
@@ -42,9 +42,9 @@ use Rattle.loader.proofs.Targets.{calls_local, to_small, key_word, row_key}
 
 -- ---- labels, the entry and the placing write nothing
 
-row_nothing : (r : Legacy) (im : List ℕ) → written (label_row r) im ≡ im
-row_nothing (Free row) im = refl
-row_nothing (Taken key) im = refl
+row_nothing : (r : LegacyResult) (im : List ℕ) → written (label_row r) im ≡ im
+row_nothing (Ok row) im = refl
+row_nothing (Err taken) im = refl
 
 -- a choice between deeds that write nothing
 choice_nothing : (b : Bool) (x y : Deed) (im : List ℕ) → written x im ≡ im → written y im ≡ im → written (x if b else y) im ≡ im
@@ -112,9 +112,9 @@ job_ends s builtins j im l e =
 
 -- ---- calls and relocations
 
-row_clear : (at b : ℕ) (r : Legacy) → is_in at 4 b ≡ false → writes (call_row at r) b ≡ false
-row_clear at b (Free row) h = h
-row_clear at b (Taken key) h = refl
+row_clear : (at b : ℕ) (r : LegacyResult) → is_in at 4 b ≡ false → writes (call_row at r) b ≡ false
+row_clear at b (Ok row) h = h
+row_clear at b (Err taken) h = refl
 
 module _ (file builtins : List ℕ) (j : Job) where
   abbrev pub call : ℕ → List ℕ → Deed
@@ -165,9 +165,9 @@ module _ (file builtins : List ℕ) (j : Job) where
     unfolding slot_trace call_deed deed_trace
     own_slot im l room e = go (row_for builtins j OfIndex to) refl (rw calls.1 at e)
       where
-        go : (r : Legacy) → row_for builtins j OfIndex to ≡ r → Ends (deed_trace (call_row (immediate j i) r) im) l → le 4 l (immediate j i) ≡ key_of j.version2 to
-        go (Taken key) q e = absurd e
-        go (Free row) q e =
+        go : (r : LegacyResult) → row_for builtins j OfIndex to ≡ r → Ends (deed_trace (call_row (immediate j i) r) im) l → le 4 l (immediate j i) ≡ key_of j.version2 to
+        go (Err taken) q e = absurd e
+        go (Ok row) q e =
             let k = row_key builtins j to row q in
             let small : row.key < 256 ^ 4 = rw k (key_word j.version2 to (omega (arith, to_small file j i to short calls))) in
             rw (← e) (le_put 4 im (immediate j i) row.key room small) ∙ k

@@ -8,9 +8,9 @@ use mathlib.Core.Logic.{◌⊎◌, inl, inr, ◌↔◌}
 use mathlib.Core.Bool.{Bool, true, false}
 use mathlib.Core.List.{List, []}
 use lib.ListN.{length}
+use Rattle.std.specs.Prelude.{Some}
 use Rattle.ebpf.specs.Choice.{◌if◌else◌}
 use Rattle.program.specs.declared.Row.{Row}
-use Rattle.program.specs.declared.Found.TheVariants.{At}
 use Rattle.program.specs.declared.FunctionName.TheVariants.{OfIndex, Entrypoint}
 use Rattle.program.specs.HashedLegacy.{legacy_key}
 use Rattle.program.specs.Rows.{rank, Ascending, find, Held, Repeats, remove, unregister}
@@ -183,7 +183,7 @@ module _ (file builtins : List ℕ) (j : Job) (cap : ℕ) (im' : List ℕ) (rows
       let is = row_is builtins j Entrypoint (entry_index j) r.0 r.1 in
       let f = entry_finds r.0 r.1 in
       let key : r.0.key ≡ name_key = is.0 ∙ entry_key j.version2 (entry_index j) old in
-      (f.0, subst (λ (k : ℕ). find k rows ≡ At f.0) key f.1, f.2 ∙ is.1)
+      (f.0, subst (λ (k : ℕ). find k rows ≡ Some f.0) key f.1, f.2 ∙ is.1)
 
   -- EVERY OTHER KEY FINDS WHAT WAS REGISTERED UNDER IT
   pub others_found : Others file builtins j (λ (k : ℕ). find k rows)

@@ -7,8 +7,8 @@ use native.Mathlib.Omega.{arith}
 use lib.ListN.{length, take, drop, replicate, length-replicate}
 use lib.Seq.{drop_at, drop-length, length-take-le}
 use borrow.Rule.Slice.PartMut.{mid_of, post_of, put_mid, same_len_mid, mid_len, Post-is}
-use Rattle.program.specs.Table.{Slices, capacity, lay, rows_of, Least}
-use Rattle.program.proofs.Laying.{lent_capacity, length_rows}
+use Rattle.program.specs.Table.{Slices, capacity, lay, rows_of}
+use Rattle.program.proofs.Laying.{length_rows}
 use Rattle.program.proofs.Tables.{SameLens, capacity_same, lay_same, ready_none}
 use Rattle.loader.specs.declared.answer.Accepted.{Accepted}
 use Rattle.loader.specs.declared.answer.Load.{Load}
@@ -123,8 +123,8 @@ module _ (n : ℕ) (im z : List ℕ) (fits : n ≤ length im) (clear : z ≡ rep
 pub empty : (t t₁ : Slices) → t₁ ≡ lay t [] → SameLens t t₁ → t₁ ≡ lay t₁ []
 empty t t₁ laid lens = laid ∙ sym (lay_same t t₁ [] lens)
 
-pub as_lent : (t t₁ : Slices) (rows : ℕ) → SameLens t t₁ → Least rows (length t.keys) (length t.indices) (length t.kinds) (length t.starts) (length t.lengths) → rows ≡ capacity t₁
-as_lent t t₁ rows lens r = lent_capacity t rows r ∙ sym (capacity_same t t₁ lens)
+pub as_lent : (t t₁ : Slices) (rows : ℕ) → SameLens t t₁ → rows ≡ capacity t → rows ≡ capacity t₁
+as_lent t t₁ rows lens r = r ∙ sym (capacity_same t t₁ lens)
 
 rows_none : (t : Slices) → rows_of t 0 ≡ []
 unfolding rows_of

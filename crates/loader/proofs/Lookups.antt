@@ -2,7 +2,8 @@
 use Prim.Native.Nat.{ℕ}
 use mathlib.Core.List.{List}
 use mathlib.Core.Path.{◌≡◌, sym, ap, subst, fun_ext, ◌∙◌}
-use Rattle.program.specs.declared.Found.{Found}
+use Rattle.program.specs.declared.Row.{Row}
+use Rattle.std.specs.Prelude.{Option}
 use Rattle.program.specs.Table.{Slices, Lent, Shared, table_after, lookup_in, lookup_ascending_in, row_ascending_in, row_of_found, index_ascending_in, index_of_found, Ready as IsTable}
 use Rattle.program.proofs.Tables.{lookups_agree, row_agrees, index_agrees}
 use Rattle.loader.specs.declared.answer.Accepted.{Accepted}
@@ -42,7 +43,7 @@ index_after file builtins c image ro keys indices kinds starts lengths x l key =
     ∙ ap index_of_found (agree_after file builtins c image ro keys indices kinds starts lengths x l key)
 
 -- so a statement by one lookup is a statement by the other
-by_search : (t' : Slices) (P : Job → (ℕ → Found) → Type 0) (a : Load) (p : Prepared) → OnUsed a (IsTable t')
+by_search : (t' : Slices) (P : Job → (ℕ → Option Row) → Type 0) (a : Load) (p : Prepared) → OnUsed a (IsTable t')
     → OnAccepted a p (λ j used. P j (lookup_in t' used))
     → OnAccepted a p (λ j used. P j (lookup_ascending_in t' used))
 by_search t' P (Accepts x) (Ready j) r h = subst (P j) (fun_ext (λ key. sym (lookups_agree t' x.used r key))) h

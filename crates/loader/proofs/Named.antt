@@ -9,6 +9,8 @@ use mathlib.Core.List.{List}
 use lib.ListN.{length, take, drop}
 use lib.Dec.{ltb, eqb}
 use borrow.Author.Tests.{ltb-false}
+use Rattle.program.specs.HashedLegacy.{LegacyResult}
+use Rattle.std.specs.Prelude.{Ok, Err}
 use Rattle.ebpf.specs.Choice.{◌if◌else◌}
 use Rattle.elf_parser.specs.declared.types.Elf64Sym.{Elf64Sym}
 use Rattle.elf_parser.specs.declared.layout.Layout.{Layout}
@@ -19,8 +21,6 @@ use Rattle.elf_parser.specs.declared.records.Sym.TheVariants.{Symbol, Refused as
 use Rattle.elf_parser.specs.Names.{dynamic_symbol_name}
 use Rattle.elf_parser.specs.Records.{dynamic_symbol_of}
 use Rattle.program.specs.declared.FunctionName.{FunctionName}
-use Rattle.program.specs.declared.Legacy.{Legacy}
-use Rattle.program.specs.declared.Legacy.TheVariants.{Free, Taken}
 use Rattle.program.proofs.Cases.{zero_one}
 use Rattle.loader.specs.declared.deeds.Deed.{Deed}
 use Rattle.loader.specs.declared.deeds.Deed.TheVariants.{Skip, Refuse, Halves, Word, Key, Register, RegisterOnly, RegisterOutside}
@@ -105,9 +105,9 @@ module _ (b : ℕ) where
     four : immediate_at r + 4 ≤ n → ◌≡◌ {A = Bool} false false → is_in (r + 4) 4 b ≡ is_in (immediate_at r) 4 b
     four l h = rw (immediate_plain l) refl
 
-    register_clear : (row : Legacy) → Clear (is_in (r + 4) 4 b) (register_deed n (immediate_at r) row)
-    register_clear (Taken key) = never
-    register_clear (Free row) = one _ _ _ _ never (λ e. four (at_fits _ e))
+    register_clear : (row : LegacyResult) → Clear (is_in (r + 4) 4 b) (register_deed n (immediate_at r) row)
+    register_clear (Err taken) = never
+    register_clear (Ok row) = one _ _ _ _ never (λ e. four (at_fits _ e))
 
     function_clear : (builtins : List ℕ) (j : Job) (name : FunctionName) (value : ℕ) → Clear (is_in (r + 4) 4 b) (function_call builtins j n (immediate_at r) name value)
     unfolding function_call

@@ -4,10 +4,11 @@ use mathlib.Core.Bool.{Bool, true, false}
 use mathlib.Core.List.{List}
 use Prim.Native.Nat.{ℕ}
 use native.Mathlib.Omega.{arith}
+use Rattle.program.specs.declared.RegisterError.TheVariants.{Collision, Full}
+use Rattle.program.specs.declared.Registered.TheVariants.{Inserted, Repeat}
+use Rattle.std.specs.Prelude.{Ok, Err}
 use Rattle.program.specs.declared.Row.{Row}
-use Rattle.program.specs.declared.Registered.{Registered}
-use Rattle.program.specs.declared.Registered.TheVariants.{Inserted, Repeat, Collision, Full}
-use Rattle.program.specs.Rows.{registered}
+use Rattle.program.specs.Rows.{registered, RegisterResult}
 use Rattle.program.specs.Rows as table
 use Rattle.program.specs.Table.{Slices, capacity, rows_of, Ready}
 use Rattle.program.proofs.Cases.{zero_one}
@@ -23,22 +24,22 @@ use Rattle.loader.specs.Deeds.{written, entry_of, behind, entry_trace, deed_trac
 use Rattle.loader.specs.InnerContracts.{finished_by, Settles, Enters}
 
 -- a registration that is held, and then refused
-held_stop : (x : Registered) (rows key m : ℕ) (im : List ℕ) (rs rs' : List Row) (m' : ℕ) (r : ElfError)
+held_stop : (x : RegisterResult) (rows key m : ℕ) (im : List ℕ) (rs rs' : List Row) (m' : ℕ) (r : ElfError)
     → accepted im rs' m' ≡ on_registered x rows key m (λ (n : ℕ). accepted im rs n)
     → refused r ≡ on_registered x rows key m (λ (n : ℕ). refused r)
-held_stop (Inserted n) rows key m im rs rs' m' r e = refl
-held_stop Repeat rows key m im rs rs' m' r e = refl
-held_stop Collision rows key m im rs rs' m' r e = absurd (zero_one (cc))
-held_stop Full rows key m im rs rs' m' r e = absurd (zero_one (cc))
+held_stop (Ok (Inserted n)) rows key m im rs rs' m' r e = refl
+held_stop (Ok Repeat) rows key m im rs rs' m' r e = refl
+held_stop (Err Collision) rows key m im rs rs' m' r e = absurd (zero_one (cc))
+held_stop (Err Full) rows key m im rs rs' m' r e = absurd (zero_one (cc))
 
 -- one that is refused is refused whatever follows
-refused_stop : (x : Registered) (rows key m : ℕ) (im : List ℕ) (rs : List Row) (q r : ElfError)
+refused_stop : (x : RegisterResult) (rows key m : ℕ) (im : List ℕ) (rs : List Row) (q r : ElfError)
     → refused q ≡ on_registered x rows key m (λ (n : ℕ). accepted im rs n)
     → refused q ≡ on_registered x rows key m (λ (n : ℕ). refused r)
-refused_stop (Inserted n) rows key m im rs q r e = absurd (zero_one (cc))
-refused_stop Repeat rows key m im rs q r e = absurd (zero_one (cc))
-refused_stop Collision rows key m im rs q r e = e
-refused_stop Full rows key m im rs q r e = e
+refused_stop (Ok (Inserted n)) rows key m im rs q r e = absurd (zero_one (cc))
+refused_stop (Ok Repeat) rows key m im rs q r e = absurd (zero_one (cc))
+refused_stop (Err Collision) rows key m im rs q r e = e
+refused_stop (Err Full) rows key m im rs q r e = e
 
 outside_row : (row : Row) (im : List ℕ) (t u : Slices) (used moves : ℕ) (a : Outcome)
     → Settles (register row (done im)) im t u 1 used moves a

@@ -1,5 +1,6 @@
 -- What each field of `Loads` and of `Demand3` says of a small file: a call's key, the table's keys, an untouched byte, a refusal. Each law uses its
 -- field alone, so that a field that says less does not prove it. Assumes nothing.
+use Rattle.std.specs.Prelude.{Option, Ok}
 use Rattle.ebpf.specs.Choice.{◌if◌else◌}
 use Rattle.ebpf.specs.IndexKeys.{index_key, key_in}
 use Rattle.ebpf.specs.Instructions.{slot_at, insn_at}
@@ -44,8 +45,6 @@ use mathlib.Core.Path.{◌≡◌, refl, sym as flip, ap, subst, ◌∙◌}
 use lib.ListN.{length, get_or, replicate}
 use Rattle.elf_parser.specs.declared.layout.Layout.{Layout}
 use Rattle.program.specs.declared.FunctionName.TheVariants.{OfIndex, Entrypoint}
-use Rattle.program.specs.declared.Legacy.TheVariants.{Free}
-use Rattle.program.specs.declared.Found.{Found}
 use Rattle.program.specs.declared.Row.{Row}
 use Rattle.program.specs.Table.{Slices, Lent, Shared, table_before, table_after, capacity, lay, rows_of, lookup_in, Ready as IsTable}
 use Rattle.program.proofs.Cases.{zero_one}
@@ -149,8 +148,8 @@ record Computed : Type 0 where
   call_0 : call_at (text_of version_2 (job_2 true)) true 0 ≡ To 2
   call_1 : call_at (text_of version_2 (job_2 true)) true 1 ≡ None
   call_2 : call_at (text_of version_2 (job_2 true)) true 2 ≡ None
-  row_call : row_for [] (job_2 true) OfIndex 2 ≡ Free third
-  row_entry : row_for [] (job_2 true) Entrypoint 0 ≡ Free first
+  row_call : row_for [] (job_2 true) OfIndex 2 ≡ Ok third
+  row_entry : row_for [] (job_2 true) Entrypoint 0 ≡ Ok first
   no_labels : (label_symbols version_2 (job_2 true)).count ≡ 0
   reached_2 : reached_in version_2 [] 1 (Ready (job_2 false)) ≡ third ∷ first ∷ []
   reached_all : reached_in version_2 [] 4 (Ready (job_2 false)) ≡ third ∷ first ∷ []
@@ -189,7 +188,7 @@ no_relocations : (file : List ℕ) (check : Bool) (b : ℕ) → Unnamed file (jo
 no_relocations file check b i l = absurd (omega (arith, l))
 
 module _ (t : Slices) (im' : List ℕ) (t' : Slices) (x : Accepted) (d : Demand3 version_2 [] all_on 304 304 t im' t' (Accepts x)) where
-  abbrev look : ℕ → Found
+  abbrev look : ℕ → Option Row
   look = lookup_in t' x.used
 
   -- of this file, where a field holds of whatever passed the checks
@@ -221,11 +220,11 @@ module _ (t : Slices) (im' : List ℕ) (t' : Slices) (x : Accepted) (d : Demand3
     λ h. no_other ((all_keys 1).0 h),
   )
     where
-      no_slot : (i to : ℕ) (row : Row) → i < 3 → call_at (text_of version_2 (job_2 true)) true i ≡ To to → row_for [] (job_2 true) OfIndex to ≡ Free row → row.key ≡ 1 → ⊥
+      no_slot : (i to : ℕ) (row : Row) → i < 3 → call_at (text_of version_2 (job_2 true)) true i ≡ To to → row_for [] (job_2 true) OfIndex to ≡ Ok row → row.key ≡ 1 → ⊥
       no_slot zero to row l c r k =
           let same : To 2 ≡ To to = flip computed.call_0 ∙ c in
           let is : 2 ≡ to = cc in
-          let free : Free third ≡ Free row = flip computed.row_call ∙ ap (row_for [] (job_2 true) OfIndex) is ∙ r in
+          let free : Ok third ≡ Ok row = flip computed.row_call ∙ ap (row_for [] (job_2 true) OfIndex) is ∙ r in
           let key : third.key ≡ row.key = cc in
           zero_one (omega (arith, key, k))
       no_slot (suc zero) to row l c r k = let n : None ≡ To to = flip computed.call_1 ∙ c in zero_one (cc)
@@ -237,7 +236,7 @@ module _ (t : Slices) (im' : List ℕ) (t' : Slices) (x : Accepted) (d : Demand3
       no_other (row, inr (inl (i, r)), k) = absurd (omega (arith, r.0))
       no_other (row, inr (inr (inl (i, r))), k) = absurd (omega (arith, r.0, computed.no_labels))
       no_other (row, inr (inr (inr r)), k) =
-          let free : Free first ≡ Free row = flip computed.row_entry ∙ r in
+          let free : Ok first ≡ Ok row = flip computed.row_entry ∙ r in
           let key : first.key ≡ row.key = cc in
           zero_one (omega (arith, key, k))
 

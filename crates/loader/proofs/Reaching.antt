@@ -8,12 +8,12 @@ use mathlib.Core.Logic.{◌⊎◌, inl, inr, ◌↔◌}
 use mathlib.Core.Bool.{true}
 use mathlib.Core.List.{List, [], ◌∷◌, ◌++◌}
 use lib.ListN.{length}
+use Rattle.program.specs.declared.RegisterError.TheVariants.{Collision, Full}
+use Rattle.program.specs.declared.Registered.TheVariants.{Inserted, Repeat}
+use Rattle.std.specs.Prelude.{Some, None, Ok, Err}
 use Rattle.ebpf.specs.Choice.{◌if◌else◌}
 use Rattle.program.specs.declared.Row.{Row}
-use Rattle.program.specs.declared.Found.TheVariants.{At, Nothing}
-use Rattle.program.specs.declared.Registered.{Registered}
-use Rattle.program.specs.declared.Registered.TheVariants.{Inserted, Repeat, Collision, Full}
-use Rattle.program.specs.Rows.{rank, Ascending, find, insert, remove, above, registered, unregister}
+use Rattle.program.specs.Rows.{rank, Ascending, find, insert, remove, above, registered, unregister, RegisterResult}
 use Rattle.program.specs.Rows as table
 use Rattle.program.specs.Runs.{moves_gone}
 use Rattle.program.proofs.Cases.{zero_one}
@@ -60,11 +60,11 @@ unfolding each
 steady_each P step s zero i im = tt
 steady_each P step s (suc n) i im = steady_then P (step i im) (λ (im' : List ℕ). each step n (i + 1) im') (s i im) (λ im'. steady_each P step s n (i + 1) im')
 
-among_on : (x : Row) (a : Registered) (l : List Row) → Among x (on_reached a l) → Among x l
-among_on x (Inserted m) l h = h
-among_on x Repeat l h = h
-among_on x Collision l h = absurd h
-among_on x Full l h = absurd h
+among_on : (x : Row) (a : RegisterResult) (l : List Row) → Among x (on_reached a l) → Among x l
+among_on x (Ok (Inserted m)) l h = h
+among_on x (Ok Repeat) l h = h
+among_on x (Err Collision) l h = absurd h
+among_on x (Err Full) l h = absurd h
 
 module _ (cap : ℕ) (P : Row → Type 0) where
   -- the rows reached are P
@@ -79,14 +79,14 @@ module _ (cap : ℕ) (P : Row → Type 0) where
 
   -- what is found is P
   abbrev pub AllFound : List Row → Type 0
-  AllFound rows = (k : ℕ) (x : Row) → find k rows ≡ At x → P x
+  AllFound rows = (k : ℕ) (x : Row) → find k rows ≡ Some x → P x
 
-  insert_found : (r : Row) (rows : List Row) → find (rank r) rows ≡ Nothing → P r → AllFound rows → AllFound (insert r rows)
+  insert_found : (r : Row) (rows : List Row) → find (rank r) rows ≡ None → P r → AllFound rows → AllFound (insert r rows)
   insert_found r rows none p all k x e = go (ℕ_discrete (rank r) k)
     where
       go : Dec (rank r ≡ k) → P x
       go (yes h) =
-          let f : find (rank r) (insert r rows) ≡ At r = find_insert_same r rows none in
+          let f : find (rank r) (insert r rows) ≡ Some r = find_insert_same r rows none in
           let same : r ≡ x = cc in
           rw (← same) p
       go (no ne) = all k x (sym (find_insert_other k r rows ne) ∙ e)
@@ -98,7 +98,7 @@ module _ (cap : ℕ) (P : Row → Type 0) where
   accepted_rows (done im) s rows m a all im' rows' m' e = let same : rows ≡ rows' = cc in rw (← same) (a, all)
   accepted_rows (stop r) s rows m a all im' rows' m' e = absurd (zero_one (cc))
   accepted_rows (register r T) s rows m a all im' rows' m' e =
-      by_registered (λ (l : List Row) (g : Registered). on_registered g cap r.key m (λ (n : ℕ). settle cap T l n) ≡ accepted im' rows' m' → Ascending rows' × AllFound rows') cap r rows
+      by_registered (λ (l : List Row) (g : RegisterResult). on_registered g cap r.key m (λ (n : ℕ). settle cap T l n) ≡ accepted im' rows' m' → Ascending rows' × AllFound rows') cap r rows
       (λ _ _ _ e. accepted_rows T s.1 rows m a all im' rows' m' e)
       (λ _ _ _ e. absurd (zero_one (cc)))
       (λ _ _ e. absurd (zero_one (cc)))
@@ -108,25 +108,25 @@ module _ (cap : ℕ) (P : Row → Type 0) where
 
   -- a row reached whose key finds another index is refused
   hit : (T : Trace) → Steady P T → (rows : List Row) (m : ℕ) (x y : Row)
-      → find (rank y) rows ≡ At x → (x.index ≡ y.index → ⊥) → Among y (reached cap T rows) → Collides (settle cap T rows m)
+      → find (rank y) rows ≡ Some x → (x.index ≡ y.index → ⊥) → Among y (reached cap T rows) → Collides (settle cap T rows m)
   unfolding settle reached
   hit (done im) s rows m x y f ne h = absurd h
   hit (stop r) s rows m x y f ne h = absurd h
   hit (register r T) s rows m x y f ne h =
-      by_registered (λ (l : List Row) (g : Registered). (y ≡ r) ⊎ Among y (on_reached g (reached cap T l)) → Collides (on_registered g cap r.key m (λ (n : ℕ). settle cap T l n))) cap r rows
+      by_registered (λ (l : List Row) (g : RegisterResult). (y ≡ r) ⊎ Among y (on_reached g (reached cap T l)) → Collides (on_registered g cap r.key m (λ (n : ℕ). settle cap T l n))) cap r rows
       (same (λ q. hit T s.1 rows m x y f ne q)) (λ _ _ _ _. (r.key, refl)) full (more (λ g q. hit T s.1 (insert r rows) _ x y g ne q)) h
     where
       same : (Among y (reached cap T rows) → Collides (settle cap T rows m))
-          → (z : Row) → find (rank r) rows ≡ At z → z.index ≡ r.index → (y ≡ r) ⊎ Among y (reached cap T rows) → Collides (settle cap T rows m)
+          → (z : Row) → find (rank r) rows ≡ Some z → z.index ≡ r.index → (y ≡ r) ⊎ Among y (reached cap T rows) → Collides (settle cap T rows m)
       same on z e i (inl q) = absurd (ne (cc))
       same on z e i (inr q) = on q
 
-      full : find (rank r) rows ≡ Nothing → cap ≤ length rows → (y ≡ r) ⊎ ⊥ → Collides (refused (TableFull cap))
+      full : find (rank r) rows ≡ None → cap ≤ length rows → (y ≡ r) ⊎ ⊥ → Collides (refused (TableFull cap))
       full none l (inl q) = absurd (zero_one (cc))
       full none l (inr q) = absurd q
 
-      more : (find (rank y) (insert r rows) ≡ At x → Among y (reached cap T (insert r rows)) → Collides (settle cap T (insert r rows) (m + above (rank r) rows)))
-          → find (rank r) rows ≡ Nothing → length rows < cap → (y ≡ r) ⊎ Among y (reached cap T (insert r rows)) → Collides (settle cap T (insert r rows) (m + above (rank r) rows))
+      more : (find (rank y) (insert r rows) ≡ Some x → Among y (reached cap T (insert r rows)) → Collides (settle cap T (insert r rows) (m + above (rank r) rows)))
+          → find (rank r) rows ≡ None → length rows < cap → (y ≡ r) ⊎ Among y (reached cap T (insert r rows)) → Collides (settle cap T (insert r rows) (m + above (rank r) rows))
       more on none l (inl q) = absurd (zero_one (cc))
       more on none l (inr q) = on (find_insert_other (rank y) r rows (λ k. zero_one (cc)) ∙ f) q
   hit (forget key T) s rows m x y f ne h = absurd s
@@ -138,7 +138,7 @@ module _ (cap : ℕ) (P : Row → Type 0) where
   two (done im) s rows m x y k ne h g = absurd h
   two (stop r) s rows m x y k ne h g = absurd h
   two (register r T) s rows m x y k ne h g =
-      by_registered (λ (l : List Row) (a : Registered).
+      by_registered (λ (l : List Row) (a : RegisterResult).
       (x ≡ r) ⊎ Among x (on_reached a (reached cap T l)) → (y ≡ r) ⊎ Among y (on_reached a (reached cap T l)) → Collides (on_registered a cap r.key m (λ (n : ℕ). settle cap T l n))) cap r rows
       (λ z e i. later rows m (λ p q. two T s.1 rows m x y k ne p q) z e i)
       (λ _ _ _ _ _. (r.key, refl))
@@ -146,11 +146,11 @@ module _ (cap : ℕ) (P : Row → Type 0) where
       (λ none _. later (insert r rows) (m + above (rank r) rows) (λ p q. two T s.1 (insert r rows) _ x y k ne p q) r (find_insert_same r rows none) refl)
       h g
     where
-      later : (l : List Row) (n : ℕ) → (Among x (reached cap T l) → Among y (reached cap T l) → Collides (settle cap T l n)) → (z : Row) → find (rank r) l ≡ At z → z.index ≡ r.index
+      later : (l : List Row) (n : ℕ) → (Among x (reached cap T l) → Among y (reached cap T l) → Collides (settle cap T l n)) → (z : Row) → find (rank r) l ≡ Some z → z.index ≡ r.index
           → (x ≡ r) ⊎ Among x (reached cap T l) → (y ≡ r) ⊎ Among y (reached cap T l) → Collides (settle cap T l n)
       later l n on z e i (inl p) (inl q) = absurd (ne (cc))
-      later l n on z e i (inl p) (inr q) = hit T s.1 l n z y (let h : find (rank y) l ≡ At z = rw (← k, p) e in h) (λ j. ne (cc)) q
-      later l n on z e i (inr p) (inl q) = hit T s.1 l n z x (let h : find (rank x) l ≡ At z = rw (k, q) e in h) (λ j. ne (cc)) p
+      later l n on z e i (inl p) (inr q) = hit T s.1 l n z y (let h : find (rank y) l ≡ Some z = rw (← k, p) e in h) (λ j. ne (cc)) q
+      later l n on z e i (inr p) (inl q) = hit T s.1 l n z x (let h : find (rank x) l ≡ Some z = rw (k, q) e in h) (λ j. ne (cc)) p
       later l n on z e i (inr p) (inr q) = on p q
 
       full : (x ≡ r) ⊎ ⊥ → (y ≡ r) ⊎ ⊥ → Collides (refused (TableFull cap))
@@ -163,28 +163,28 @@ module _ (cap : ℕ) (P : Row → Type 0) where
   pub record Meets (rows : List Row) (l : List Row) : Type 0 where
     pub x : Row
     pub y : Row
-    pub before : (find (rank x) rows ≡ At x) ⊎ Among x l
+    pub before : (find (rank x) rows ≡ Some x) ⊎ Among x l
     pub reaches : Among y l
     pub key : rank x ≡ rank y
     pub apart : x.index ≡ y.index → ⊥
 
-  further : (r : Row) (rows held l : List Row) → ((x : Row) → find (rank x) held ≡ At x → (find (rank x) rows ≡ At x) ⊎ (x ≡ r)) → Meets held l → Meets rows (r ∷ l)
+  further : (r : Row) (rows held l : List Row) → ((x : Row) → find (rank x) held ≡ Some x → (find (rank x) rows ≡ Some x) ⊎ (x ≡ r)) → Meets held l → Meets rows (r ∷ l)
   further r rows held l old w = record { x = w.x; y = w.y; before = go w.before; reaches = inr w.reaches; key = w.key; apart = w.apart }
     where
-      first : (find (rank w.x) rows ≡ At w.x) ⊎ (w.x ≡ r) → (find (rank w.x) rows ≡ At w.x) ⊎ Among w.x (r ∷ l)
+      first : (find (rank w.x) rows ≡ Some w.x) ⊎ (w.x ≡ r) → (find (rank w.x) rows ≡ Some w.x) ⊎ Among w.x (r ∷ l)
       first (inl f) = inl f
       first (inr e) = inr (inl e)
 
-      go : (find (rank w.x) held ≡ At w.x) ⊎ Among w.x l → (find (rank w.x) rows ≡ At w.x) ⊎ Among w.x (r ∷ l)
+      go : (find (rank w.x) held ≡ Some w.x) ⊎ Among w.x l → (find (rank w.x) rows ≡ Some w.x) ⊎ Among w.x (r ∷ l)
       go (inl f) = first (old w.x f)
       go (inr h) = inr (inr h)
 
-  inserted_old : (r : Row) (rows : List Row) → find (rank r) rows ≡ Nothing → (x : Row) → find (rank x) (insert r rows) ≡ At x → (find (rank x) rows ≡ At x) ⊎ (x ≡ r)
+  inserted_old : (r : Row) (rows : List Row) → find (rank r) rows ≡ None → (x : Row) → find (rank x) (insert r rows) ≡ Some x → (find (rank x) rows ≡ Some x) ⊎ (x ≡ r)
   inserted_old r rows none x e = go (ℕ_discrete (rank r) (rank x))
     where
-      go : Dec (rank r ≡ rank x) → (find (rank x) rows ≡ At x) ⊎ (x ≡ r)
+      go : Dec (rank r ≡ rank x) → (find (rank x) rows ≡ Some x) ⊎ (x ≡ r)
       go (yes h) =
-          let f : find (rank r) (insert r rows) ≡ At r = find_insert_same r rows none in
+          let f : find (rank r) (insert r rows) ≡ Some r = find_insert_same r rows none in
           let same : x ≡ r = cc in
           inr same
       go (no ne) = inl (sym (find_insert_other (rank x) r rows ne) ∙ e)
@@ -194,7 +194,7 @@ module _ (cap : ℕ) (P : Row → Type 0) where
   meets (done im) s rows m c = absurd (let e = c.1 in zero_one (cc))
   meets (stop r) s rows m c = absurd (no_collision r s c)
   meets (register r T) s rows m c =
-      by_registered (λ (l : List Row) (a : Registered). Collides (on_registered a cap r.key m (λ (n : ℕ). settle cap T l n)) → Meets rows (r ∷ on_reached a (reached cap T l))) cap r rows
+      by_registered (λ (l : List Row) (a : RegisterResult). Collides (on_registered a cap r.key m (λ (n : ℕ). settle cap T l n)) → Meets rows (r ∷ on_reached a (reached cap T l))) cap r rows
       (λ _ _ _ c. further r rows rows (reached cap T rows) (λ _ f. inl f) (meets T s.1 rows m c))
       (λ z e ne _. let k : rank z ≡ rank r = find_rank (rank r) z rows e in record { x = z; y = r; before = inl (rw k e); reaches = inl refl; key = k; apart = ne })
       (λ _ _ c. absurd (let e = c.1 in zero_one (cc)))
@@ -247,11 +247,11 @@ neither : (s : Settled) (cap n : ℕ) → (Fills s → ⊥) → n ≤ cap → Fi
 neither s cap n never l = (λ f. absurd (never f), λ h. absurd (omega arith))
 
 -- a key held before counts once
-counts_held : (r x : Row) (l rows : List Row) → find (rank r) rows ≡ At x → counts (r ∷ l) rows ≡ counts l rows
+counts_held : (r x : Row) (l rows : List Row) → find (rank r) rows ≡ Some x → counts (r ∷ l) rows ≡ counts l rows
 unfolding rank
 counts_held r x l rows e = (same_again r.key (keys_of l ++ keys_of rows) (one_behind r.key (keys_of l) (keys_of rows) (one_held r.key x rows e))).count
 
-counts_new : (r : Row) (rows : List Row) → Ascending rows → find (rank r) rows ≡ Nothing → counts (r ∷ []) rows ≡ suc (length rows)
+counts_new : (r : Row) (rows : List Row) → Ascending rows → find (rank r) rows ≡ None → counts (r ∷ []) rows ≡ suc (length rows)
 unfolding distinct ◌if◌else◌ rank
 counts_new r rows a none = rw (one_missing r.key rows none) (ap suc (distinct_rows rows a))
 
@@ -275,7 +275,7 @@ module _ (cap : ℕ) where
   full_counts (done im) s rows m a l = neither (accepted im rows m) cap (counts [] rows) (λ c. let e = c.1 in zero_one (cc)) (omega (arith, distinct_rows rows a))
   full_counts (stop r) s rows m a l = neither (refused r) cap (counts [] rows) (no_full r s) (omega (arith, distinct_rows rows a))
   full_counts (register r T) s rows m a l =
-      by_registered (λ (h : List Row) (g : Registered). Fills (on_registered g cap r.key m (λ (n : ℕ). settle cap T h n)) ↔ (cap < counts (r ∷ on_reached g (reached cap T h)) rows)) cap r rows
+      by_registered (λ (h : List Row) (g : RegisterResult). Fills (on_registered g cap r.key m (λ (n : ℕ). settle cap T h n)) ↔ (cap < counts (r ∷ on_reached g (reached cap T h)) rows)) cap r rows
       (λ x e _. rw (counts_held r x (reached cap T rows) rows e) (full_counts T s rows m a l))
       (λ x e _. neither (refused (SymbolHashCollision r.key)) cap (counts (r ∷ []) rows) (λ c. let e = c.1 in zero_one (cc)) (omega (arith, counts_held r x [] rows e, distinct_rows rows a)))
       (λ none short. (λ _. omega (arith, counts_new r rows a none), λ _. (cap, refl)))

@@ -7,14 +7,13 @@ use mathlib.Core.Logic.{◌⊎◌, inl, inr, ◌↔◌}
 use mathlib.Core.Bool.{Bool, true, false, not}
 use mathlib.Core.List.{List, [], map, append-nil}
 use lib.Dec.{eqb}
+use Rattle.std.specs.Prelude.{Some, None}
 use Rattle.ebpf.specs.Choice.{◌if◌else◌}
 use Rattle.ebpf.proofs.Injective.{key_injective}
 use Rattle.program.specs.declared.FunctionName.TheVariants.{Entrypoint}
 use Rattle.program.specs.declared.Row.{Row}
-use Rattle.program.specs.declared.Found.TheVariants.{At, Nothing}
-use Rattle.program.specs.declared.Registered.{Registered}
 use Rattle.program.specs.HashedLegacy.{legacy_key}
-use Rattle.program.specs.Rows.{rank, Ascending, find, insert, remove}
+use Rattle.program.specs.Rows.{rank, Ascending, find, insert, remove, RegisterResult}
 use Rattle.program.proofs.Cases.{zero_one}
 use Rattle.program.proofs.Rows.{not_both}
 use Rattle.program.proofs.Laws.{by_registered, find_remove_same}
@@ -123,12 +122,12 @@ module _ (file builtins : List ℕ) (j : Job) (off : j.check_collision ≡ false
 
   module _ (cap : ℕ) where
     -- it collides with nothing where its key finds its index, if anything
-    entry_clear : (im : List ℕ) (rows : List Row) (m : ℕ) → ((z : Row) → find (rank row) rows ≡ At z → z.index ≡ row.index)
+    entry_clear : (im : List ℕ) (rows : List Row) (m : ℕ) → ((z : Row) → find (rank row) rows ≡ Some z → z.index ≡ row.index)
         → Collides (settle cap (and_then (deed_trace (entry_deed builtins j) im) (placed_trace j.placing)) rows m) → ⊥
     unfolding settle and_then
     entry_clear im rows m own = entered (λ (T : Trace). Collides (settle cap (and_then T (placed_trace j.placing)) rows m) → ⊥) im
         (no_collision InvalidEntrypoint refl)
-        (by_registered (λ (l : List Row) (a : Registered). Collides (on_registered a cap row.key m (λ (n : ℕ). settle cap (placed_trace j.placing im) l n)) → ⊥) cap row rows
+        (by_registered (λ (l : List Row) (a : RegisterResult). Collides (on_registered a cap row.key m (λ (n : ℕ). settle cap (placed_trace j.placing im) l n)) → ⊥) cap row rows
         (λ _ _ _ c. placed_clear cap j.placing place im rows m c)
         (λ z e ne _. ne (own z e))
         (λ _ _ c. let e = c.1 in zero_one (cc))
@@ -138,11 +137,11 @@ module _ (file builtins : List ℕ) (j : Job) (off : j.check_collision ≡ false
     unfolding settle and_then rank
     late_clear im rows m a all = go j.version2 refl
       where
-        index_found : j.version2 ≡ true → (z : Row) → find (rank row) rows ≡ At z → z.index ≡ row.index
+        index_found : j.version2 ≡ true → (z : Row) → find (rank row) rows ≡ Some z → z.index ≡ row.index
         index_found e z f = sym (good_index j.version2 e z (all (rank row) z f)) ∙ find_rank (rank row) z rows f ∙ key_index e
 
-        none_found : j.version2 ≡ false → (z : Row) → find (rank row) (remove name_key rows) ≡ At z → z.index ≡ row.index
-        none_found e z f = absurd (not_both z (find (rank row) (remove name_key rows)) f (subst (λ (k : ℕ). find k (remove name_key rows) ≡ Nothing) (sym (key_name e)) (find_remove_same name_key rows a)))
+        none_found : j.version2 ≡ false → (z : Row) → find (rank row) (remove name_key rows) ≡ Some z → z.index ≡ row.index
+        none_found e z f = absurd (not_both z (find (rank row) (remove name_key rows)) f (subst (λ (k : ℕ). find k (remove name_key rows) ≡ None) (sym (key_name e)) (find_remove_same name_key rows a)))
 
         go : (v : Bool) → j.version2 ≡ v → Collides (settle cap (and_then (and_then (forget_trace v im) (λ (im' : List ℕ). deed_trace (entry_deed builtins j) im')) (placed_trace j.placing)) rows m) → ⊥
         go true e = entry_clear im rows m (index_found e)
@@ -183,15 +182,15 @@ module _ (file builtins : List ℕ) (j : Job) (off : j.check_collision ≡ false
         there : (s : Settled) → settle cap early [] 0 ≡ s → Collides (on_settled s (λ (im : List ℕ) (rows : List Row) (m : ℕ). settle cap (late_trace builtins j im) rows m)) → Collides s
         there (refused r) e c = c
         there (accepted im rows m) e c =
-            let held = accepted_rows cap (Good j.version2) early steady [] 0 tt (λ k x f. absurd (not_both x Nothing f refl)) im rows m e in
+            let held = accepted_rows cap (Good j.version2) early steady [] 0 tt (λ k x f. absurd (not_both x None f refl)) im rows m e in
             absurd (late_clear cap im rows m held.0 held.1 c)
 
     clash_meets : Meets cap (Good j.version2) [] (reached cap early []) → Clash (reached cap early [])
     unfolding rank
     clash_meets w = go w.before
       where
-        go : (find (rank w.x) [] ≡ At w.x) ⊎ Among w.x (reached cap early []) → Clash (reached cap early [])
-        go (inl f) = absurd (not_both w.x Nothing f refl)
+        go : (find (rank w.x) [] ≡ Some w.x) ⊎ Among w.x (reached cap early []) → Clash (reached cap early [])
+        go (inl f) = absurd (not_both w.x None f refl)
         go (inr a) =
             let gx = reached_are cap (Good j.version2) early steady [] w.x a in
             let gy = reached_are cap (Good j.version2) early steady [] w.y w.reaches in

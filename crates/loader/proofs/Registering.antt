@@ -10,6 +10,8 @@ use lib.Dec.{eqb}
 use lib.Bits.{bit_and}
 use native.Mathlib.Omega.{arith}
 use borrow.Author.Tests.{eqb-true}
+use Rattle.program.specs.HashedLegacy.{LegacyResult}
+use Rattle.std.specs.Prelude.{Ok, Err}
 use Rattle.ebpf.specs.Choice.{◌if◌else◌, eq_not}
 use Rattle.elf_parser.specs.declared.types.Elf64Sym.{Elf64Sym}
 use Rattle.elf_parser.specs.declared.parts.Place.{Place}
@@ -20,8 +22,6 @@ use Rattle.elf_parser.specs.Records.{dynamic_symbol_of, sym_of}
 use Rattle.elf_parser.specs.Names.{symbol_name, dynamic_symbol_name}
 use Rattle.program.specs.declared.Row.{Row}
 use Rattle.program.specs.declared.FunctionName.TheVariants.{OfIndex, Entrypoint}
-use Rattle.program.specs.declared.Legacy.{Legacy}
-use Rattle.program.specs.declared.Legacy.TheVariants.{Free, Taken}
 use Rattle.program.proofs.Cases.{zero_one}
 use Rattle.loader.specs.declared.error.ElfError.TheVariants.{InvalidEntrypoint}
 use Rattle.loader.specs.declared.calls.Call.{Call}
@@ -83,14 +83,14 @@ either false x y P p q = q refl
 -- ---- local calls
 
 module _ (file builtins : List ℕ) (j : Job) (i : ℕ) (l : i < slot_count j) where
-  row_asks : (to : ℕ) → call_at (text_of file j) j.version2 i ≡ To to → (r : Legacy) → row_for builtins j OfIndex to ≡ r → AsksFor (entry_of (call_row (immediate j i) r)) (OfCall file builtins j i)
-  row_asks to c (Taken key) e = tt
-  row_asks to c (Free r) e = λ row. (
+  row_asks : (to : ℕ) → call_at (text_of file j) j.version2 i ≡ To to → (r : LegacyResult) → row_for builtins j OfIndex to ≡ r → AsksFor (entry_of (call_row (immediate j i) r)) (OfCall file builtins j i)
+  row_asks to c (Err taken) e = tt
+  row_asks to c (Ok r) e = λ row. (
     λ h.
         let same : h.0 ≡ to = (let t : To h.0 ≡ To to = sym h.1.1 ∙ c in cc) in
-        let f : Free row ≡ Free r = sym h.2 ∙ ap (row_for builtins j OfIndex) same ∙ e in
+        let f : Ok row ≡ Ok r = sym h.2 ∙ ap (row_for builtins j OfIndex) same ∙ e in
         cc,
-    λ h. (to, (l, c), e ∙ ap Free (sym h)),
+    λ h. (to, (l, c), e ∙ ap Ok (sym h)),
   )
 
   call_asks : (c : Call) → call_at (text_of file j) j.version2 i ≡ c → AsksFor (entry_of (call_by builtins j i c)) (OfCall file builtins j i)
@@ -103,13 +103,13 @@ module _ (file builtins : List ℕ) (j : Job) (i : ℕ) (l : i < slot_count j) w
   slot_asks = call_asks (call_at (text_of file j) j.version2 i) refl
 
   -- a call that does not stop has a row
-  call_row_lem : (im im' : List ℕ) → Ends (slot_trace file builtins j i im) im' → (to : ℕ) → call_at (text_of file j) j.version2 i ≡ To to → (row : Row) × (row_for builtins j OfIndex to ≡ Free row)
+  call_row_lem : (im im' : List ℕ) → Ends (slot_trace file builtins j i im) im' → (to : ℕ) → call_at (text_of file j) j.version2 i ≡ To to → (row : Row) × (row_for builtins j OfIndex to ≡ Ok row)
   unfolding slot_trace call_deed deed_trace
   call_row_lem im im' e to c = go (row_for builtins j OfIndex to) (subst (λ (c : Call). Ends (deed_trace (call_by builtins j i c) im) im') c e)
     where
-      go : (r : Legacy) → Ends (entry_trace (entry_of (call_row (immediate j i) r)) (written (call_row (immediate j i) r) im)) im' → (row : Row) × (r ≡ Free row)
-      go (Free row) e = (row, refl)
-      go (Taken key) e = absurd e
+      go : (r : LegacyResult) → Ends (entry_trace (entry_of (call_row (immediate j i) r)) (written (call_row (immediate j i) r) im)) im' → (row : Row) × (r ≡ Ok row)
+      go (Ok row) e = (row, refl)
+      go (Err taken) e = absurd e
 
   -- a local call has a target: the trace would stop at one whose target is outside
   call_to : (im im' : List ℕ) → Ends (slot_trace file builtins j i im) im' → LocalCall file j i → (to : ℕ) × CallsTo file j i to
@@ -167,12 +167,12 @@ module _ (file builtins : List ℕ) (j : Job) (i : ℕ) (l : i < relocation_coun
     same_symbol row h = let s : Symbol h.2 ≡ Symbol y = sym h.3 ∙ symbol in cc
 
     module _ (start n : ℕ) (name : dynamic_symbol_name file j.layout y.st_name ≡ Stands start n) where
-      abbrev row_of_this : ℕ → ℕ → Elf64Sym → Legacy
+      abbrev row_of_this : ℕ → ℕ → Elf64Sym → LegacyResult
       row_of_this start n y = row_for builtins j (symbol_function (take n (drop start file)) start n) (index_of j y.st_value)
 
-      function_row : is_function y ≡ true → (len at : ℕ) (x : Legacy) → row_of_this start n y ≡ x → AsksFor (entry_of (register_deed len at x)) OfThis
-      function_row f len at (Taken key) e = tt
-      function_row f len at (Free r) e = either _ _ _ OfThis (λ _. tt) (λ _ row. (only row, λ h. (l, ten, y, symbol, f, start, n, name, e ∙ ap Free (sym h))))
+      function_row : is_function y ≡ true → (len at : ℕ) (x : LegacyResult) → row_of_this start n y ≡ x → AsksFor (entry_of (register_deed len at x)) OfThis
+      function_row f len at (Err taken) e = tt
+      function_row f len at (Ok r) e = either _ _ _ OfThis (λ _. tt) (λ _ row. (only row, λ h. (l, ten, y, symbol, f, start, n, name, e ∙ ap Ok (sym h))))
         where
           only : (row : Row) → OfThis row → row ≡ r
           only row h =
@@ -180,7 +180,7 @@ module _ (file builtins : List ℕ) (j : Job) (i : ℕ) (l : i < relocation_coun
               let p : Stands h.5 h.6 ≡ Stands start n = sym h.7 ∙ ap (λ (y : Elf64Sym). dynamic_symbol_name file j.layout y.st_name) s ∙ name in
               let a : h.5 ≡ start = cc in
               let b : h.6 ≡ n = cc in
-              let q : Free row ≡ Free r = sym h.8 ∙ rw (s, a, b) e in
+              let q : Ok row ≡ Ok r = sym h.8 ∙ rw (s, a, b) e in
               cc
 
       called_asks : (len r : ℕ) → AsksFor (entry_of (call_by_name (take n (drop start file)) builtins j len r y start n)) OfThis
@@ -224,9 +224,9 @@ told a b e = go (eqb a b) refl e
     go false h e = absurd (zero_one (cc))
 
 -- a row that is only registered
-label_row_asks : (P : Row → Type 0) (x : Legacy) → ((row : Row) → P row ↔ (x ≡ Free row)) → AsksFor (entry_of (label_row x)) P
-label_row_asks P (Taken key) h = tt
-label_row_asks P (Free r) h = λ row. (λ p. let e : Free r ≡ Free row = (h row).0 p in cc, λ e. (h row).1 (ap Free (sym e)))
+label_row_asks : (P : Row → Type 0) (x : LegacyResult) → ((row : Row) → P row ↔ (x ≡ Ok row)) → AsksFor (entry_of (label_row x)) P
+label_row_asks P (Err taken) h = tt
+label_row_asks P (Ok r) h = λ row. (λ p. let e : Ok r ≡ Ok row = (h row).0 p in cc, λ e. (h row).1 (ap Ok (sym e)))
 
 module _ (file builtins : List ℕ) (j : Job) (i : ℕ) (l : i < (label_symbols file j).count) where
   abbrev OfSymbol : Row → Type 0
@@ -240,7 +240,7 @@ module _ (file builtins : List ℕ) (j : Job) (i : ℕ) (l : i < (label_symbols 
     named_label_lem two (NoPlace x) e = tt
     named_label_lem two (Stands start n) e = label_row_asks OfSymbol _ (λ row. (only row, λ r. (l, y, symbol, two, start, n, e, r)))
       where
-        only : (row : Row) → OfSymbol row → row_for builtins j (symbol_function (take n (drop start file)) start n) (index_of j y.st_value) ≡ Free row
+        only : (row : Row) → OfSymbol row → row_for builtins j (symbol_function (take n (drop start file)) start n) (index_of j y.st_value) ≡ Ok row
         only row h =
             let s : h.1 ≡ y = same_label row h in
             let p : Stands h.4 h.5 ≡ Stands start n = sym h.6 ∙ ap (λ (y : Elf64Sym). symbol_name file j.layout y.st_name) s ∙ e in
@@ -274,10 +274,10 @@ pub entry_row : (builtins : List ℕ) (j : Job) (im im' : List ℕ) → Ends (de
 unfolding entry_deed deed_trace ◌if◌else◌
 entry_row builtins j im im' e = go (not (eqb ((j.e_entry - j.sh_addr) % 8) 0)) (row_for builtins j Entrypoint (entry_index j)) e
   where
-    go : (b : Bool) (x : Legacy) → Ends (deed_trace (Refuse InvalidEntrypoint if b else label_row x) im) im' → (row : Row) × (x ≡ Free row)
+    go : (b : Bool) (x : LegacyResult) → Ends (deed_trace (Refuse InvalidEntrypoint if b else label_row x) im) im' → (row : Row) × (x ≡ Ok row)
     go true x e = absurd e
-    go false (Free row) e = (row, refl)
-    go false (Taken key) e = absurd e
+    go false (Ok row) e = (row, refl)
+    go false (Err taken) e = absurd e
 
 -- ---- the parts before the entry
 
@@ -337,7 +337,7 @@ module _ (file builtins : List ℕ) (j : Job) where
       (λ im. keeps_each (label_trace file builtins j) (λ i im. deed_keeps (label_deed file builtins j (label_symbols file j) i) im) (label_symbols file j).count 0 im)
 
   -- every local call has a row
-  pub calls_have : (im' : List ℕ) → Ends (early_trace file builtins j) im' → (i to : ℕ) → CallsTo file j i to → (row : Row) × (row_for builtins j OfIndex to ≡ Free row)
+  pub calls_have : (im' : List ℕ) → Ends (early_trace file builtins j) im' → (i to : ℕ) → CallsTo file j i to → (row : Row) × (row_for builtins j OfIndex to ≡ Ok row)
   calls_have im' e i to c =
       let b = ends_then (writing_trace file builtins j file) (labels_trace file builtins j) im' e in
       let a = ends_then (calls_trace file builtins j file) (relocations_trace file builtins j) b.0 b.1 in

@@ -3,6 +3,7 @@ use mathlib.Core.Path.{◌≡◌, refl, sym, ap, ◌∙◌}
 use mathlib.Core.Bool.{Bool, true, false}
 use mathlib.Core.List.{List, []}
 use Prim.Native.Nat.{ℕ}
+use Rattle.std.specs.Prelude.{Ok, Err}
 use Rattle.ebpf.specs.Choice.{◌if◌else◌}
 use Rattle.ebpf.specs.IndexKeys.{key_in, first_keys}
 use Rattle.ebpf.proofs.Table.{key_in_lem, key_in_none}
@@ -11,8 +12,7 @@ use Rattle.program.specs.declared.FunctionName.TheVariants.{OfIndex}
 use Rattle.program.specs.declared.Row.{Row}
 use Rattle.program.proofs.Cases.{zero_one}
 use Rattle.loader.specs.declared.validate.Job.{Job}
-use Rattle.program.specs.HashedLegacy.{legacy_key, legacy_row, is_taken, kept_name, row_of}
-use Rattle.program.specs.declared.Legacy.TheVariants.{Free, Taken}
+use Rattle.program.specs.HashedLegacy.{legacy_key, legacy_row, is_taken, kept_name, row_of, collision}
 use Rattle.loader.specs.Functions.{Keyed, row_for}
 use Rattle.loader.specs.Demand.{key_of}
 
@@ -33,11 +33,11 @@ same_row t builtins version2 check labels name index h = rw (same_key t version2
 pub first_keyed : (t : List ℕ) (n : ℕ) → t ≡ first_keys n → Keyed t
 first_keyed t n e i = key_in_lem t n i e
 
-pub row_is : (builtins : List ℕ) (j : Job) (name : FunctionName) (index : ℕ) (row : Row) → row_for builtins j name index ≡ Free row → (row.key ≡ legacy_key [] j.version2 name index) × (row.index ≡ index)
+pub row_is : (builtins : List ℕ) (j : Job) (name : FunctionName) (index : ℕ) (row : Row) → row_for builtins j name index ≡ Ok row → (row.key ≡ legacy_key [] j.version2 name index) × (row.index ≡ index)
 unfolding row_for legacy_row ◌if◌else◌
 row_is builtins j name index row e = go (is_taken builtins j.version2 j.check_collision (legacy_key [] j.version2 name index)) e
   where
-    go : (b : Bool) → (Taken (legacy_key [] j.version2 name index) if b else Free (row_of (legacy_key [] j.version2 name index) index (kept_name j.labels name))) ≡ Free row
+    go : (b : Bool) → (Err (collision (legacy_key [] j.version2 name index)) if b else Ok (row_of (legacy_key [] j.version2 name index) index (kept_name j.labels name))) ≡ Ok row
         → (row.key ≡ legacy_key [] j.version2 name index) × (row.index ≡ index)
     go true e = absurd (zero_one (cc))
     go false e =

@@ -8,6 +8,8 @@ use lib.ListN.{length, drop, get_or, length-drop}
 use lib.Seq.{length-take-le, get_or-take, get_or-drop}
 use lib.Dec.{leb, eqb}
 use borrow.Author.Tests.{leb-false, lt-leb, eqb-false, ne_eqb}
+use Rattle.program.specs.HashedLegacy.{LegacyResult}
+use Rattle.std.specs.Prelude.{Ok, Err}
 use Rattle.ebpf.specs.Choice.{◌if◌else◌, not_first}
 use Rattle.ebpf.specs.LittleEndian.{le, le_byte}
 use Rattle.ebpf.specs.Instructions.{slot_at, insn_at}
@@ -15,8 +17,6 @@ use Rattle.ebpf.specs.declared.Insn.{Insn}
 use Rattle.std.specs.Prelude.{Some}
 use Rattle.program.specs.Table.{Slices}
 use Rattle.program.proofs.Cases.{zero_one}
-use Rattle.program.specs.declared.Legacy.{Legacy}
-use Rattle.program.specs.declared.Legacy.TheVariants.{Free, Taken}
 use Rattle.program.specs.declared.FunctionName.TheVariants.{OfIndex}
 use Rattle.loader.specs.declared.calls.Call.{Call}
 use Rattle.loader.specs.declared.calls.Call.TheVariants.{None, To, Outside}
@@ -29,9 +29,9 @@ use Rattle.loader.specs.Calls.{next_call, is_local_call, call_of, call_at, text_
 use Rattle.loader.specs.InnerContracts.{InFile, Begins}
 use Rattle.loader.proofs.Going.{GoingIn, in_ahead}
 
-row_fits : (n at : ℕ) (r : Legacy) → at + 4 ≤ n → DeedFits n (call_row at r)
-row_fits n at (Free row) h = h
-row_fits n at (Taken key) h = tt
+row_fits : (n at : ℕ) (r : LegacyResult) → at + 4 ≤ n → DeedFits n (call_row at r)
+row_fits n at (Ok row) h = h
+row_fits n at (Err taken) h = tt
 
 by_fits : (builtins : List ℕ) (j : Job) (i n : ℕ) (c : Call) → immediate j i + 4 ≤ n → DeedFits n (call_by builtins j i c)
 by_fits builtins j i n None h = tt

@@ -7,16 +7,15 @@ use native.Mathlib.Decide.{ℕ_discrete}
 use native.Mathlib.Omega.{arith}
 use lib.ListN.{length, get_or, set, replicate, length-set, length-replicate}
 use lib.Seq.{get_or-set_same, get_or-set_other}
+use Rattle.program.specs.declared.RegisterError.TheVariants.{Collision, Full}
+use Rattle.program.specs.declared.Registered.TheVariants.{Inserted, Repeat}
+use Rattle.std.specs.Prelude.{Ok, Err}
 use Rattle.ebpf.specs.Choice.{◌if◌else◌}
 use Rattle.program.specs.declared.Row.{Row}
 use Rattle.program.specs.declared.KeptName.{KeptName}
-use Rattle.program.specs.declared.Registered.{Registered}
-use Rattle.program.specs.declared.Registered.TheVariants.{Inserted, Repeat, Collision, Full}
 use Rattle.program.specs.declared.FunctionName.TheVariants.{OfIndex}
-use Rattle.program.specs.declared.Legacy.{Legacy}
-use Rattle.program.specs.declared.Legacy.TheVariants.{Free, Taken}
-use Rattle.program.specs.HashedLegacy.{is_taken, kept_name, row_of, legacy_row}
-use Rattle.program.specs.Rows.{registered, Repeats}
+use Rattle.program.specs.HashedLegacy.{LegacyResult, is_taken, kept_name, row_of, legacy_row, collision}
+use Rattle.program.specs.Rows.{registered, Repeats, RegisterResult}
 use Rattle.program.specs.Rows as table
 use Rattle.program.specs.Table.{Slices, capacity, rows_of, Ready, Alike, RegistersAlike}
 use Rattle.program.proofs.Alike.{alike_none, alike_named, alike_after, alike_kept}
@@ -38,13 +37,13 @@ use Rattle.loader.proofs.Rowing.{row_is}
 
 -- ---- the rows' name
 
-entered_still : (t u : Slices) (used moves key rows : ℕ) (row : Row) → Alike t used row → (a : Registered) → RegistersAlike t u used row a → StillAlike row u (entered_by a used moves key rows)
-entered_still t u used moves key rows row alike (Inserted n) did = alike_after t u used row alike n did
-entered_still t u used moves key rows row alike Repeat did = subst (λ (x : Slices). Alike x used row) (sym (alike_kept t u used row Repeat did (λ m e. zero_one (cc)))) alike
-entered_still t u used moves key rows row alike Collision did = tt
-entered_still t u used moves key rows row alike Full did = tt
+entered_still : (t u : Slices) (used moves key rows : ℕ) (row : Row) → Alike t used row → (a : RegisterResult) → RegistersAlike t u used row a → StillAlike row u (entered_by a used moves key rows)
+entered_still t u used moves key rows row alike (Ok (Inserted n)) did = alike_after t u used row alike n did
+entered_still t u used moves key rows row alike (Ok Repeat) did = subst (λ (x : Slices). Alike x used row) (sym (alike_kept t u used row (Ok Repeat) did (λ m e. zero_one (cc)))) alike
+entered_still t u used moves key rows row alike (Err Collision) did = tt
+entered_still t u used moves key rows row alike (Err Full) did = tt
 
-pub still_alike : (t u : Slices) (used moves key rows : ℕ) (row : Row) → Alike t used row → (a : Registered) → RegistersAlike t u used row a → (b : Outcome) → b ≡ entered_by a used moves key rows → StillAlike row u b
+pub still_alike : (t u : Slices) (used moves key rows : ℕ) (row : Row) → Alike t used row → (a : RegisterResult) → RegistersAlike t u used row a → (b : Outcome) → b ≡ entered_by a used moves key rows → StillAlike row u b
 still_alike t u used moves key rows row alike a did b e = subst (StillAlike row u) (sym e) (entered_still t u used moves key rows row alike a did)
 
 module _ (j : Job) (key index : ℕ) (name : KeptName) (is : name ≡ kept_name j.labels OfIndex) where
@@ -58,7 +57,7 @@ module _ (j : Job) (key index : ℕ) (name : KeptName) (is : name ≡ kept_name 
 -- ---- a target's row
 
 module _ (builtins : List ℕ) (j : Job) (key index : ℕ) (k : key ≡ target_key j index) where
-  target_row_lem : (b : Bool) → is_taken builtins j.version2 j.check_collision key ≡ b → row_for builtins j OfIndex index ≡ (Taken key if b else Free (row_of key index (kept_name j.labels OfIndex)))
+  target_row_lem : (b : Bool) → is_taken builtins j.version2 j.check_collision key ≡ b → row_for builtins j OfIndex index ≡ (Err (collision key) if b else Ok (row_of key index (kept_name j.labels OfIndex)))
   unfolding row_for legacy_row
   target_row_lem b e = rw (← k, e) refl
 
@@ -87,9 +86,9 @@ module _ (file builtins : List ℕ) (j : Job) (i : ℕ) (im : List ℕ) where
     unfolding slot_trace call_deed deed_trace
     slot_target = rw to (go (row_for builtins j OfIndex index) refl)
       where
-        go : (L : Legacy) → row_for builtins j OfIndex index ≡ L → deed_trace (call_row (immediate j i) L) im ≡ target_trace L (put 4 im (immediate j i) key)
-        go (Free row) e = let same : row.key ≡ key = (row_is builtins j OfIndex index row e).0 ∙ sym k in rw same refl
-        go (Taken key') e = refl
+        go : (L : LegacyResult) → row_for builtins j OfIndex index ≡ L → deed_trace (call_row (immediate j i) L) im ≡ target_trace L (put 4 im (immediate j i) key)
+        go (Ok row) e = let same : row.key ≡ key = (row_is builtins j OfIndex index row e).0 ∙ sym k in rw same refl
+        go (Err taken) e = refl
 
     pub settles_target : (im' : List ℕ) (t u : Slices) (used moves : ℕ) (a : Outcome) → im' ≡ put 4 im (immediate j i) key → Targets (row_for builtins j OfIndex index) t u used moves a
         → Settles (slot_trace file builtins j i im) im' t u 1 used moves a
@@ -112,7 +111,7 @@ module _ (builtins : List ℕ) (j : Job) where
   known_stays : (cap : ℕ) (row : Row) (rs : List Row) (v : ℕ) → Known builtins j rs v → Known builtins j (registered cap row rs) v
   known_stays cap row rs v h = (h.0, h.1, (h.2.0, find_stays cap row rs _ h.2.0 h.2.1, h.2.2))
 
-  seen_more : (cap index : ℕ) (row : Row) (rs : List Row) (seen : List ℕ) → 1024 ≤ length seen → row_for builtins j OfIndex index ≡ Free row → Repeats row (registered cap row rs)
+  seen_more : (cap index : ℕ) (row : Row) (rs : List Row) (seen : List ℕ) → 1024 ≤ length seen → row_for builtins j OfIndex index ≡ Ok row → Repeats row (registered cap row rs)
       → Seen builtins j rs seen → Seen builtins j (registered cap row rs) (set seen (index % 1024) (index + 1))
   seen_more cap index row rs seen long e rep h k v is = go (ℕ_discrete k (index % 1024))
     where
@@ -130,21 +129,21 @@ module _ (builtins : List ℕ) (j : Job) where
     unfolding settle
     rows_known used' moves' did = go (row_for builtins j OfIndex index) refl (did seen).answers
       where
-        by_answer : (row : Row) → row_for builtins j OfIndex index ≡ Free row → (x : Registered) → table.register (capacity t) row (rows_of t used) ≡ x
+        by_answer : (row : Row) → row_for builtins j OfIndex index ≡ Ok row → (x : RegisterResult) → table.register (capacity t) row (rows_of t used) ≡ x
             → accepted seen (rows_of u used') moves' ≡ on_registered x (capacity t) row.key moves (λ (n : ℕ). accepted seen (registered (capacity t) row (rows_of t used)) n)
             → Seen builtins j (rows_of u used') (set seen (index % 1024) (index + 1))
-        by_answer row e (Inserted n) is a =
+        by_answer row e (Ok (Inserted n)) is a =
             let rs : rows_of u used' ≡ registered (capacity t) row (rows_of t used) = cc in
             rw rs (seen_more (capacity t) index row (rows_of t used) seen held.room e (find_registered_same (capacity t) row (rows_of t used) (λ h. zero_one (cc)) (λ h. zero_one (cc))) held.known)
-        by_answer row e Repeat is a =
+        by_answer row e (Ok Repeat) is a =
             let rs : rows_of u used' ≡ registered (capacity t) row (rows_of t used) = cc in
             rw rs (seen_more (capacity t) index row (rows_of t used) seen held.room e (find_registered_same (capacity t) row (rows_of t used) (λ h. zero_one (cc)) (λ h. zero_one (cc))) held.known)
-        by_answer row e Collision is a = absurd (zero_one (cc))
-        by_answer row e Full is a = absurd (zero_one (cc))
+        by_answer row e (Err Collision) is a = absurd (zero_one (cc))
+        by_answer row e (Err Full) is a = absurd (zero_one (cc))
 
-        go : (L : Legacy) → row_for builtins j OfIndex index ≡ L → accepted seen (rows_of u used') moves' ≡ settle (capacity t) (target_trace L seen) (rows_of t used) moves → Seen builtins j (rows_of u used') (set seen (index % 1024) (index + 1))
-        go (Free row) e a = by_answer row e (table.register (capacity t) row (rows_of t used)) refl a
-        go (Taken key) e a = absurd (zero_one (cc))
+        go : (L : LegacyResult) → row_for builtins j OfIndex index ≡ L → accepted seen (rows_of u used') moves' ≡ settle (capacity t) (target_trace L seen) (rows_of t used) moves → Seen builtins j (rows_of u used') (set seen (index % 1024) (index + 1))
+        go (Ok row) e a = by_answer row e (table.register (capacity t) row (rows_of t used)) refl a
+        go (Err taken) e a = absurd (zero_one (cc))
 
     pub held_after : (a : Outcome) → Targets (row_for builtins j OfIndex index) t u used moves a → StillAlike (target_row j) u a → StillHeld builtins j (set seen (index % 1024) (index + 1)) u a
     held_after (Holds used' moves') did still = record { room = simp length-set held.room; known = rows_known used' moves' did; alike = still }

@@ -6,6 +6,7 @@ use mathlib.Core.Bool.{Bool, true, false, true≢false}
 use mathlib.Core.List.{List}
 use lib.ListN.{length, drop, length-take, length-drop}
 use lib.Dec.{ltb}
+use Rattle.std.specs.Prelude.{Ok}
 use Rattle.ebpf.specs.Choice.{◌if◌else◌, row_cases}
 use Rattle.ebpf.specs.Instructions.{insn_at}
 use Rattle.ebpf.specs.declared.Insn.{Insn}
@@ -13,7 +14,6 @@ use Rattle.std.specs.Prelude.{Option, Some, None as NoInsn}
 use Rattle.ebpf.proofs.Injective.{key_lt}
 use Rattle.program.specs.declared.Row.{Row}
 use Rattle.program.specs.declared.FunctionName.TheVariants.{OfIndex}
-use Rattle.program.specs.declared.Legacy.TheVariants.{Free}
 use Rattle.program.proofs.Cases.{by_test, by_lt, zero_one}
 use Rattle.loader.specs.declared.calls.Call.TheVariants.{None, To, Outside}
 use Rattle.loader.specs.declared.validate.Job.{Job}
@@ -100,5 +100,5 @@ key_word true index h = h
 key_word false index h = key_lt index
 
 -- the row of a local call's target
-pub row_key : (builtins : List ℕ) (j : Job) (index : ℕ) (row : Row) → row_for builtins j OfIndex index ≡ Free row → row.key ≡ key_of j.version2 index
+pub row_key : (builtins : List ℕ) (j : Job) (index : ℕ) (row : Row) → row_for builtins j OfIndex index ≡ Ok row → row.key ≡ key_of j.version2 index
 row_key builtins j index row e = (row_is builtins j OfIndex index row e).0 ∙ call_key j.version2 index

@@ -7,11 +7,11 @@ use mathlib.Core.Path.{◌≡◌, refl, sym, ◌∙◌, subst}
 use mathlib.Core.Logic.{◌⊎◌, inl, inr, ◌↔◌}
 use mathlib.Core.List.{List}
 use lib.ListN.{length}
+use Rattle.program.specs.declared.RegisterError.TheVariants.{Collision, Full}
+use Rattle.program.specs.declared.Registered.TheVariants.{Inserted, Repeat}
+use Rattle.std.specs.Prelude.{Some, None, Ok, Err}
 use Rattle.program.specs.declared.Row.{Row}
-use Rattle.program.specs.declared.Found.TheVariants.{At, Nothing}
-use Rattle.program.specs.declared.Registered.{Registered}
-use Rattle.program.specs.declared.Registered.TheVariants.{Inserted, Repeat, Collision, Full}
-use Rattle.program.specs.Rows.{rank, Ascending, find, Held, Repeats, registered}
+use Rattle.program.specs.Rows.{rank, Ascending, find, Held, Repeats, registered, RegisterResult}
 use Rattle.program.specs.Rows as table
 use Rattle.program.specs.Runs.{moves_of, triangle}
 use Rattle.program.proofs.Cases.{zero_one}
@@ -25,24 +25,24 @@ use Rattle.loader.proofs.Asked.{Asks, Keeps}
 -- ---- one registration
 
 -- what was accepted after a registration
-pub record Went (a : Registered) (m : ℕ) (k : ℕ → Settled) (s : Settled) : Type 0 where
+pub record Went (a : RegisterResult) (m : ℕ) (k : ℕ → Settled) (s : Settled) : Type 0 where
   pub moves : ℕ
   pub more : moves ≡ m + moves_of a
   pub on : k moves ≡ s
-  pub no_clash : a ≡ Collision → ⊥
-  pub not_full : a ≡ Full → ⊥
+  pub no_clash : a ≡ Err Collision → ⊥
+  pub not_full : a ≡ Err Full → ⊥
 
-pub went : (a : Registered) (cap key m : ℕ) (k : ℕ → Settled) (im : List ℕ) (rows : List Row) (n : ℕ) → on_registered a cap key m k ≡ accepted im rows n → Went a m k (accepted im rows n)
-went (Inserted d) cap key m k im rows n e = record { moves = m + d; more = refl; on = e; no_clash = λ h. zero_one (cc); not_full = λ h. zero_one (cc) }
-went Repeat cap key m k im rows n e = record { moves = m; more = omega arith; on = e; no_clash = λ h. zero_one (cc); not_full = λ h. zero_one (cc) }
-went Collision cap key m k im rows n e = absurd (zero_one (cc))
-went Full cap key m k im rows n e = absurd (zero_one (cc))
+pub went : (a : RegisterResult) (cap key m : ℕ) (k : ℕ → Settled) (im : List ℕ) (rows : List Row) (n : ℕ) → on_registered a cap key m k ≡ accepted im rows n → Went a m k (accepted im rows n)
+went (Ok (Inserted d)) cap key m k im rows n e = record { moves = m + d; more = refl; on = e; no_clash = λ h. zero_one (cc); not_full = λ h. zero_one (cc) }
+went (Ok Repeat) cap key m k im rows n e = record { moves = m; more = omega arith; on = e; no_clash = λ h. zero_one (cc); not_full = λ h. zero_one (cc) }
+went (Err Collision) cap key m k im rows n e = absurd (zero_one (cc))
+went (Err Full) cap key m k im rows n e = absurd (zero_one (cc))
 
 -- what is found stays
-find_stays : (cap : ℕ) (r : Row) (rs : List Row) (k : ℕ) (x : Row) → find k rs ≡ At x → find k (registered cap r rs) ≡ At x
-find_stays cap r rs k x h = by_registered (λ (l : List Row) (_ : Registered). find k l ≡ At x) cap r rs
+find_stays : (cap : ℕ) (r : Row) (rs : List Row) (k : ℕ) (x : Row) → find k rs ≡ Some x → find k (registered cap r rs) ≡ Some x
+find_stays cap r rs k x h = by_registered (λ (l : List Row) (_ : RegisterResult). find k l ≡ Some x) cap r rs
     (λ _ _ _. h) (λ _ _ _. h) (λ _ _. h)
-    (λ none _. find_insert_other k r rs (λ e. let none' : find k rs ≡ Nothing = rw e at none in zero_one (cc)) ∙ h)
+    (λ none _. find_insert_other k r rs (λ e. let none' : find k rs ≡ None = rw e at none in zero_one (cc)) ∙ h)
 
 -- ---- a trace
 
@@ -88,7 +88,7 @@ module _ (cap : ℕ) (im' : List ℕ) (rows' : List Row) (m' : ℕ) where
   settle_ascends (forget key T) rows m h e = settle_ascends T _ _ (remove_ascending key rows h) e
 
   -- what was held stays
-  pub settle_keeps : (T : Trace) (rows : List Row) (m : ℕ) → Keeps T → settle cap T rows m ≡ accepted im' rows' m' → (k : ℕ) (x : Row) → find k rows ≡ At x → find k rows' ≡ At x
+  pub settle_keeps : (T : Trace) (rows : List Row) (m : ℕ) → Keeps T → settle cap T rows m ≡ accepted im' rows' m' → (k : ℕ) (x : Row) → find k rows ≡ Some x → find k rows' ≡ Some x
   unfolding settle
   settle_keeps (done im) rows m keeps e k x h = let same : rows ≡ rows' = cc in rw (← same) h
   settle_keeps (stop r) rows m keeps e k x h = absurd (zero_one (cc))

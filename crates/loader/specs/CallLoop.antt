@@ -1,11 +1,9 @@
 -- What a loop over the slots of a text keeps, and what a run of slots leads to.
-use Rattle.std.specs.Prelude.{ℕ, suc, ◌+◌, ◌-◌, ◌*◌, ◌≤◌, ◌<◌, ◌≡◌, List, [], ◌++◌, length, get_or, take, drop}
+use Rattle.std.specs.Prelude.{ℕ, suc, ◌+◌, ◌-◌, ◌*◌, ◌≤◌, ◌<◌, ◌≡◌, List, [], ◌++◌, length, get_or, take, drop, Ok, Err}
 use Rattle.std.specs.Borrow.{Bor, MutBor}
 use Rattle.program.specs.declared.Row.{Row}
 use Rattle.program.specs.declared.FunctionName.TheVariants.{OfIndex}
-use Rattle.program.specs.declared.Legacy.{Legacy}
-use Rattle.program.specs.declared.Legacy.TheVariants.{Free, Taken}
-use Rattle.program.specs.HashedLegacy.{legacy_key, kept_name, row_of}
+use Rattle.program.specs.HashedLegacy.{LegacyResult, legacy_key, kept_name, row_of}
 use Rattle.program.specs.Rows.{Repeats}
 use Rattle.program.specs.Table.{Slices, Lent, Shared, table_of, table_before, table_after, capacity, rows_of, Alike}
 use Rattle.loader.specs.declared.error.ElfError.TheVariants.{SymbolHashCollision}
@@ -31,7 +29,7 @@ target_row j = row_of 0 0 (kept_name j.labels OfIndex)
 
 -- a target's row is there: a call to it asks for nothing more
 abbrev pub Known : List ℕ → Job → List Row → ℕ → Type 0
-Known builtins j rs v = (row : Row) × (row_for builtins j OfIndex v ≡ Free row) × Repeats row rs
+Known builtins j rs v = (row : Row) × (row_for builtins j OfIndex v ≡ Ok row) × Repeats row rs
 
 -- a place of `seen` holds 0, or a target plus 1; each such target is known
 abbrev pub Seen : List ℕ → Job → List Row → List ℕ → Type 0
@@ -53,12 +51,12 @@ StillAlike row t (Holds used moves) = Alike t used row
 StillAlike row t (Refused r) = Unit {0}
 
 -- a target's registration, or its collision with a built-in
-abbrev pub target_trace : Legacy → List ℕ → Trace
-target_trace (Free row) im = register row (done im)
-target_trace (Taken key) im = stop (SymbolHashCollision key)
+abbrev pub target_trace : LegacyResult → List ℕ → Trace
+target_trace (Ok row) im = register row (done im)
+target_trace (Err taken) im = stop (SymbolHashCollision taken.key)
 
 -- whatever the image
-abbrev pub Targets : Legacy → Slices → Slices → ℕ → ℕ → Outcome → Type 0
+abbrev pub Targets : LegacyResult → Slices → Slices → ℕ → ℕ → Outcome → Type 0
 Targets target t t' used moves a = (im : List ℕ) → Settles (target_trace target im) im t t' 1 used moves a
 
 abbrev pub leads_to : Outcome → (ℕ → ℕ → Settled) → Settled
@@ -84,7 +82,7 @@ EntersAlike row k i d s l used moves a = Enters row (table_before k i d s l) (ta
 abbrev pub TargetAsks : Job → ℕ → ℕ → MutBor (List ℕ) → MutBor (List ℕ) → MutBor (List ℕ) → MutBor (List ℕ) → MutBor (List ℕ) → ℕ → ℕ → ℕ → Type 0
 TargetAsks j key index k i d s l rows used moves = (key ≡ target_key j index) × Begins 1 (table_of k i d s l) rows used moves × Alike (table_of k i d s l) used (target_row j)
 
-abbrev pub TargetSettles : Legacy → Job → Lent → Lent → Lent → Lent → Lent → ℕ → ℕ → Outcome → Type 0
+abbrev pub TargetSettles : LegacyResult → Job → Lent → Lent → Lent → Lent → Lent → ℕ → ℕ → Outcome → Type 0
 TargetSettles target j k i d s l used moves a = Targets target (table_before k i d s l) (table_after k i d s l) used moves a × StillAlike (target_row j) (table_after k i d s l) a
 
 -- slot number `at`: what its call asks, and what it leaves

@@ -1,7 +1,8 @@
 -- Local calls.
 use Prim.Native.Nat.{ℕ, zero, suc, ◌+◌, ◌-◌, ◌*◌, ◌/◌, ◌≤◌, ◌<◌}
+use Rattle.program.specs.HashedLegacy.{LegacyResult}
 use Rattle.std.proofs.Common.{arith, ◌∙◌}
-use Rattle.std.specs.Prelude.{◌≡◌, Bool, ◌&&◌, not, List, length, take, drop, get_or, ltb}
+use Rattle.std.specs.Prelude.{◌≡◌, Bool, ◌&&◌, not, List, length, take, drop, get_or, ltb, Ok, Err}
 use Rattle.std.proofs.Math.Path.{refl}
 use Rattle.std.proofs.Math.Bool.{true, false}
 use Rattle.std.proofs.Math.Dec.{eqb}
@@ -11,8 +12,6 @@ use Rattle.ebpf.specs.Instructions.{insn_at}
 use Rattle.ebpf.specs.declared.Insn.{Insn}
 use Rattle.std.specs.Prelude.{Option, Some, None as NoInsn}
 use Rattle.program.specs.declared.FunctionName.TheVariants.{OfIndex}
-use Rattle.program.specs.declared.Legacy.{Legacy}
-use Rattle.program.specs.declared.Legacy.TheVariants.{Free, Taken}
 use Rattle.loader.specs.declared.error.ElfError.TheVariants.{RelativeJumpOutOfBounds, SymbolHashCollision}
 use Rattle.loader.specs.declared.calls.Call.{Call}
 use Rattle.loader.specs.declared.calls.Call.TheVariants.{None, To, Outside}
@@ -64,9 +63,9 @@ slot_count j = j.length / 8
 abbrev pub immediate : Job → ℕ → ℕ
 immediate j i = j.start + 8 * i + 4
 
-abbrev pub call_row : ℕ → Legacy → Deed
-call_row at (Free row) = Register row at
-call_row at (Taken key) = Refuse (SymbolHashCollision key)
+abbrev pub call_row : ℕ → LegacyResult → Deed
+call_row at (Ok row) = Register row at
+call_row at (Err taken) = Refuse (SymbolHashCollision taken.key)
 
 abbrev pub call_by : List ℕ → Job → ℕ → Call → Deed
 call_by builtins j i None = Skip

@@ -1,5 +1,7 @@
 -- Demand 3: one claim about a whole load, in the scope's words.
-use Rattle.std.specs.Prelude.{ℕ, suc, ◌+◌, ◌-◌, ◌/◌, ◌%◌, ◌<◌, ◌^◌, ◌≡◌, Bool, true, false, ◌||◌, not, ◌⊎◌, ◌↔◌, List, [], ◌∷◌, map, take, drop, get_or, eqb}
+use Rattle.program.specs.declared.RegisterError.TheVariants.{Collision, Full}
+use Rattle.program.specs.declared.Registered.TheVariants.{Inserted, Repeat}
+use Rattle.std.specs.Prelude.{ℕ, suc, ◌+◌, ◌-◌, ◌/◌, ◌%◌, ◌<◌, ◌^◌, ◌≡◌, Bool, true, false, ◌||◌, not, ◌⊎◌, ◌↔◌, List, [], ◌∷◌, map, take, drop, get_or, eqb, Option, Some, Ok, Err}
 use Rattle.std.specs.Int.Bits.{bit_and}
 use Rattle.ebpf.specs.Choice.{◌if◌else◌}
 use Rattle.ebpf.specs.LittleEndian.{le}
@@ -13,14 +15,9 @@ use Rattle.elf_parser.specs.declared.types.Elf64Sym.{Elf64Sym}
 use Rattle.elf_parser.specs.Names.{symbol_name, dynamic_symbol_name}
 use Rattle.elf_parser.specs.Records.{dynamic_symbol_of, sym_of}
 use Rattle.program.specs.declared.FunctionName.TheVariants.{OfIndex, Entrypoint}
-use Rattle.program.specs.declared.Legacy.TheVariants.{Free}
 use Rattle.program.specs.declared.Row.{Row}
-use Rattle.program.specs.declared.Found.{Found}
-use Rattle.program.specs.declared.Found.TheVariants.{At}
-use Rattle.program.specs.declared.Registered.{Registered}
-use Rattle.program.specs.declared.Registered.TheVariants.{Inserted, Repeat, Collision, Full}
 use Rattle.program.specs.HashedLegacy.{entrypoint}
-use Rattle.program.specs.Rows.{registered, remove}
+use Rattle.program.specs.Rows.{registered, remove, RegisterResult}
 use Rattle.program.specs.Rows as table
 use Rattle.program.specs.Table.{Slices, capacity, lookup_in}
 use Rattle.loader.specs.declared.answer.Load.{Load}
@@ -96,7 +93,7 @@ Unnamed file j b = (i : ℕ) → i < relocation_count j → names file j i b ≡
 
 -- the target of the local call in slot number i
 abbrev pub OfCall : List ℕ → List ℕ → Job → ℕ → Row → Type 0
-OfCall file builtins j i row = (to : ℕ) × CallsTo file j i to × (row_for builtins j OfIndex to ≡ Free row)
+OfCall file builtins j i row = (to : ℕ) × CallsTo file j i to × (row_for builtins j OfIndex to ≡ Ok row)
 
 -- the function symbol of the relocation number i, of type 10
 abbrev pub OfRelocation : List ℕ → List ℕ → Job → ℕ → Row → Type 0
@@ -109,7 +106,7 @@ OfRelocation file builtins j i row =
     × (start : ℕ)
     × (n : ℕ)
     × (dynamic_symbol_name file j.layout y.st_name ≡ Stands start n)
-    × (row_for builtins j (symbol_function (take n (drop start file)) start n) (index_of j y.st_value) ≡ Free row)
+    × (row_for builtins j (symbol_function (take n (drop start file)) start n) (index_of j y.st_value) ≡ Ok row)
 
 -- with labels on, the symbol number i of .symtab, where st_info & 0xEF = 2
 abbrev pub OfLabel : List ℕ → List ℕ → Job → ℕ → Row → Type 0
@@ -121,14 +118,14 @@ OfLabel file builtins j i row =
     × (start : ℕ)
     × (n : ℕ)
     × (symbol_name file j.layout y.st_name ≡ Stands start n)
-    × (row_for builtins j (symbol_function (take n (drop start file)) start n) (index_of j y.st_value) ≡ Free row)
+    × (row_for builtins j (symbol_function (take n (drop start file)) start n) (index_of j y.st_value) ≡ Ok row)
 
 -- e_entry less the text's sh_addr, in slots
 abbrev pub entry_index : Job → ℕ
 entry_index j = (j.e_entry - j.sh_addr) / 8
 
 abbrev pub OfEntry : List ℕ → Job → Row → Type 0
-OfEntry builtins j row = row_for builtins j Entrypoint (entry_index j) ≡ Free row
+OfEntry builtins j row = row_for builtins j Entrypoint (entry_index j) ≡ Ok row
 
 -- one of the load's registrations
 abbrev pub Registers : List ℕ → List ℕ → Job → Row → Type 0
@@ -149,12 +146,12 @@ unfoldable pub key_of : Bool → ℕ → ℕ
 key_of version2 index = index if version2 else index_key index
 
 -- the key finds the index, by a lookup
-abbrev pub Finds : (ℕ → Found) → ℕ → ℕ → Type 0
-Finds look key index = (row : Row) × (look key ≡ At row) × (row.index ≡ index)
+abbrev pub Finds : (ℕ → Option Row) → ℕ → ℕ → Type 0
+Finds look key index = (row : Row) × (look key ≡ Some row) × (row.index ≡ index)
 
 -- the key is the table's, by a lookup
-abbrev pub Has : (ℕ → Found) → ℕ → Type 0
-Has look key = (row : Row) × (look key ≡ At row)
+abbrev pub Has : (ℕ → Option Row) → ℕ → Type 0
+Has look key = (row : Row) × (look key ≡ Some row)
 
 -- version 1's key of the name entrypoint
 abbrev pub IsNameKey : Job → ℕ → Type 0
@@ -164,22 +161,22 @@ IsNameKey j key = (j.version2 ≡ false) × (key ≡ name_key)
 
 -- each slot that was a local call in the file, of whose immediate no relocation names a byte, has its target among the slots, and holds
 -- a key that finds it, unless in version 1 it is the key of the name entrypoint
-abbrev pub Calls : List ℕ → Job → List ℕ → (ℕ → Found) → Type 0
+abbrev pub Calls : List ℕ → Job → List ℕ → (ℕ → Option Row) → Type 0
 Calls file j im look =
     (i : ℕ) → LocalCall file j i
     → ((b : ℕ) → is_in (immediate j i) 4 b ≡ true → Unnamed file j b)
     → (to : ℕ) × CallsTo file j i to × (to < slot_count j) × (IsNameKey j (le 4 im (immediate j i)) ⊎ Finds look (le 4 im (immediate j i)) to)
 
 -- the table's keys are those of the registrations: local call targets, function symbols and the entry
-abbrev pub Keys : List ℕ → List ℕ → Job → (ℕ → Found) → Type 0
+abbrev pub Keys : List ℕ → List ℕ → Job → (ℕ → Option Row) → Type 0
 Keys file builtins j look = (key : ℕ) → Has look key ↔ ((row : Row) × Registers file builtins j row × (row.key ≡ key))
 
 -- in version 1 the name's key finds the entry
-abbrev pub Entry : Job → (ℕ → Found) → Type 0
+abbrev pub Entry : Job → (ℕ → Option Row) → Type 0
 Entry j look = j.version2 ≡ false → Finds look name_key (entry_index j)
 
 -- every other key finds the index registered under it
-abbrev pub Others : List ℕ → List ℕ → Job → (ℕ → Found) → Type 0
+abbrev pub Others : List ℕ → List ℕ → Job → (ℕ → Option Row) → Type 0
 Others file builtins j look = (row : Row) → Registers file builtins j row → IsNameKey j row.key ⊎ Finds look row.key row.index
 
 -- outside local call immediates and the bytes that relocations name, the image holds the file's bytes; behind them both are read as 0
@@ -201,11 +198,11 @@ OnAccepted (Refuses r) p P = Unit {0}
 
 -- ---- the registrations reached: no refusal stands ahead of them
 
-abbrev pub on_reached : Registered → List Row → List Row
-on_reached (Inserted m) more = more
-on_reached Repeat more = more
-on_reached Collision more = []
-on_reached Full more = []
+abbrev pub on_reached : RegisterResult → List Row → List Row
+on_reached (Ok (Inserted m)) more = more
+on_reached (Ok Repeat) more = more
+on_reached (Err Collision) more = []
+on_reached (Err Full) more = []
 
 -- of a trace, in a table of n rows that holds `rows`. One that is refused for a built-in's key is no registration of the trace
 unfoldable pub reached : ℕ → Trace → List Row → List Row
@@ -249,7 +246,7 @@ distinct (x ∷ xs) = distinct xs if is_one_of x xs else suc (distinct xs)
 
 -- of a load with n bytes lent for the image, m for the read-only bytes, and a table t: the image and the table are im' and t' afterwards, the
 -- answer is a, and `lookup` is the lookup by which a key finds an index in a table of so many used rows
-pub record Demand3By (lookup : Slices → ℕ → ℕ → Found) (file builtins : List ℕ) (c : Config) (n m : ℕ) (t : Slices) (im' : List ℕ) (t' : Slices) (a : Load) : Type 0 where
+pub record Demand3By (lookup : Slices → ℕ → ℕ → Option Row) (file builtins : List ℕ) (c : Config) (n m : ℕ) (t : Slices) (im' : List ℕ) (t' : Slices) (a : Load) : Type 0 where
   pub calls : OnAccepted a (prepared file builtins c n m) (λ j used. Calls file j im' (lookup t' used))
   pub keys : OnAccepted a (prepared file builtins c n m) (λ j used. Keys file builtins j (lookup t' used))
   pub entry : OnAccepted a (prepared file builtins c n m) (λ j used. Entry j (lookup t' used))

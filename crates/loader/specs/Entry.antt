@@ -1,10 +1,8 @@
 -- The entry's part of a load.
-use Rattle.std.specs.Prelude.{ℕ, ◌+◌, ◌-◌, ◌/◌, ◌%◌, Bool, true, false, not, List, eqb}
+use Rattle.std.specs.Prelude.{ℕ, ◌+◌, ◌-◌, ◌/◌, ◌%◌, Bool, true, false, not, List, eqb, Option, Some, None}
 use Rattle.ebpf.specs.Choice.{◌if◌else◌}
 use Rattle.ebpf.specs.Murmur3.{murmur3}
 use Rattle.program.specs.declared.FunctionName.TheVariants.{Entrypoint}
-use Rattle.program.specs.declared.Removed.{Removed}
-use Rattle.program.specs.declared.Removed.TheVariants.{Gone, Absent}
 use Rattle.program.specs.HashedLegacy.{entrypoint}
 use Rattle.loader.specs.declared.error.ElfError.TheVariants.{InvalidEntrypoint}
 use Rattle.loader.specs.declared.deeds.Deed.{Deed}
@@ -25,9 +23,9 @@ entry_deed builtins j =
     label_row (row_for builtins j Entrypoint (offset / 8))
 
 -- a removal's answer, with the rows and moves up to there
-abbrev pub forgotten_by : Removed → ℕ → ℕ → Outcome
-forgotten_by (Gone n) used moves = Holds (used - 1) (moves + n)
-forgotten_by Absent used moves = Holds used moves
+abbrev pub forgotten_by : Option ℕ → ℕ → ℕ → Outcome
+forgotten_by (Some n) used moves = Holds (used - 1) (moves + n)
+forgotten_by None used moves = Holds used moves
 
 -- version 1 forgets the key of the name entrypoint
 abbrev pub forget_trace : Bool → List ℕ → Trace

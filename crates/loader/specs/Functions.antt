@@ -4,8 +4,7 @@ use Rattle.ebpf.specs.IndexKeys.{index_key, key_in}
 use Rattle.elf_parser.specs.SectionNames.{same_bytes}
 use Rattle.program.specs.declared.FunctionName.{FunctionName}
 use Rattle.program.specs.declared.FunctionName.TheVariants.{Symbol}
-use Rattle.program.specs.declared.Legacy.{Legacy}
-use Rattle.program.specs.HashedLegacy.{entrypoint, legacy_row}
+use Rattle.program.specs.HashedLegacy.{LegacyResult, entrypoint, legacy_row}
 use Rattle.loader.specs.declared.validate.Job.{Job}
 use Rattle.loader.specs.Addresses.{sum_up_to}
 
@@ -14,7 +13,7 @@ abbrev pub Keyed : List ℕ → Type 0
 Keyed table = (i : ℕ) → key_in table i ≡ index_key i
 
 -- the row; its key is worked out, the table of keys being empty
-unfoldable pub row_for : List ℕ → Job → FunctionName → ℕ → Legacy
+unfoldable pub row_for : List ℕ → Job → FunctionName → ℕ → LegacyResult
 row_for builtins j name index = legacy_row [] builtins j.version2 j.check_collision j.labels name index
 
 -- a name that is a part of the file, its bytes and its place

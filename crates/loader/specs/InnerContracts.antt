@@ -1,10 +1,11 @@
 -- What the inner functions of this crate ask and promise; the public ones ask nothing.
-use Rattle.std.specs.Prelude.{ℕ, ◌+◌, ◌-◌, ◌*◌, ◌≤◌, ◌^◌, ◌≡◌, List, Bool, true, false, length}
+use Rattle.program.specs.Rows.{RegisterResult}
+use Rattle.program.specs.declared.RegisterError.TheVariants.{Collision, Full}
+use Rattle.program.specs.declared.Registered.TheVariants.{Inserted, Repeat}
+use Rattle.std.specs.Prelude.{ℕ, ◌+◌, ◌-◌, ◌*◌, ◌≤◌, ◌^◌, ◌≡◌, List, Bool, true, false, length, Ok, Err}
 use Rattle.std.specs.Borrow.{Bor, MutBor}
 use Rattle.loader.specs.declared.validate.Job.{Job}
 use Rattle.program.specs.declared.Row.{Row}
-use Rattle.program.specs.declared.Registered.{Registered}
-use Rattle.program.specs.declared.Registered.TheVariants.{Inserted, Repeat, Collision, Full}
 use Rattle.program.specs.Table.{Slices, Lent, Shared, table_of, table_before, table_after, capacity, rows_of, Ready}
 use Rattle.loader.specs.declared.error.ElfError.TheVariants.{SymbolHashCollision, TableFull, ValueOutOfBounds}
 use Rattle.loader.specs.declared.deeds.Outcome.{Outcome}
@@ -14,11 +15,11 @@ use Rattle.loader.specs.Functions.{Keyed}
 use Rattle.loader.specs.Trace.{Trace, done, register, Settled, accepted, refused, settle}
 
 -- a registration's answer, with the rows and moves up to there
-abbrev pub entered_by : Registered → ℕ → ℕ → ℕ → ℕ → Outcome
-entered_by (Inserted n) used moves key rows = Holds (used + 1) (moves + n)
-entered_by Repeat used moves key rows = Holds used moves
-entered_by Collision used moves key rows = Refused (SymbolHashCollision key)
-entered_by Full used moves key rows = Refused (TableFull rows)
+abbrev pub entered_by : RegisterResult → ℕ → ℕ → ℕ → ℕ → Outcome
+entered_by (Ok (Inserted n)) used moves key rows = Holds (used + 1) (moves + n)
+entered_by (Ok Repeat) used moves key rows = Holds used moves
+entered_by (Err Collision) used moves key rows = Refused (SymbolHashCollision key)
+entered_by (Err Full) used moves key rows = Refused (TableFull rows)
 
 -- the outcome of a registration: one that was held is refused all the same where the place of its key is outside the file
 abbrev pub finished_by : Outcome → Bool → Outcome

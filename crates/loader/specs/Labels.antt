@@ -1,5 +1,6 @@
 -- Labels: what a symbol of .symtab asks for where labels are kept.
-use Rattle.std.specs.Prelude.{ℕ, ◌*◌, ◌≤◌, ◌≡◌, refl, Bool, true, false, not, List, length, take, drop, eqb}
+use Rattle.program.specs.HashedLegacy.{LegacyResult}
+use Rattle.std.specs.Prelude.{ℕ, ◌*◌, ◌≤◌, ◌≡◌, refl, Bool, true, false, not, List, length, take, drop, eqb, Ok, Err}
 use Rattle.std.proofs.Common.{arith}
 use Rattle.std.specs.Int.Bits.{bit_and}
 use Rattle.ebpf.specs.Choice.{◌if◌else◌}
@@ -13,8 +14,6 @@ use Rattle.elf_parser.specs.declared.records.Sym.{Sym}
 use Rattle.elf_parser.specs.declared.records.Sym.TheVariants.{Symbol, Refused as NoSym}
 use Rattle.elf_parser.specs.Records.{no_entries, sym_of, symbol_table_of, symbol_table_few}
 use Rattle.elf_parser.specs.Names.{symbol_name}
-use Rattle.program.specs.declared.Legacy.{Legacy}
-use Rattle.program.specs.declared.Legacy.TheVariants.{Free, Taken}
 use Rattle.loader.specs.declared.error.ElfError.TheVariants.{SymbolHashCollision, UnknownSymbol, ValueOutOfBounds}
 use Rattle.loader.specs.declared.validate.Job.{Job}
 use Rattle.loader.specs.declared.deeds.Deed.{Deed}
@@ -24,9 +23,9 @@ use Rattle.loader.specs.Trace.{Trace, each}
 use Rattle.loader.specs.Deeds.{DeedFits, deed_trace}
 use Rattle.loader.specs.Relocations.{either}
 
-abbrev pub label_row : Legacy → Deed
-label_row (Taken key) = Refuse (SymbolHashCollision key)
-label_row (Free row) = RegisterOnly row
+abbrev pub label_row : LegacyResult → Deed
+label_row (Err taken) = Refuse (SymbolHashCollision taken.key)
+label_row (Ok row) = RegisterOnly row
 
 -- a function whose name is the n bytes `part` at `start`
 abbrev pub label_as : List ℕ → List ℕ → Job → ℕ → ℕ → ℕ → Deed
@@ -72,9 +71,9 @@ labels_trace s builtins j im = each (label_trace s builtins j) (label_symbols s 
 -- ---- laws
 
 -- nothing is written
-pub row_fits : (n : ℕ) (row : Legacy) → DeedFits n (label_row row)
-row_fits n (Taken key) = tt
-row_fits n (Free row) = tt
+pub row_fits : (n : ℕ) (row : LegacyResult) → DeedFits n (label_row row)
+row_fits n (Err taken) = tt
+row_fits n (Ok row) = tt
 
 named_fits : (n : ℕ) (s builtins : List ℕ) (j : Job) (index st-name : ℕ) (p : Place) → DeedFits n (named_label s builtins j index st-name p)
 named_fits n s builtins j index st-name (At start k) = row_fits n (row_for builtins j (symbol_function (take k (drop start s)) start k) index)

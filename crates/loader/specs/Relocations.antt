@@ -1,7 +1,8 @@
 -- What a relocation asks for. A place r is an offset in the file; `s` is the file, `im` the image as the relocations before left it.
 use Prim.Native.Nat.{ℕ, zero, suc, ◌+◌, ◌-◌, ◌*◌, ◌/◌, ◌%◌, ◌≤◌, ◌<◌, ◌^◌, min}
+use Rattle.program.specs.HashedLegacy.{LegacyResult}
 use Rattle.std.proofs.Common.{arith, add-one, ltb-false, leb-false}
-use Rattle.std.specs.Prelude.{◌≡◌, Bool, true, false, ◌&&◌, ◌||◌, not, List, length, take, drop, ltb, leb, eqb}
+use Rattle.std.specs.Prelude.{◌≡◌, Bool, true, false, ◌&&◌, ◌||◌, not, List, length, take, drop, ltb, leb, eqb, Ok, Err}
 use Rattle.std.proofs.Math.Path.{refl}
 use Rattle.ebpf.specs.Choice.{◌if◌else◌}
 use Rattle.ebpf.specs.LittleEndian.{le, join}
@@ -27,8 +28,6 @@ use Rattle.elf_parser.specs.Dynamic.{linked_inside}
 use Rattle.elf_parser.specs.Parse.{tables_of, layout_of, parsed}
 use Rattle.elf_parser.specs.Sound.{Steps, parse_steps}
 use Rattle.program.specs.declared.FunctionName.{FunctionName}
-use Rattle.program.specs.declared.Legacy.{Legacy}
-use Rattle.program.specs.declared.Legacy.TheVariants.{Free, Taken}
 use Rattle.program.specs.Search.{is_among}
 use Rattle.loader.specs.declared.error.ElfError.TheVariants.{UnresolvedSymbol, SymbolHashCollision, InvalidVirtualAddress, UnknownRelocation, UnknownSymbol, ValueOutOfBounds, AddendNegative}
 use Rattle.loader.specs.declared.validate.Job.{Job}
@@ -182,9 +181,9 @@ plan_relative im version2 in_text_lem r addend =
 -- ---- type 10: a call by a symbol's name
 
 -- a function to register, and the place of its key
-abbrev pub register_deed : ℕ → ℕ → Legacy → Deed
-register_deed len at (Taken key) = Refuse (SymbolHashCollision key)
-register_deed len at (Free row) = RegisterOutside row if ltb len (at + 4) else Register row at
+abbrev pub register_deed : ℕ → ℕ → LegacyResult → Deed
+register_deed len at (Err taken) = Refuse (SymbolHashCollision taken.key)
+register_deed len at (Ok row) = RegisterOutside row if ltb len (at + 4) else Register row at
 
 unfoldable pub function_call : List ℕ → Job → ℕ → ℕ → FunctionName → ℕ → Deed
 function_call builtins j len at name value =
@@ -333,9 +332,9 @@ relative_fits : (im : List ℕ) (version2 in_text_lem : Bool) (r : ℕ) (addend 
 unfolding plan_relative
 relative_fits im version2 in_text_lem r addend = either (length im) in_text_lem _ _ (λ e. text_fits (length im) _ _ _) (λ e. word_fits (length im) r _)
 
-register_fits : (len at : ℕ) (row : Legacy) → DeedFits len (register_deed len at row)
-register_fits len at (Taken key) = tt
-register_fits len at (Free row) = either len _ _ _ (λ e. tt) (λ e. ltb-false len (at + 4) e)
+register_fits : (len at : ℕ) (row : LegacyResult) → DeedFits len (register_deed len at row)
+register_fits len at (Err taken) = tt
+register_fits len at (Ok row) = either len _ _ _ (λ e. tt) (λ e. ltb-false len (at + 4) e)
 
 function_fits : (builtins : List ℕ) (j : Job) (len at : ℕ) (name : FunctionName) (value : ℕ) → DeedFits len (function_call builtins j len at name value)
 unfolding function_call

@@ -1,11 +1,11 @@
 -- What a file asks of a load, in order, and what comes of it in a table.
-use Rattle.std.specs.Prelude.{ℕ, zero, suc, ◌+◌, ◌≡◌, refl, List}
+use Rattle.program.specs.declared.RegisterError.TheVariants.{Collision, Full}
+use Rattle.program.specs.declared.Registered.TheVariants.{Inserted, Repeat}
+use Rattle.std.specs.Prelude.{ℕ, zero, suc, ◌+◌, ◌≡◌, refl, List, Ok, Err}
 use Rattle.std.proofs.Common.{ap}
 use Rattle.std.proofs.Math.Path.{fun_ext}
 use Rattle.program.specs.declared.Row.{Row}
-use Rattle.program.specs.declared.Registered.{Registered}
-use Rattle.program.specs.declared.Registered.TheVariants.{Inserted, Repeat, Collision, Full}
-use Rattle.program.specs.Rows.{registered, remove, unregister}
+use Rattle.program.specs.Rows.{registered, remove, unregister, RegisterResult}
 use Rattle.program.specs.Runs.{moves_gone}
 use Rattle.program.specs.Rows as table
 use Rattle.loader.specs.declared.error.ElfError.{ElfError}
@@ -41,11 +41,11 @@ pub data Settled : Type 0 where
   refused : ElfError → Settled
 
 -- after a registration: its refusal, or what follows, with its moves
-abbrev pub on_registered : Registered → ℕ → ℕ → ℕ → (ℕ → Settled) → Settled
-on_registered (Inserted n) capacity key m k = k (m + n)
-on_registered Repeat capacity key m k = k m
-on_registered Collision capacity key m k = refused (SymbolHashCollision key)
-on_registered Full capacity key m k = refused (TableFull capacity)
+abbrev pub on_registered : RegisterResult → ℕ → ℕ → ℕ → (ℕ → Settled) → Settled
+on_registered (Ok (Inserted n)) capacity key m k = k (m + n)
+on_registered (Ok Repeat) capacity key m k = k m
+on_registered (Err Collision) capacity key m k = refused (SymbolHashCollision key)
+on_registered (Err Full) capacity key m k = refused (TableFull capacity)
 
 -- a trace in a table of `capacity` rows that holds `rows`, after m moves
 unfoldable pub settle : ℕ → Trace → List Row → ℕ → Settled
@@ -60,12 +60,12 @@ abbrev pub on_settled : Settled → (List ℕ → List Row → ℕ → Settled) 
 on_settled (accepted im rows m) k = k im rows m
 on_settled (refused r) k = refused r
 
-on_registered_then : (a : Registered) (capacity key m : ℕ) (k : ℕ → Settled) (j : List ℕ → List Row → ℕ → Settled)
+on_registered_then : (a : RegisterResult) (capacity key m : ℕ) (k : ℕ → Settled) (j : List ℕ → List Row → ℕ → Settled)
     → on_registered a capacity key m (λ (n : ℕ). on_settled (k n) j) ≡ on_settled (on_registered a capacity key m k) j
-on_registered_then (Inserted n) capacity key m k j = refl
-on_registered_then Repeat capacity key m k j = refl
-on_registered_then Collision capacity key m k j = refl
-on_registered_then Full capacity key m k j = refl
+on_registered_then (Ok (Inserted n)) capacity key m k j = refl
+on_registered_then (Ok Repeat) capacity key m k j = refl
+on_registered_then (Err Collision) capacity key m k j = refl
+on_registered_then (Err Full) capacity key m k j = refl
 
 -- a trace in two parts settles as the first and then, with what it left, the second
 pub settle_and_then : (capacity : ℕ) (t : Trace) (k : List ℕ → Trace) (rows : List Row) (m : ℕ)

@@ -9,7 +9,7 @@ ghost use Rattle.loader.specs.CallLoop.{EntersAlike};
 ghost use Rattle.loader.specs.InnerContracts.{entered_by, finished_by, Begins, Enters, PartSettles};
 
 use crate::error::ElfError;
-use program::{Registered, Row, register_alike, register_function};
+use program::{FunctionRegistry, RegisterError, Registered, Row};
 
 #[derive(Clone, Copy)]
 pub enum Deed {
@@ -113,15 +113,21 @@ fn write(image: &mut [u8], deed: Deed)
 }
 
 // The rows and moves after a registration that answered so.
-fn entered(answer: Registered, used: usize, moves: u64, key: u32, rows: u64) -> Outcome
+fn entered(
+    answer: Result<Registered, RegisterError>,
+    used: usize,
+    moves: u64,
+    key: u32,
+    rows: u64,
+) -> Outcome
     requires { (used < 2 ^ 32) × (moves + moves_of answer < 2 ^ 64) }
     ensures { result ≡ entered_by answer used moves key rows }
 {
     match answer {
-        Registered::Inserted(n) => Outcome::Holds(used + 1, moves + n as u64),
-        Registered::Repeat => Outcome::Holds(used, moves),
-        Registered::Collision => Outcome::Refused(ElfError::SymbolHashCollision { key }),
-        Registered::Full => Outcome::Refused(ElfError::TableFull { rows }),
+        Ok(Registered::Inserted(n)) => Outcome::Holds(used + 1, moves + n as u64),
+        Ok(Registered::Repeat) => Outcome::Holds(used, moves),
+        Err(RegisterError::Collision) => Outcome::Refused(ElfError::SymbolHashCollision { key }),
+        Err(RegisterError::Full) => Outcome::Refused(ElfError::TableFull { rows }),
     }
 }
 
@@ -156,7 +162,15 @@ fn enter(
     ensures { Enters row (table_before keys indices kinds starts lengths) (table_after keys indices kinds starts lengths) used moves result }
 {
     let key = row.key;
-    let answer = register_function(keys, indices, kinds, starts, lengths, used, row);
+    let mut registry = FunctionRegistry {
+        keys,
+        indices,
+        kinds,
+        starts,
+        lengths,
+        used,
+    };
+    let answer = registry.register_function(row);
     entered(answer, used, moves, key, rows)
 }
 
@@ -176,7 +190,15 @@ pub(crate) fn enter_alike(
     ensures { EntersAlike row keys indices kinds starts lengths used moves result }
 {
     let key = row.key;
-    let answer = register_alike(keys, indices, kinds, starts, lengths, used, row);
+    let mut registry = FunctionRegistry {
+        keys,
+        indices,
+        kinds,
+        starts,
+        lengths,
+        used,
+    };
+    let answer = registry.register_alike(row);
     entered(answer, used, moves, key, rows)
 }
 

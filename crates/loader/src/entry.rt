@@ -12,7 +12,7 @@ use crate::error::ElfError;
 use crate::functions::row_for;
 use crate::labels::label_row;
 use crate::validate::Job;
-use program::{ENTRYPOINT_KEY, FunctionName, Removed, unregister_function};
+use program::{ENTRYPOINT_KEY, FunctionName, FunctionRegistry};
 
 // What a load does about the entry.
 fn entry_deed(builtins: &[u32], table: &[u32], job: Job) -> Deed
@@ -28,13 +28,13 @@ fn entry_deed(builtins: &[u32], table: &[u32], job: Job) -> Deed
 }
 
 // The rows and moves after a removal that answered so.
-fn forgotten(answer: Removed, used: usize, moves: u64) -> Outcome
+fn forgotten(answer: Option<usize>, used: usize, moves: u64) -> Outcome
     requires { moves + moves_gone answer < 2 ^ 64 }
     ensures { result ≡ forgotten_by answer used moves }
 {
     match answer {
-        Removed::Gone(n) => Outcome::Holds(less_one(used), moves + n as u64),
-        Removed::Absent => Outcome::Holds(used, moves),
+        Some(n) => Outcome::Holds(less_one(used), moves + n as u64),
+        None => Outcome::Holds(used, moves),
     }
 }
 
@@ -65,7 +65,15 @@ fn forget_entrypoint(
     if version2 {
         return Outcome::Holds(used, moves);
     }
-    let answer = unregister_function(keys, indices, kinds, starts, lengths, used, ENTRYPOINT_KEY);
+    let mut registry = FunctionRegistry {
+        keys,
+        indices,
+        kinds,
+        starts,
+        lengths,
+        used,
+    };
+    let answer = registry.unregister_function(ENTRYPOINT_KEY);
     forgotten(answer, used, moves)
 }
 

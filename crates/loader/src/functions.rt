@@ -4,7 +4,7 @@ ghost use Rattle.loader.specs.Functions.{Keyed, row_for, symbol_function};
 
 use crate::validate::Job;
 use elf_parser::same_bytes;
-use program::{FunctionName, Legacy, legacy_row};
+use program::{FunctionName, Row, SymbolHashCollision, legacy_row};
 
 // By the lent table of keys, where it is right (`Keyed`).
 pub(crate) fn row_for(
@@ -13,7 +13,7 @@ pub(crate) fn row_for(
     job: Job,
     name: FunctionName,
     index: u32,
-) -> Legacy
+) -> Result<Row, SymbolHashCollision>
     requires { Keyed table.now }
     ensures { result ≡ row_for builtins.now job name index }
 {

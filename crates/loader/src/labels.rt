@@ -13,14 +13,14 @@ use crate::relocations::in_addresses;
 use crate::validate::Job;
 use elf_parser::types::Elf64Sym;
 use elf_parser::{Entries, Layout, Place, Sliced, Sym, part_of, symbol, symbol_name, symbol_table};
-use program::Legacy;
+use program::{Row, SymbolHashCollision};
 
-pub(crate) fn label_row(row: Legacy) -> Deed
+pub(crate) fn label_row(row: Result<Row, SymbolHashCollision>) -> Deed
     ensures { result ≡ label_row row }
 {
     match row {
-        Legacy::Taken(key) => Deed::Refuse(ElfError::SymbolHashCollision { key }),
-        Legacy::Free(row) => Deed::RegisterOnly { row },
+        Ok(row) => Deed::RegisterOnly { row },
+        Err(taken) => Deed::Refuse(ElfError::SymbolHashCollision { key: taken.key }),
     }
 }
 

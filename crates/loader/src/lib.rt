@@ -5,7 +5,7 @@ ghost use Rattle.loader.specs.Loads.{Loads};
 
 use answer::answer_of;
 use filling::{clear_all, fill_all};
-use program::rows_lent;
+use program::FunctionTable;
 use validate::{Prepared, prepare};
 
 mod addresses;
@@ -60,13 +60,15 @@ fn attempt(
         Prepared::Refused(r) => Load::Refused(r),
         Prepared::Ready(job) => {
             let n = file.len();
-            let rows = rows_lent(
-                keys.len(),
-                indices.len(),
-                kinds.len(),
-                starts.len(),
-                lengths.len(),
-            ) as u64;
+            let table = FunctionTable {
+                keys,
+                indices,
+                kinds,
+                starts,
+                lengths,
+                used: 0,
+            };
+            let rows = table.rows_lent() as u64;
             clear_all(
                 &mut image[n..],
                 ro_section,

@@ -21,7 +21,7 @@ use elf_parser::{
     Layout, Phdr, Place, Rel, Rela, Sym, dynamic_rela, dynamic_relocation, dynamic_symbol,
     dynamic_symbol_name, part_of, past, program_header,
 };
-use program::{FunctionName, Legacy, is_builtin};
+use program::{FunctionName, Row, SymbolHashCollision, is_builtin};
 
 const R_BPF_64_64: u32 = 1;
 
@@ -392,12 +392,12 @@ pub(crate) fn in_addresses(sh_addr: u64, sh_size: u64, a: u64) -> bool
 }
 
 // A function to register, and the place of its key.
-fn register_deed(len: u64, at: u64, row: Legacy) -> Deed
+fn register_deed(len: u64, at: u64, row: Result<Row, SymbolHashCollision>) -> Deed
     ensures { result ≡ register_deed len at row }
 {
     match row {
-        Legacy::Taken(key) => Deed::Refuse(ElfError::SymbolHashCollision { key }),
-        Legacy::Free(row) => {
+        Err(taken) => Deed::Refuse(ElfError::SymbolHashCollision { key: taken.key }),
+        Ok(row) => {
             if past(len, at, 4) {
                 return Deed::RegisterOutside { row };
             }

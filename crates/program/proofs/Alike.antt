@@ -9,9 +9,11 @@ use native.Mathlib.Decide.{ℕ_discrete}
 use native.Mathlib.Omega.{arith}
 use lib.ListN.{length, get_or, set}
 use lib.Seq.{get_or-set_same, get_or-set_other}
+use Rattle.std.specs.Prelude.{Ok, Err}
+use Rattle.program.specs.declared.Registered.TheVariants.{Inserted, Repeat}
+use Rattle.program.specs.declared.RegisterError.TheVariants.{Collision, Full}
+use Rattle.program.specs.Rows.{RegisterResult}
 use Rattle.program.specs.declared.Row.{Row}
-use Rattle.program.specs.declared.Registered.{Registered}
-use Rattle.program.specs.declared.Registered.TheVariants.{Inserted, Repeat, Collision, Full}
 use Rattle.program.specs.Table.{Slices, opened, opened_row, opened_alike, Within, register_in, registered_by, Registers, RegistersAlike, Alike}
 use Rattle.program.proofs.Cases.{zero_one}
 use Rattle.program.proofs.Steps.{kept, inserted}
@@ -37,11 +39,11 @@ set_same n v s h same i l = go (ℕ_discrete i n)
     go (no ne) = get_or-set_other s n i v 0 ne ∙ same i (omega (arith, ne))
 
 -- an answer is an insertion or none
-ways : (a : Registered) → ((m : ℕ) × (a ≡ Inserted m)) ⊎ ((m : ℕ) → a ≡ Inserted m → ⊥)
-ways (Inserted m) = inl (m, refl)
-ways Repeat = inr (λ m e. zero_one (cc))
-ways Collision = inr (λ m e. zero_one (cc))
-ways Full = inr (λ m e. zero_one (cc))
+ways : (a : RegisterResult) → ((m : ℕ) × (a ≡ Ok (Inserted m))) ⊎ ((m : ℕ) → a ≡ Ok (Inserted m) → ⊥)
+ways (Ok (Inserted m)) = inl (m, refl)
+ways (Ok Repeat) = inr (λ m e. zero_one (cc))
+ways (Err Collision) = inr (λ m e. zero_one (cc))
+ways (Err Full) = inr (λ m e. zero_one (cc))
 
 -- ---- which rows are alike
 
@@ -60,7 +62,7 @@ alike_named t n r r' a b c same = record {
 
 module _ (t u : Slices) (used : ℕ) (row : Row) where
   -- no insertion: the slices as they came
-  pub alike_kept : (a : Registered) → RegistersAlike t u used row a → ((m : ℕ) → a ≡ Inserted m → ⊥) → u ≡ t
+  pub alike_kept : (a : RegisterResult) → RegistersAlike t u used row a → ((m : ℕ) → a ≡ Ok (Inserted m) → ⊥) → u ≡ t
   alike_kept a did h = did.leaves ∙ kept opened_alike t used row (λ m e. h m (did.answers ∙ e))
 
   module _ (alike : Alike t used row) where
@@ -83,19 +85,19 @@ module _ (t u : Slices) (used : ℕ) (row : Row) where
     }
 
     -- THE LAW: it is `register_function`'s
-    pub alike_registers : (a : Registered) → RegistersAlike t u used row a → Registers t u used row a
+    pub alike_registers : (a : RegisterResult) → RegistersAlike t u used row a → Registers t u used row a
     alike_registers a did = record { answers = did.answers; leaves = did.leaves ∙ ⊎_elim moves stands (ways (register_in t used row)) }
       where
-        moves : ((m : ℕ) × (register_in t used row ≡ Inserted m)) → registered_by opened_alike t used row ≡ registered_by opened_row t used row
+        moves : ((m : ℕ) × (register_in t used row ≡ Ok (Inserted m))) → registered_by opened_alike t used row ≡ registered_by opened_row t used row
         moves w =
             let here = inserted opened_alike t used row w.0 w.1 in
             here.2 ∙ sym ((inserted opened_row t used row w.0 w.1).2 ∙ opened_alike_lem (used - w.0) (omega arith) here.1)
 
-        stands : ((m : ℕ) → register_in t used row ≡ Inserted m → ⊥) → registered_by opened_alike t used row ≡ registered_by opened_row t used row
+        stands : ((m : ℕ) → register_in t used row ≡ Ok (Inserted m) → ⊥) → registered_by opened_alike t used row ≡ registered_by opened_row t used row
         stands h = kept opened_alike t used row h ∙ sym (kept opened_row t used row h)
 
     -- and the rows are alike again
-    pub alike_after : (m : ℕ) → RegistersAlike t u used row (Inserted m) → Alike u (used + 1) row
+    pub alike_after : (m : ℕ) → RegistersAlike t u used row (Ok (Inserted m)) → Alike u (used + 1) row
     alike_after m did =
         let here = inserted opened_alike t used row m (sym did.answers) in
         rw (did.leaves ∙ here.2) (named_alike (used - m) here.1)

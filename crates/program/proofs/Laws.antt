@@ -10,14 +10,12 @@ use native.Mathlib.Omega.{arith}
 use lib.ListN.{length}
 use borrow.Author.Tests.{lt-ltb, le-ltb, eq-eqb, ne_eqb}
 use Rattle.ebpf.specs.Choice.{◌if◌else◌}
+use Rattle.std.specs.Prelude.{Option, Some, None, Ok, Err}
+use Rattle.program.specs.declared.Registered.TheVariants.{Inserted, Repeat}
+use Rattle.program.specs.declared.RegisterError.TheVariants.{Collision, Full}
 use Rattle.program.specs.declared.Row.{Row}
-use Rattle.program.specs.declared.Found.{Found}
-use Rattle.program.specs.declared.Found.TheVariants.{At, Nothing}
-use Rattle.program.specs.declared.Registered.{Registered}
-use Rattle.program.specs.declared.Registered.TheVariants.{Inserted, Repeat, Collision, Full}
-use Rattle.program.specs.declared.Removed.TheVariants.{Gone, Absent}
 use Rattle.program.specs.Search.{Over}
-use Rattle.program.specs.Rows.{rank, Ascending, find, Held, Repeats, Clashes, insert, remove, above, answer, after, register, registered, gone_if, unregister}
+use Rattle.program.specs.Rows.{RegisterResult, rank, Ascending, find, Held, Repeats, Clashes, insert, remove, above, answer, after, register, registered, gone_if, unregister}
 use Rattle.program.proofs.Cases.{by_lt, by_eq, zero_one}
 use Rattle.program.proofs.Searches.{over_below}
 use Rattle.program.proofs.Rows.{not_both, missing_cons, find_over}
@@ -31,7 +29,7 @@ over_insert k r (x ∷ rs) l o = by_lt (rank r) (rank x) (λ (b : Bool). Over k 
     (λ _. (l, o))
     (λ _. (o.0, over_insert k r rs l o.1))
 
-pub insert_ascending : (r : Row) (rs : List Row) → Ascending rs → find (rank r) rs ≡ Nothing → Ascending (insert r rs)
+pub insert_ascending : (r : Row) (rs : List Row) → Ascending rs → find (rank r) rs ≡ None → Ascending (insert r rs)
 unfolding ◌if◌else◌
 insert_ascending r [] a none = (tt, tt)
 insert_ascending r (x ∷ rs) a none =
@@ -57,12 +55,12 @@ remove_ascending k (x ∷ rs) a = by_eq (rank x) k (λ (b : Bool). Ascending (rs
 
 -- ---- what is found after an insertion and a removal
 
-pub find_insert_same : (r : Row) (rs : List Row) → find (rank r) rs ≡ Nothing → find (rank r) (insert r rs) ≡ At r
+pub find_insert_same : (r : Row) (rs : List Row) → find (rank r) rs ≡ None → find (rank r) (insert r rs) ≡ Some r
 unfolding ◌if◌else◌
 find_insert_same r [] none = rw (eq-eqb (rank r) (rank r) refl) refl
 find_insert_same r (x ∷ rs) none =
     let m = missing_cons (rank r) x rs none in
-    by_lt (rank r) (rank x) (λ (b : Bool). find (rank r) ((r ∷ x ∷ rs) if b else (x ∷ insert r rs)) ≡ At r)
+    by_lt (rank r) (rank x) (λ (b : Bool). find (rank r) ((r ∷ x ∷ rs) if b else (x ∷ insert r rs)) ≡ Some r)
     (λ _. rw (eq-eqb (rank r) (rank r) refl) refl)
     (λ _. rw (ne_eqb (rank x) (rank r) m.0) (find_insert_same r rs m.1))
 
@@ -73,10 +71,10 @@ find_insert_other k r (x ∷ rs) ne = by_lt (rank r) (rank x) (λ (b : Bool). fi
     (λ _. rw (ne_eqb (rank r) k ne) refl)
     (λ _. rw (find_insert_other k r rs ne) refl)
 
-pub find_remove_same : (k : ℕ) (rs : List Row) → Ascending rs → find k (remove k rs) ≡ Nothing
+pub find_remove_same : (k : ℕ) (rs : List Row) → Ascending rs → find k (remove k rs) ≡ None
 unfolding ◌if◌else◌
 find_remove_same k [] a = refl
-find_remove_same k (x ∷ rs) a = by_eq (rank x) k (λ (b : Bool). find k (rs if b else (x ∷ remove k rs)) ≡ Nothing)
+find_remove_same k (x ∷ rs) a = by_eq (rank x) k (λ (b : Bool). find k (rs if b else (x ∷ remove k rs)) ≡ None)
     (λ e. find_over k rs (rw e at a.0))
     (λ ne. rw (ne_eqb (rank x) k ne) (find_remove_same k rs a.1))
 
@@ -96,10 +94,10 @@ length_insert r (x ∷ rs) = by_lt (rank r) (rank x) (λ (b : Bool). length ((r 
     (λ _. refl)
     (λ _. ap suc (length_insert r rs))
 
-pub length_remove : (k : ℕ) (x : Row) (rs : List Row) → find k rs ≡ At x → suc (length (remove k rs)) ≡ length rs
+pub length_remove : (k : ℕ) (x : Row) (rs : List Row) → find k rs ≡ Some x → suc (length (remove k rs)) ≡ length rs
 unfolding ◌if◌else◌
-length_remove k x [] e = absurd (not_both x Nothing e refl)
-length_remove k x (y ∷ rs) e = by_eq (rank y) k (λ (b : Bool). (At y if b else find k rs) ≡ At x → suc (length (rs if b else (y ∷ remove k rs))) ≡ suc (length rs))
+length_remove k x [] e = absurd (not_both x None e refl)
+length_remove k x (y ∷ rs) e = by_eq (rank y) k (λ (b : Bool). (Some y if b else find k rs) ≡ Some x → suc (length (rs if b else (y ∷ remove k rs))) ≡ suc (length rs))
     (λ _ _. refl)
     (λ _ e. ap suc (length_remove k x rs e))
     e
@@ -111,10 +109,10 @@ above_le k (x ∷ rs) = by_lt k (rank x) (λ (b : Bool). (suc (above k rs) if b 
     (λ _. suc-le-suc (above_le k rs))
     (λ _. omega (arith, above_le k rs))
 
-pub above_less : (k : ℕ) (x : Row) (rs : List Row) → find k rs ≡ At x → above k rs < length rs
+pub above_less : (k : ℕ) (x : Row) (rs : List Row) → find k rs ≡ Some x → above k rs < length rs
 unfolding ◌if◌else◌
-above_less k x [] e = absurd (not_both x Nothing e refl)
-above_less k x (y ∷ rs) e = by_eq (rank y) k (λ (b : Bool). (At y if b else find k rs) ≡ At x → above k (y ∷ rs) < suc (length rs))
+above_less k x [] e = absurd (not_both x None e refl)
+above_less k x (y ∷ rs) e = by_eq (rank y) k (λ (b : Bool). (Some y if b else find k rs) ≡ Some x → above k (y ∷ rs) < suc (length rs))
     (λ e _. rw (le-ltb k (rank y) (omega arith)) (omega (arith, above_le k rs)))
     (λ _ e. by_lt k (rank y) (λ (b : Bool). (suc (above k rs) if b else above k rs) < suc (length rs))
     (λ _. omega (arith, above_less k x rs e))
@@ -124,25 +122,25 @@ above_less k x (y ∷ rs) e = by_eq (rank y) k (λ (b : Bool). (At y if b else f
 -- ---- a registration
 
 -- the four ways that a registration goes, for any statement of the rows afterwards and the answer
-pub by_registered : (P : List Row → Registered → Type 0) (n : ℕ) (r : Row) (rs : List Row)
-    → ((x : Row) → find (rank r) rs ≡ At x → x.index ≡ r.index → P rs Repeat)
-    → ((x : Row) → find (rank r) rs ≡ At x → (x.index ≡ r.index → ⊥) → P rs Collision)
-    → (find (rank r) rs ≡ Nothing → n ≤ length rs → P rs Full)
-    → (find (rank r) rs ≡ Nothing → length rs < n → P (insert r rs) (Inserted (above (rank r) rs)))
+pub by_registered : (P : List Row → RegisterResult → Type 0) (n : ℕ) (r : Row) (rs : List Row)
+    → ((x : Row) → find (rank r) rs ≡ Some x → x.index ≡ r.index → P rs (Ok Repeat))
+    → ((x : Row) → find (rank r) rs ≡ Some x → (x.index ≡ r.index → ⊥) → P rs (Err Collision))
+    → (find (rank r) rs ≡ None → n ≤ length rs → P rs (Err Full))
+    → (find (rank r) rs ≡ None → length rs < n → P (insert r rs) (Ok (Inserted (above (rank r) rs))))
     → P (registered n r rs) (register n r rs)
 unfolding register registered ◌if◌else◌
 by_registered P n r rs same other full more = go (find (rank r) rs) refl
   where
-    go : (f : Found) → find (rank r) rs ≡ f → P (after f n r rs) (answer f n r rs)
-    go (At x) e = by_eq x.index r.index (λ (b : Bool). P rs (Repeat if b else Collision)) (same x e) (other x e)
-    go Nothing e = by_lt (length rs) n (λ (b : Bool). P (insert r rs if b else rs) (Inserted (above (rank r) rs) if b else Full)) (more e) (full e)
+    go : (f : Option Row) → find (rank r) rs ≡ f → P (after f n r rs) (answer f n r rs)
+    go (Some x) e = by_eq x.index r.index (λ (b : Bool). P rs (Ok Repeat if b else Err Collision)) (same x e) (other x e)
+    go None e = by_lt (length rs) n (λ (b : Bool). P (insert r rs if b else rs) (Ok (Inserted (above (rank r) rs)) if b else Err Full)) (more e) (full e)
 
 module _ (n : ℕ) (r : Row) (rs : List Row) where
   -- Repeat exactly where the key is held with the same index
-  pub repeat_iff : (register n r rs ≡ Repeat) ↔ Repeats r rs
+  pub repeat_iff : (register n r rs ≡ Ok Repeat) ↔ Repeats r rs
   unfolding register ◌if◌else◌
   repeat_iff = (
-    by_registered (λ (_ : List Row) (a : Registered). a ≡ Repeat → Repeats r rs) n r rs
+    by_registered (λ (_ : List Row) (a : RegisterResult). a ≡ Ok Repeat → Repeats r rs) n r rs
         (λ x e s _. (x, e, s))
         (λ _ _ _ h. absurd (zero_one (cc)))
         (λ _ _ h. absurd (zero_one (cc)))
@@ -151,10 +149,10 @@ module _ (n : ℕ) (r : Row) (rs : List Row) where
   )
 
   -- Collision exactly where the key is held with another index
-  pub collision_iff : (register n r rs ≡ Collision) ↔ Clashes r rs
+  pub collision_iff : (register n r rs ≡ Err Collision) ↔ Clashes r rs
   unfolding register ◌if◌else◌
   collision_iff = (
-    by_registered (λ (_ : List Row) (a : Registered). a ≡ Collision → Clashes r rs) n r rs
+    by_registered (λ (_ : List Row) (a : RegisterResult). a ≡ Err Collision → Clashes r rs) n r rs
         (λ _ _ _ h. absurd (zero_one (cc)))
         (λ x e ne _. (x, e, ne))
         (λ _ _ h. absurd (zero_one (cc)))
@@ -163,10 +161,10 @@ module _ (n : ℕ) (r : Row) (rs : List Row) where
   )
 
   -- Full exactly where the key is not held and the rows are used up
-  pub full_iff : (register n r rs ≡ Full) ↔ ((find (rank r) rs ≡ Nothing) × (n ≤ length rs))
+  pub full_iff : (register n r rs ≡ Err Full) ↔ ((find (rank r) rs ≡ None) × (n ≤ length rs))
   unfolding register ◌if◌else◌
   full_iff = (
-    by_registered (λ (_ : List Row) (a : Registered). a ≡ Full → (find (rank r) rs ≡ Nothing) × (n ≤ length rs)) n r rs
+    by_registered (λ (_ : List Row) (a : RegisterResult). a ≡ Err Full → (find (rank r) rs ≡ None) × (n ≤ length rs)) n r rs
         (λ _ _ _ h. absurd (zero_one (cc)))
         (λ _ _ _ h. absurd (zero_one (cc)))
         (λ none l _. (none, l))
@@ -175,10 +173,10 @@ module _ (n : ℕ) (r : Row) (rs : List Row) where
   )
 
   -- Inserted exactly where the key is not held and there is room; the moves are the rows above
-  pub inserted_iff : (m : ℕ) → (register n r rs ≡ Inserted m) ↔ ((find (rank r) rs ≡ Nothing) × (length rs < n) × (m ≡ above (rank r) rs))
+  pub inserted_iff : (m : ℕ) → (register n r rs ≡ Ok (Inserted m)) ↔ ((find (rank r) rs ≡ None) × (length rs < n) × (m ≡ above (rank r) rs))
   unfolding register ◌if◌else◌
   inserted_iff m = (
-    by_registered (λ (_ : List Row) (a : Registered). a ≡ Inserted m → (find (rank r) rs ≡ Nothing) × (length rs < n) × (m ≡ above (rank r) rs)) n r rs
+    by_registered (λ (_ : List Row) (a : RegisterResult). a ≡ Ok (Inserted m) → (find (rank r) rs ≡ None) × (length rs < n) × (m ≡ above (rank r) rs)) n r rs
         (λ _ _ _ h. absurd (zero_one (cc)))
         (λ _ _ _ h. absurd (zero_one (cc)))
         (λ _ _ h. absurd (zero_one (cc)))
@@ -187,55 +185,55 @@ module _ (n : ℕ) (r : Row) (rs : List Row) where
   )
 
   pub registered_ascending : Ascending rs → Ascending (registered n r rs)
-  registered_ascending a = by_registered (λ (l : List Row) (_ : Registered). Ascending l) n r rs
+  registered_ascending a = by_registered (λ (l : List Row) (_ : RegisterResult). Ascending l) n r rs
       (λ _ _ _. a) (λ _ _ _. a) (λ _ _. a) (λ none _. insert_ascending r rs a none)
 
   pub registered_room : length rs ≤ n → length (registered n r rs) ≤ n
-  registered_room h = by_registered (λ (l : List Row) (_ : Registered). length l ≤ n) n r rs
+  registered_room h = by_registered (λ (l : List Row) (_ : RegisterResult). length l ≤ n) n r rs
       (λ _ _ _. h) (λ _ _ _. h) (λ _ _. h) (λ _ l. rw (length_insert r rs) l)
 
   -- the rows where the answer is no insertion, and where it is one
-  pub kept_rows : ((m : ℕ) → register n r rs ≡ Inserted m → ⊥) → registered n r rs ≡ rs
-  kept_rows = by_registered (λ (l : List Row) (a : Registered). ((m : ℕ) → a ≡ Inserted m → ⊥) → l ≡ rs) n r rs
+  pub kept_rows : ((m : ℕ) → register n r rs ≡ Ok (Inserted m) → ⊥) → registered n r rs ≡ rs
+  kept_rows = by_registered (λ (l : List Row) (a : RegisterResult). ((m : ℕ) → a ≡ Ok (Inserted m) → ⊥) → l ≡ rs) n r rs
       (λ _ _ _ _. refl) (λ _ _ _ _. refl) (λ _ _ _. refl) (λ _ _ h. absurd (h (above (rank r) rs) refl))
 
-  pub more_rows : (m : ℕ) → register n r rs ≡ Inserted m → (length (registered n r rs) ≡ suc (length rs)) × (m ≤ length rs)
-  more_rows m = by_registered (λ (l : List Row) (a : Registered). a ≡ Inserted m → (length l ≡ suc (length rs)) × (m ≤ length rs)) n r rs
+  pub more_rows : (m : ℕ) → register n r rs ≡ Ok (Inserted m) → (length (registered n r rs) ≡ suc (length rs)) × (m ≤ length rs)
+  more_rows m = by_registered (λ (l : List Row) (a : RegisterResult). a ≡ Ok (Inserted m) → (length l ≡ suc (length rs)) × (m ≤ length rs)) n r rs
       (λ _ _ _ h. absurd (zero_one (cc)))
       (λ _ _ _ h. absurd (zero_one (cc)))
       (λ _ _ h. absurd (zero_one (cc)))
       (λ _ _ h. let e : m ≡ above (rank r) rs = cc in (length_insert r rs, omega (arith, above_le (rank r) rs)))
 
   -- a registration that is not refused leaves its key finding its index
-  pub find_registered_same : (register n r rs ≡ Collision → ⊥) → (register n r rs ≡ Full → ⊥) → Repeats r (registered n r rs)
-  find_registered_same = by_registered (λ (l : List Row) (a : Registered). (a ≡ Collision → ⊥) → (a ≡ Full → ⊥) → Repeats r l) n r rs
+  pub find_registered_same : (register n r rs ≡ Err Collision → ⊥) → (register n r rs ≡ Err Full → ⊥) → Repeats r (registered n r rs)
+  find_registered_same = by_registered (λ (l : List Row) (a : RegisterResult). (a ≡ Err Collision → ⊥) → (a ≡ Err Full → ⊥) → Repeats r l) n r rs
       (λ x e s _ _. (x, e, s))
       (λ _ _ _ h _. absurd (h refl))
       (λ _ _ _ h. absurd (h refl))
       (λ none _ _ _. (r, find_insert_same r rs none, refl))
 
   -- a key that finds the row's index: a repeat, which changes nothing
-  pub repeat_held : (x : Row) → find (rank r) rs ≡ At x → x.index ≡ r.index → (register n r rs ≡ Repeat) × (registered n r rs ≡ rs)
+  pub repeat_held : (x : Row) → find (rank r) rs ≡ Some x → x.index ≡ r.index → (register n r rs ≡ Ok Repeat) × (registered n r rs ≡ rs)
   unfolding registered
   repeat_held x e s = (repeat_iff.1 (x, e, s), rw e refl)
 
   -- what is found stays found
-  pub find_stays : (k : ℕ) (x : Row) → find k rs ≡ At x → find k (registered n r rs) ≡ At x
-  find_stays k x e = by_registered (λ (l : List Row) (_ : Registered). find k l ≡ At x) n r rs
+  pub find_stays : (k : ℕ) (x : Row) → find k rs ≡ Some x → find k (registered n r rs) ≡ Some x
+  find_stays k x e = by_registered (λ (l : List Row) (_ : RegisterResult). find k l ≡ Some x) n r rs
       (λ _ _ _. e) (λ _ _ _. e) (λ _ _. e) (λ none _. find_insert_other k r rs (λ same. not_both x (find k rs) e (rw same at none)) ∙ e)
 
   -- other keys are found as before
   pub find_registered_other : (k : ℕ) → (rank r ≡ k → ⊥) → find k (registered n r rs) ≡ find k rs
-  find_registered_other k ne = by_registered (λ (l : List Row) (_ : Registered). find k l ≡ find k rs) n r rs
+  find_registered_other k ne = by_registered (λ (l : List Row) (_ : RegisterResult). find k l ≡ find k rs) n r rs
       (λ _ _ _. refl) (λ _ _ _. refl) (λ _ _. refl) (λ _ _. find_insert_other k r rs ne)
 
   -- the key itself is held afterwards, unless the table was full
-  held_registered : (register n r rs ≡ Full → ⊥) → Held (rank r) (registered n r rs)
-  held_registered = by_registered (λ (l : List Row) (a : Registered). (a ≡ Full → ⊥) → Held (rank r) l) n r rs
+  held_registered : (register n r rs ≡ Err Full → ⊥) → Held (rank r) (registered n r rs)
+  held_registered = by_registered (λ (l : List Row) (a : RegisterResult). (a ≡ Err Full → ⊥) → Held (rank r) l) n r rs
       (λ x e _ _. (x, e)) (λ x e _ _. (x, e)) (λ _ _ h. absurd (h refl)) (λ none _ _. (r, find_insert_same r rs none))
 
 -- the keys afterwards are the old ones and the new one
-pub keys_registered : (n k : ℕ) (r : Row) (rs : List Row) → (register n r rs ≡ Full → ⊥) → Held k (registered n r rs) ↔ (Held k rs ⊎ (rank r ≡ k))
+pub keys_registered : (n k : ℕ) (r : Row) (rs : List Row) → (register n r rs ≡ Err Full → ⊥) → Held k (registered n r rs) ↔ (Held k rs ⊎ (rank r ≡ k))
 keys_registered n k r rs room = (split (ℕ_discrete (rank r) k), join)
   where
     split : Dec (rank r ≡ k) → Held k (registered n r rs) → Held k rs ⊎ (rank r ≡ k)
@@ -254,21 +252,21 @@ keys_registered n k r rs room = (split (ℕ_discrete (rank r) k), join)
 
 module _ (k : ℕ) (rs : List Row) where
   -- Absent exactly where the key is not held; Gone exactly where it is, and the moves are the rows above
-  pub absent_iff : (unregister k rs ≡ Absent) ↔ (find k rs ≡ Nothing)
+  pub absent_iff : (unregister k rs ≡ None) ↔ (find k rs ≡ None)
   unfolding unregister
   absent_iff = (go (find k rs), λ h. rw h refl)
     where
-      go : (f : Found) → gone_if f k rs ≡ Absent → f ≡ Nothing
-      go (At x) h = absurd (zero_one (cc))
-      go Nothing h = refl
+      go : (f : Option Row) → gone_if f k rs ≡ None → f ≡ None
+      go (Some x) h = absurd (zero_one (cc))
+      go None h = refl
 
-  pub gone_iff : (m : ℕ) → (unregister k rs ≡ Gone m) ↔ (Held k rs × (m ≡ above k rs))
+  pub gone_iff : (m : ℕ) → (unregister k rs ≡ Some m) ↔ (Held k rs × (m ≡ above k rs))
   unfolding unregister
   gone_iff m = (go (find k rs), λ h. rw (h.0.1, h.1) refl)
     where
-      go : (f : Found) → gone_if f k rs ≡ Gone m → ((x : Row) × (f ≡ At x)) × (m ≡ above k rs)
-      go (At x) h = ((x, refl), cc)
-      go Nothing h = absurd (zero_one (cc))
+      go : (f : Option Row) → gone_if f k rs ≡ Some m → ((x : Row) × (f ≡ Some x)) × (m ≡ above k rs)
+      go (Some x) h = ((x, refl), cc)
+      go None h = absurd (zero_one (cc))
 
   -- the keys afterwards are the others
   pub keys_removed : (j : ℕ) → Ascending rs → Held j (remove k rs) ↔ (Held j rs × (j ≡ k → ⊥))

@@ -6,17 +6,15 @@ use native.Mathlib.Nat.{le_of_suc-le-suc, not-suc-le-zero, mul-suc, suc-mul}
 use native.Mathlib.Numerals.{sub-one}
 use native.Mathlib.Omega.{arith}
 use lib.ListN.{length}
+use Rattle.std.specs.Prelude.{Option, Some, None}
 use Rattle.program.specs.declared.Row.{Row}
-use Rattle.program.specs.declared.Found.{Found}
-use Rattle.program.specs.declared.Found.TheVariants.{At, Nothing}
-use Rattle.program.specs.declared.Registered.{Registered}
-use Rattle.program.specs.Rows.{rank, find, gone_if, remove, register, registered, unregister}
+use Rattle.program.specs.Rows.{RegisterResult, rank, find, gone_if, remove, register, registered, unregister}
 use Rattle.program.specs.Runs.{moves_of, moves_gone, rows_after, moves_in, triangle}
 use Rattle.program.proofs.Laws.{by_registered, length_insert, above_le, above_less, registered_room}
 
 -- what each registration adds, counted against the rows: for a run whose steps a caller takes one by one
 pub moves_step : (n : ℕ) (r : Row) (rs : List Row) → moves_of (register n r rs) + triangle (length rs) ≤ triangle (length (registered n r rs))
-moves_step n r rs = by_registered (λ (l : List Row) (a : Registered). moves_of a + triangle (length rs) ≤ triangle (length l)) n r rs
+moves_step n r rs = by_registered (λ (l : List Row) (a : RegisterResult). moves_of a + triangle (length rs) ≤ triangle (length l)) n r rs
     (λ _ _ _. omega arith) (λ _ _ _. omega arith) (λ _ _. omega arith) (λ _ _. rw (length_insert r rs) (omega (arith, above_le (rank r) rs)))
 
 moves_triangle : (n : ℕ) (more rs : List Row) → moves_in n more rs + triangle (length rs) ≤ triangle (length (rows_after n more rs))
@@ -49,12 +47,12 @@ pub removal_moves : (k : ℕ) (rs : List Row) → moves_gone (unregister k rs) �
 unfolding unregister
 removal_moves k rs = go (find k rs) refl
   where
-    go : (f : Found) → find k rs ≡ f → moves_gone (gone_if f k rs) ≤ length rs - 1
-    go (At x) e = omega (arith, above_less k x rs e)
-    go Nothing e = zero-le
+    go : (f : Option Row) → find k rs ≡ f → moves_gone (gone_if f k rs) ≤ length rs - 1
+    go (Some x) e = omega (arith, above_less k x rs e)
+    go None e = zero-le
 
 pub registration_moves : (n : ℕ) (r : Row) (rs : List Row) → moves_of (register n r rs) ≤ n - 1
-registration_moves n r rs = by_registered (λ (_ : List Row) (a : Registered). moves_of a ≤ n - 1) n r rs
+registration_moves n r rs = by_registered (λ (_ : List Row) (a : RegisterResult). moves_of a ≤ n - 1) n r rs
     (λ _ _ _. zero-le) (λ _ _ _. zero-le) (λ _ _. zero-le) (λ _ l. omega (arith, above_le (rank r) rs))
 
 total : (m g i half n len : ℕ) → m ≤ half → g ≤ len - 1 → len ≤ n → i ≤ n - 1 → m + g + i ≤ half + 2 * (n - 1)

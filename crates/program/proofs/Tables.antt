@@ -1,29 +1,24 @@
 -- What the contracts mean for a table, whose used rows ascend with zeros elsewhere: a registration and a removal are those of its rows, and
 -- what they leave is a table again. Assumes nothing.
 use mathlib.Core.Path.{◌≡◌, refl, sym, ap, subst, ◌∙◌}
-use mathlib.Core.Bool.{Bool, false}
+use mathlib.Core.Bool.{Bool}
 use mathlib.Core.List.{List, [], ◌∷◌, ◌++◌, map}
 use Prim.Native.Nat.{ℕ, suc, ◌-◌, ◌≤◌, ◌<◌, min, zero-le}
 use native.Mathlib.Omega.{arith}
 use lib.ListN.{length, take, drop, get_or, replicate}
-use lib.Dec.{ltb, eqb}
 use borrow.Author.Tests.{lt-ltb, le-ltb, eq-eqb, ne_eqb}
 use Rattle.ebpf.specs.Choice.{◌if◌else◌}
+use Rattle.std.specs.Prelude.{Option, Some, None, Ok, Err}
+use Rattle.program.specs.declared.Registered.TheVariants.{Inserted, Repeat}
+use Rattle.program.specs.declared.RegisterError.TheVariants.{Collision, Full}
 use Rattle.program.specs.declared.Row.{Row}
-use Rattle.program.specs.declared.Found.TheVariants.{At, Nothing}
-use Rattle.program.specs.declared.FoundRow.{FoundRow}
-use Rattle.program.specs.declared.FoundRow.TheVariants.{At as AtRow, Nothing as NoRow}
-use Rattle.program.specs.declared.Registered.{Registered}
-use Rattle.program.specs.declared.Registered.TheVariants.{Inserted, Repeat, Collision, Full}
-use Rattle.program.specs.declared.Removed.{Removed}
-use Rattle.program.specs.declared.Removed.TheVariants.{Gone, Absent}
 use Rattle.program.specs.Search.{binary_search}
-use Rattle.program.specs.Rows.{rank, Ascending, find, remove, register, registered, unregister}
+use Rattle.program.specs.Rows.{RegisterResult, rank, Ascending, find, remove, register, registered, unregister}
 use Rattle.program.specs.Table.{Slices, least, capacity, column, lay, row_at, rows_of, opened_row, closed_row, counted, place_in, register_in, registered_by, registered_in, unregister_at, unregistered_at, unregister_in, unregistered_in, Registers, Unregisters, lookup_in, found_at, lookup_ascending_in, number_at, row_ascending_in, row_of_found, index_of_row, index_ascending_in, index_of_found, ranks_of, holds, Ready, Registration, Removal}
-use Rattle.program.proofs.Cases.{by_le, by_eq}
+use Rattle.program.proofs.Cases.{by_test}
 use Rattle.program.proofs.Searches.{search_place}
 use Rattle.program.proofs.Laying.{zero_row, within_room, length_column, length_rows, ranks_rows, row_at_lem, rows_lay, capacity_lay, opened_lay, closed_lay}
-use Rattle.program.proofs.Steps.{by_holds, by_registered_at}
+use Rattle.program.proofs.Steps.{number_holds, by_holds, by_registered_at}
 use Rattle.program.proofs.Rows.{place_of, find_here, find_missing, insert_here, above_missing, remove_here, above_held, remove_missing}
 use Rattle.program.proofs.Laws.{registered_ascending, registered_room, remove_ascending, length_remove, gone_iff, absent_iff, above_less}
 
@@ -105,24 +100,20 @@ ready_none t z = subst (λ (u : Slices). Ready u 0) (sym z) (ready_lay t [] zero
 
 -- ---- the ways that a removal goes at a place, for any statement of the slices afterwards and the answer
 
-by_unregistered_at : (P : Slices → Removed → Type 0) (t : Slices) (n at k : ℕ)
-    → ((at < n → rank (row_at t at) ≡ k → ⊥) → P t Absent)
-    → (at < n → rank (row_at t at) ≡ k → P (closed_row at n t) (Gone (n - at - 1)))
+by_unregistered_at : (P : Slices → Option ℕ → Type 0) (t : Slices) (n at k : ℕ)
+    → ((at < n → rank (row_at t at) ≡ k → ⊥) → P t None)
+    → (at < n → rank (row_at t at) ≡ k → P (closed_row at n t) (Some (n - at - 1)))
     → P (unregistered_at t n at k) (unregister_at t n at k)
 unfolding unregister_at unregistered_at ◌if◌else◌
 by_unregistered_at P t n at k none one =
-    by_holds t n at k (λ (b : Bool). P (closed_row at n t if b else t) (Gone (n - at - 1) if b else Absent)) one none
+    by_holds t n at k (λ (b : Bool). P (closed_row at n t if b else t) (Some (n - at - 1) if b else None)) one none
 
 -- ---- a row's number, whatever the slices hold
 
 -- the row that is found at a place
 same_row : (t : Slices) (n at k : ℕ) → found_at t n at k ≡ row_of_found t (number_at t.keys n at k)
-unfolding number_at found_at holds rank ◌if◌else◌
-same_row t n at k =
-    by_le n at
-    (λ (b : Bool). (At (row_at t at) if (eqb (get_or t.keys at 0) k if ltb at n else false) else Nothing) ≡ row_of_found t (NoRow if b else AtRow at if eqb (get_or t.keys at 0) k else NoRow))
-    (λ l. rw (le-ltb at n l) refl)
-    (λ l. rw (lt-ltb at n l) (by_eq (get_or t.keys at 0) k (λ (b : Bool). (At (row_at t at) if b else Nothing) ≡ row_of_found t (AtRow at if b else NoRow)) (λ _. refl) (λ _. refl)))
+unfolding found_at ◌if◌else◌
+same_row t n at k = rw (number_holds t n at k) (by_test (holds t n at k) (λ (b : Bool). (Some (row_at t at) if b else None) ≡ row_of_found t (Some at if b else None)) (λ _. refl) (λ _. refl))
 
 -- by the keys of the rows that count, the number is that of the row that the search finds
 pub row_counted : (t : Slices) (used k : ℕ) → lookup_ascending_in t used k ≡ row_of_found t (row_ascending_in t.keys (counted t used) k)
@@ -133,9 +124,9 @@ row_counted t used k =
     rw all (same_row t n (binary_search k (take n t.keys)) k)
 
 -- the index of a row is that in the column of indices at its number
-index_at : (t : Slices) (r : FoundRow) → index_of_row t.indices r ≡ index_of_found (row_of_found t r)
-index_at t (AtRow n) = refl
-index_at t NoRow = refl
+index_at : (t : Slices) (r : Option ℕ) → index_of_row t.indices r ≡ index_of_found (row_of_found t r)
+index_at t (Some n) = refl
+index_at t None = refl
 
 -- ---- a table
 
@@ -156,12 +147,12 @@ module _ (t : Slices) (used : ℕ) (ready : Ready t used) where
     at_rank l = ap rank (row_at_lem t used at l)
 
     -- rank k is not there
-    missing : (at < used → rank (row_at t at) ≡ k → ⊥) → find k (rows_of t used) ≡ Nothing
+    missing : (at < used → rank (row_at t at) ≡ k → ⊥) → find k (rows_of t used) ≡ None
     missing h = find_missing k zero_row (rows_of t used) ready.rising (λ l e.
         let l' : at < used = omega (arith, is, length_rows t used) in
         h l' (sym (at_rank l') ∙ rw is e))
 
-    absent : (at < used → rank (row_at t at) ≡ k → ⊥) → Removal t t used k Absent
+    absent : (at < used → rank (row_at t at) ≡ k → ⊥) → Removal t t used k None
     unfolding unregister
     absent h = record {
       answers = rw (missing h) refl;
@@ -176,13 +167,13 @@ module _ (t : Slices) (used : ℕ) (ready : Ready t used) where
       same : rank (get_or (rows_of t used) (place_of k (rows_of t used)) zero_row) ≡ k
       same = rw (← is) (at_rank l ∙ e)
 
-      found : find k (rows_of t used) ≡ At (row_at t at)
-      found = find_here k zero_row (rows_of t used) inside same ∙ rw (← is) (ap At (row_at_lem t used at l))
+      found : find k (rows_of t used) ≡ Some (row_at t at)
+      found = find_here k zero_row (rows_of t used) inside same ∙ rw (← is) (ap Some (row_at_lem t used at l))
 
-      gone : Removal t (closed_row at used t) used k (Gone (used - at - 1))
+      gone : Removal t (closed_row at used t) used k (Some (used - at - 1))
       unfolding unregister
       gone = record {
-        answers = rw found (ap Gone (omega (arith, above_held k zero_row (rows_of t used) ready.rising inside same, is, length_rows t used)));
+        answers = rw found (ap Some (omega (arith, above_held k zero_row (rows_of t used) ready.rising inside same, is, length_rows t used)));
         leaves =
             let lays : closed_row at used (lay t (rows_of t used)) ≡ lay t (take at (rows_of t used) ++ drop (suc at) (rows_of t used)) =
             rw (length_rows t used) at (closed_lay t (rows_of t used) (rw (length_rows t used) ready.room) at (rw (length_rows t used) l)) in
@@ -195,7 +186,7 @@ module _ (t : Slices) (used : ℕ) (ready : Ready t used) where
   lookups_agree k =
       let is = place_ready k in
       rw counted_ready
-      (by_holds t used (place_in t used k) k (λ (b : Bool). (At (row_at t (place_in t used k)) if b else Nothing) ≡ find k (rows_of t used))
+      (by_holds t used (place_in t used k) k (λ (b : Bool). (Some (row_at t (place_in t used k)) if b else None) ≡ find k (rows_of t used))
       (λ l e. sym (found k (place_in t used k) is l e))
       (λ h. sym (missing k (place_in t used k) is h)))
 
@@ -211,14 +202,14 @@ module _ (t : Slices) (used : ℕ) (ready : Ready t used) where
       rw (all, row_agrees k) (index_at t (row_ascending_in t.keys used k))
 
   module _ (row : Row) (at : ℕ) (is : at ≡ place_of (rank row) (rows_of t used)) where
-    repeats : at < used → rank (row_at t at) ≡ rank row → (row_at t at).index ≡ row.index → Registration t t used row Repeat
+    repeats : at < used → rank (row_at t at) ≡ rank row → (row_at t at).index ≡ row.index → Registration t t used row (Ok Repeat)
     unfolding register registered ◌if◌else◌
     repeats l e s = record {
       answers = rw (found (rank row) at is l e, eq-eqb (row_at t at).index row.index s) refl;
       leaves = rw (found (rank row) at is l e) ready.laid;
     }
 
-    collides : at < used → rank (row_at t at) ≡ rank row → ((row_at t at).index ≡ row.index → ⊥) → Registration t t used row Collision
+    collides : at < used → rank (row_at t at) ≡ rank row → ((row_at t at).index ≡ row.index → ⊥) → Registration t t used row (Err Collision)
     unfolding register registered ◌if◌else◌
     collides l e o = record {
       answers = rw (found (rank row) at is l e, ne_eqb (row_at t at).index row.index o) refl;
@@ -226,14 +217,14 @@ module _ (t : Slices) (used : ℕ) (ready : Ready t used) where
     }
 
     module _ (h : at < used → rank (row_at t at) ≡ rank row → ⊥) where
-      full : capacity t ≤ used → Registration t t used row Full
+      full : capacity t ≤ used → Registration t t used row (Err Full)
       unfolding register registered ◌if◌else◌
       full l =
           let none = missing (rank row) at is h in
           let shut = le-ltb (length (rows_of t used)) (capacity t) (rw (length_rows t used) l) in
           record { answers = rw (none, shut) refl; leaves = rw (none, shut) ready.laid }
 
-      inserts : used < capacity t → Registration t (opened_row at used row t) used row (Inserted (used - at))
+      inserts : used < capacity t → Registration t (opened_row at used row t) used row (Ok (Inserted (used - at)))
       unfolding register registered ◌if◌else◌
       inserts l =
           let none = missing (rank row) at is h in
@@ -242,7 +233,7 @@ module _ (t : Slices) (used : ℕ) (ready : Ready t used) where
           let lays : opened_row at used row (lay t (rows_of t used)) ≡ lay t (take at (rows_of t used) ++ (row ∷ drop at (rows_of t used))) =
           rw (length_rows t used) at (opened_lay t (rows_of t used) (rw (length_rows t used) ready.room) at row (omega (arith, is, counts)) (rw (length_rows t used) l)) in
           record {
-            answers = rw (none, room) (ap Inserted (omega (arith, counts, is, length_rows t used)));
+            answers = rw (none, room) (ap (λ (m : ℕ). Ok (Inserted m)) (omega (arith, counts, is, length_rows t used)));
             leaves = rw (none, room) (ap (opened_row at used row) ready.laid ∙ lays ∙ ap (lay t) (rw is (sym (insert_here row (rows_of t used) none))));
           }
 
@@ -251,7 +242,7 @@ module _ (t : Slices) (used : ℕ) (ready : Ready t used) where
   unfolding register_in registered_by
   registration row =
       rw (counted_ready, place_ready (rank row))
-      (by_registered_at (λ (u : Slices) (a : Registered). Registration t u used row a) opened_row t used (place_of (rank row) (rows_of t used)) row
+      (by_registered_at (λ (u : Slices) (a : RegisterResult). Registration t u used row a) opened_row t used (place_of (rank row) (rows_of t used)) row
       (repeats row (place_of (rank row) (rows_of t used)) refl)
       (collides row (place_of (rank row) (rows_of t used)) refl)
       (full row (place_of (rank row) (rows_of t used)) refl)
@@ -261,19 +252,19 @@ module _ (t : Slices) (used : ℕ) (ready : Ready t used) where
   unfolding unregister_in unregistered_in
   removal k =
       rw (counted_ready, place_ready k)
-      (by_unregistered_at (λ (u : Slices) (a : Removed). Removal t u used k a) t used (place_of k (rows_of t used)) k
+      (by_unregistered_at (λ (u : Slices) (a : Option ℕ). Removal t u used k a) t used (place_of k (rows_of t used)) k
       (absent k (place_of k (rows_of t used)) refl)
       (gone k (place_of k (rows_of t used)) refl))
 
-  pub registers_ready : (u : Slices) (row : Row) (a : Registered) → Registers t u used row a → Registration t u used row a
+  pub registers_ready : (u : Slices) (row : Row) (a : RegisterResult) → Registers t u used row a → Registration t u used row a
   registers_ready u row a did = rw (did.answers, did.leaves) (registration row)
 
-  pub unregisters_ready : (u : Slices) (k : ℕ) (a : Removed) → Unregisters t u used k a → Removal t u used k a
+  pub unregisters_ready : (u : Slices) (k : ℕ) (a : Option ℕ) → Unregisters t u used k a → Removal t u used k a
   unregisters_ready u k a did = rw (did.answers, did.leaves) (removal k)
 
 -- ---- what a registration of a table leaves
 
-module _ (t u : Slices) (used : ℕ) (row : Row) (a : Registered) (ready : Ready t used) (did : Registration t u used row a) where
+module _ (t u : Slices) (used : ℕ) (row : Row) (a : RegisterResult) (ready : Ready t used) (did : Registration t u used row a) where
   abbrev rows' : List Row
   rows' = registered (capacity t) row (rows_of t used)
 
@@ -295,7 +286,7 @@ pub record IsTable (u : Slices) (n : ℕ) (rows : List Row) : Type 0 where
 
 module _ (t u : Slices) (used k : ℕ) (ready : Ready t used) where
   -- a row less, and fewer moves than rows
-  pub after_gone : (m : ℕ) → Removal t u used k (Gone m) → IsTable u (used - 1) (remove k (rows_of t used)) × (m < used)
+  pub after_gone : (m : ℕ) → Removal t u used k (Some m) → IsTable u (used - 1) (remove k (rows_of t used)) × (m < used)
   after_gone m did =
       let held = (gone_iff k (rows_of t used) m).0 (sym did.answers) in
       let less = length_remove k held.0.0 (rows_of t used) held.0.1 in
@@ -305,7 +296,7 @@ module _ (t u : Slices) (used k : ℕ) (ready : Ready t used) where
       record { ready = ready_lay t (remove k (rows_of t used)) room (remove_ascending k (rows_of t used) ready.rising); rows_are = rows_lay t (remove k (rows_of t used)) room } in
       (rw (← e, did.leaves) laid, omega (arith, held.1, above_less k held.0.0 (rows_of t used) held.0.1, length_rows t used))
 
-  pub after_absent : Removal t u used k Absent → u ≡ t
+  pub after_absent : Removal t u used k None → u ≡ t
   after_absent did =
       did.leaves
       ∙ ap (lay t) (remove_missing k (rows_of t used) ((absent_iff k (rows_of t used)).0 (sym did.answers)))

@@ -1,15 +1,12 @@
 -- Worked examples, by computation: a table of three rows, of which two are used. The fourth number of two slices is past the rows.
-use Rattle.std.specs.Prelude.{ℕ, ◌≡◌, refl, Bool, true, false, List, [], ◌∷◌}
+use Rattle.std.specs.Prelude.{ℕ, ◌≡◌, refl, Bool, true, false, List, [], ◌∷◌, Some, None, Ok, Err}
 use Rattle.ebpf.specs.Choice.{◌if◌else◌}
 use Rattle.ebpf.specs.IndexKeys.{index_key, key_in}
 use Rattle.ebpf.specs.LittleEndian.{bytes_of}
 use Rattle.ebpf.specs.Murmur3.{body, murmur3}
+use Rattle.program.specs.declared.Registered.TheVariants.{Inserted, Repeat}
+use Rattle.program.specs.declared.RegisterError.TheVariants.{Collision, Full}
 use Rattle.program.specs.declared.Row.{Row}
-use Rattle.program.specs.declared.Found.TheVariants.{At, Nothing}
-use Rattle.program.specs.declared.FoundRow.TheVariants.{At as AtRow, Nothing as NoRow}
-use Rattle.program.specs.declared.FoundIndex.TheVariants.{At as AtIndex, Nothing as NoIndex}
-use Rattle.program.specs.declared.Registered.TheVariants.{Inserted, Repeat, Collision, Full}
-use Rattle.program.specs.declared.Removed.TheVariants.{Gone, Absent}
 use Rattle.program.specs.declared.KeptName.{KeptName}
 use Rattle.program.specs.declared.FunctionName.TheVariants.{Symbol, OfIndex, Entrypoint}
 use Rattle.program.specs.Search.{narrowed, binary_search, is_among}
@@ -38,7 +35,7 @@ mixed = slices (5 ∷ 9 ∷ 5 ∷ []) (1 ∷ 2 ∷ 3 ∷ []) (3 ∷ 3 ∷ 3 ∷ 
 -- one row moves for key 20 and none for 40; key 30 repeats or collides by its index; the table is full with three rows, also by a count
 -- past the rows
 registrations : register_in two 2 (row 20 2) ∷ register_in two 2 (row 40 4) ∷ register_in two 2 (row 30 3) ∷ register_in two 2 (row 30 4) ∷ register_in three 3 (row 40 4) ∷ register_in three 9 (row 40 4) ∷ []
-    ≡ Inserted 1 ∷ Inserted 0 ∷ Repeat ∷ Collision ∷ Full ∷ Full ∷ []
+    ≡ Ok (Inserted 1) ∷ Ok (Inserted 0) ∷ Ok Repeat ∷ Err Collision ∷ Err Full ∷ Err Full ∷ []
 unfolding register_in register_at counted place_in holds binary_search narrowed ranks_of capacity least rank ◌if◌else◌
 registrations = refl
 
@@ -63,7 +60,7 @@ unlike : registered_alike_in two 2 named ∷ registered_in two 2 named ∷ []
 unfolding registered_by registered_at counted place_in holds binary_search narrowed ranks_of capacity least rank opened_row opened_alike opened ◌if◌else◌
 unlike = refl
 
-removals : unregister_in two 2 10 ∷ unregister_in two 2 30 ∷ unregister_in two 2 20 ∷ [] ≡ Gone 1 ∷ Gone 0 ∷ Absent ∷ []
+removals : unregister_in two 2 10 ∷ unregister_in two 2 30 ∷ unregister_in two 2 20 ∷ [] ≡ Some 1 ∷ Some 0 ∷ None ∷ []
 unfolding unregister_in unregister_at counted place_in holds binary_search narrowed ranks_of capacity least rank ◌if◌else◌
 removals = refl
 
@@ -72,13 +69,13 @@ unfolding unregistered_in unregistered_at counted place_in holds binary_search n
 removed = refl
 
 -- the first of two rows with the key; a row that is not used; a count past the rows
-lookups : lookup_in mixed 3 5 ∷ lookup_in mixed 1 9 ∷ lookup_in mixed 9 9 ∷ [] ≡ At (row 5 1) ∷ Nothing ∷ At (row 9 2) ∷ []
+lookups : lookup_in mixed 3 5 ∷ lookup_in mixed 1 9 ∷ lookup_in mixed 9 9 ∷ [] ≡ Some (row 5 1) ∷ None ∷ Some (row 9 2) ∷ []
 unfolding lookup_in counted rows_of capacity least rank ◌if◌else◌
 lookups = refl
 
 -- a binary search in ascending rows: the first row, the last, one that is not used, and keys between the rows and behind them
 ascending_lookups : lookup_ascending_in three 3 10 ∷ lookup_ascending_in three 3 30 ∷ lookup_ascending_in three 2 30 ∷ lookup_ascending_in three 3 25 ∷ lookup_ascending_in three 9 40 ∷ []
-    ≡ At (row 10 1) ∷ At (row 30 3) ∷ Nothing ∷ Nothing ∷ Nothing ∷ []
+    ≡ Some (row 10 1) ∷ Some (row 30 3) ∷ None ∷ None ∷ None ∷ []
 unfolding lookup_ascending_in found_at counted place_in holds binary_search narrowed ranks_of capacity least rank ◌if◌else◌
 ascending_lookups = refl
 
@@ -86,24 +83,24 @@ ascending_lookups = refl
 abbrev falling : Slices
 falling = slices (30 ∷ 20 ∷ 10 ∷ []) (3 ∷ 2 ∷ 1 ∷ []) (3 ∷ 3 ∷ 3 ∷ []) (0 ∷ 0 ∷ 0 ∷ []) (0 ∷ 0 ∷ 0 ∷ [])
 
-missed : lookup_ascending_in falling 3 30 ∷ lookup_in falling 3 30 ∷ [] ≡ Nothing ∷ At (row 30 3) ∷ []
+missed : lookup_ascending_in falling 3 30 ∷ lookup_in falling 3 30 ∷ [] ≡ None ∷ Some (row 30 3) ∷ []
 unfolding lookup_ascending_in found_at lookup_in counted place_in holds binary_search narrowed rows_of ranks_of capacity least rank ◌if◌else◌
 missed = refl
 
 -- the row's number alone: of the first row, of the last, of a key between the rows, of a row that is not used, by a count past the column, and by no rows
 row_lookups : row_ascending_in (10 ∷ 20 ∷ 30 ∷ []) 3 10 ∷ row_ascending_in (10 ∷ 20 ∷ 30 ∷ []) 3 30 ∷ row_ascending_in (10 ∷ 20 ∷ 30 ∷ []) 3 25 ∷ row_ascending_in (10 ∷ 20 ∷ 30 ∷ []) 2 30 ∷ row_ascending_in (10 ∷ 20 ∷ 30 ∷ []) 9 30 ∷ row_ascending_in (10 ∷ 20 ∷ 30 ∷ []) 0 10 ∷ []
-    ≡ AtRow 0 ∷ AtRow 2 ∷ NoRow ∷ NoRow ∷ AtRow 2 ∷ NoRow ∷ []
+    ≡ Some 0 ∷ Some 2 ∷ None ∷ None ∷ Some 2 ∷ None ∷ []
 unfolding row_ascending_in number_at binary_search narrowed ◌if◌else◌
 row_lookups = refl
 
 -- in keys that fall it misses rows that are there; of two equal keys it gives one
-row_misses : row_ascending_in (30 ∷ 20 ∷ 10 ∷ []) 3 30 ∷ row_ascending_in (30 ∷ 20 ∷ 10 ∷ []) 3 20 ∷ row_ascending_in (5 ∷ 9 ∷ 5 ∷ []) 3 5 ∷ [] ≡ NoRow ∷ NoRow ∷ AtRow 0 ∷ []
+row_misses : row_ascending_in (30 ∷ 20 ∷ 10 ∷ []) 3 30 ∷ row_ascending_in (30 ∷ 20 ∷ 10 ∷ []) 3 20 ∷ row_ascending_in (5 ∷ 9 ∷ 5 ∷ []) 3 5 ∷ [] ≡ None ∷ None ∷ Some 0 ∷ []
 unfolding row_ascending_in number_at binary_search narrowed ◌if◌else◌
 row_misses = refl
 
 -- the index alone: of a row, of a row that is not used, of a key between the rows, and by a column of indices that is too short
 index_lookups : index_ascending_in (10 ∷ 20 ∷ 30 ∷ []) (1 ∷ 2 ∷ 3 ∷ []) 3 30 ∷ index_ascending_in (10 ∷ 20 ∷ 30 ∷ []) (1 ∷ 2 ∷ 3 ∷ []) 2 30 ∷ index_ascending_in (10 ∷ 20 ∷ 30 ∷ []) (1 ∷ 2 ∷ 3 ∷ []) 3 25 ∷ index_ascending_in (10 ∷ 20 ∷ 30 ∷ []) (1 ∷ 2 ∷ []) 3 30 ∷ []
-    ≡ AtIndex 3 ∷ NoIndex ∷ NoIndex ∷ NoIndex ∷ []
+    ≡ Some 3 ∷ None ∷ None ∷ None ∷ []
 unfolding index_ascending_in row_ascending_in number_at binary_search narrowed ◌if◌else◌
 index_lookups = refl
 

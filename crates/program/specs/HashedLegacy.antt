@@ -1,15 +1,14 @@
 -- The key and the name of a registration, as `register_function_hashed_legacy` decides them.
-use Rattle.std.specs.Prelude.{ℕ, Bool, true, false, ◌||◌, List, [], ◌∷◌, eqb}
+use Rattle.std.specs.Prelude.{ℕ, Bool, true, false, ◌||◌, List, [], ◌∷◌, eqb, Result, Ok, Err}
 use Rattle.ebpf.specs.Choice.{◌if◌else◌}
 use Rattle.ebpf.specs.Murmur3.{murmur3}
 use Rattle.ebpf.specs.IndexKeys.{key_in}
+use Rattle.program.specs.declared.SymbolHashCollision.{SymbolHashCollision}
 use Rattle.program.specs.Search.{is_among}
 use Rattle.program.specs.declared.Row.{Row}
 use Rattle.program.specs.declared.KeptName.{KeptName}
 use Rattle.program.specs.declared.FunctionName.{FunctionName}
 use Rattle.program.specs.declared.FunctionName.TheVariants.{Symbol, OfIndex, Entrypoint}
-use Rattle.program.specs.declared.Legacy.{Legacy}
-use Rattle.program.specs.declared.Legacy.TheVariants.{Free, Taken}
 
 -- the bytes of the name entrypoint
 abbrev pub entrypoint : List ℕ
@@ -60,7 +59,14 @@ is_taken builtins version2 check key = false if version2 else is_among key built
 abbrev pub row_of : ℕ → ℕ → KeptName → Row
 row_of k i name = record { key = k; index = i; kind = name.kind; start = name.start; length = name.length }
 
-unfoldable pub legacy_row : List ℕ → List ℕ → Bool → Bool → Bool → FunctionName → ℕ → Legacy
+-- what a registration comes to: the row to register, or the key that a built-in has
+abbrev pub LegacyResult : Type 0
+LegacyResult = Result Row SymbolHashCollision
+
+abbrev pub collision : ℕ → SymbolHashCollision
+collision k = record { key = k }
+
+unfoldable pub legacy_row : List ℕ → List ℕ → Bool → Bool → Bool → FunctionName → ℕ → LegacyResult
 legacy_row table builtins version2 check labels name index =
-    Taken (legacy_key table version2 name index) if is_taken builtins version2 check (legacy_key table version2 name index)
-    else Free (row_of (legacy_key table version2 name index) index (kept_name labels name))
+    Err (collision (legacy_key table version2 name index)) if is_taken builtins version2 check (legacy_key table version2 name index)
+    else Ok (row_of (legacy_key table version2 name index) index (kept_name labels name))

@@ -1,14 +1,16 @@
 -- The rows of a table, in ascending rank: what is found, and what a registration and a removal answer and leave.
-use Rattle.std.specs.Prelude.{ℕ, suc, ◌≡◌, List, [], ◌∷◌, map, length, ltb, eqb}
+use Rattle.std.specs.Prelude.{ℕ, suc, ◌≡◌, List, [], ◌∷◌, map, length, ltb, eqb, Option, Some, None, Result, Ok, Err}
 use Rattle.ebpf.specs.Choice.{◌if◌else◌}
+use Rattle.program.specs.declared.Registered.TheVariants.{Inserted, Repeat}
+use Rattle.program.specs.declared.RegisterError.TheVariants.{Collision, Full}
+use Rattle.program.specs.declared.Registered.{Registered}
+use Rattle.program.specs.declared.RegisterError.{RegisterError}
 use Rattle.program.specs.Search.{Rising}
 use Rattle.program.specs.declared.Row.{Row}
-use Rattle.program.specs.declared.Found.{Found}
-use Rattle.program.specs.declared.Found.TheVariants.{At, Nothing}
-use Rattle.program.specs.declared.Registered.{Registered}
-use Rattle.program.specs.declared.Registered.TheVariants.{Inserted, Repeat, Collision, Full}
-use Rattle.program.specs.declared.Removed.{Removed}
-use Rattle.program.specs.declared.Removed.TheVariants.{Gone, Absent}
+
+-- what a registration answers
+abbrev pub RegisterResult : Type 0
+RegisterResult = Result Registered RegisterError
 
 -- rows are ordered by their key, which is called their rank here
 unfoldable pub rank : Row → ℕ
@@ -19,19 +21,19 @@ abbrev pub Ascending : List Row → Type 0
 Ascending rs = Rising (map rank rs)
 
 -- the first row of rank k
-abbrev pub find : ℕ → List Row → Found
-find k [] = Nothing
-find k (x ∷ xs) = At x if eqb (rank x) k else find k xs
+abbrev pub find : ℕ → List Row → Option Row
+find k [] = None
+find k (x ∷ xs) = Some x if eqb (rank x) k else find k xs
 
 -- rank k is held; held with r's index; held with another index
 abbrev pub Held : ℕ → List Row → Type 0
-Held k rs = (x : Row) × (find k rs ≡ At x)
+Held k rs = (x : Row) × (find k rs ≡ Some x)
 
 abbrev pub Repeats : Row → List Row → Type 0
-Repeats r rs = (x : Row) × (find (rank r) rs ≡ At x) × (x.index ≡ r.index)
+Repeats r rs = (x : Row) × (find (rank r) rs ≡ Some x) × (x.index ≡ r.index)
 
 abbrev pub Clashes : Row → List Row → Type 0
-Clashes r rs = (x : Row) × (find (rank r) rs ≡ At x) × (x.index ≡ r.index → ⊥)
+Clashes r rs = (x : Row) × (find (rank r) rs ≡ Some x) × (x.index ≡ r.index → ⊥)
 
 -- r before the first row of a larger rank
 abbrev pub insert : Row → List Row → List Row
@@ -49,24 +51,24 @@ above k [] = 0
 above k (x ∷ xs) = suc (above k xs) if ltb k (rank x) else above k xs
 
 -- a registration of r in a table with room for n rows: the answer, and the rows afterwards, by what is found of r's rank
-abbrev pub answer : Found → ℕ → Row → List Row → Registered
-answer (At x) n r rs = Repeat if eqb x.index r.index else Collision
-answer Nothing n r rs = Inserted (above (rank r) rs) if ltb (length rs) n else Full
+abbrev pub answer : Option Row → ℕ → Row → List Row → RegisterResult
+answer (Some x) n r rs = Ok Repeat if eqb x.index r.index else Err Collision
+answer None n r rs = Ok (Inserted (above (rank r) rs)) if ltb (length rs) n else Err Full
 
-abbrev pub after : Found → ℕ → Row → List Row → List Row
-after (At x) n r rs = rs
-after Nothing n r rs = insert r rs if ltb (length rs) n else rs
+abbrev pub after : Option Row → ℕ → Row → List Row → List Row
+after (Some x) n r rs = rs
+after None n r rs = insert r rs if ltb (length rs) n else rs
 
-unfoldable pub register : ℕ → Row → List Row → Registered
+unfoldable pub register : ℕ → Row → List Row → RegisterResult
 register n r rs = answer (find (rank r) rs) n r rs
 
 unfoldable pub registered : ℕ → Row → List Row → List Row
 registered n r rs = after (find (rank r) rs) n r rs
 
 -- a removal of rank k: the answer; the rows afterwards are `remove k rs`
-abbrev pub gone_if : Found → ℕ → List Row → Removed
-gone_if (At x) k rs = Gone (above k rs)
-gone_if Nothing k rs = Absent
+abbrev pub gone_if : Option Row → ℕ → List Row → Option ℕ
+gone_if (Some x) k rs = Some (above k rs)
+gone_if None k rs = None
 
-unfoldable pub unregister : ℕ → List Row → Removed
+unfoldable pub unregister : ℕ → List Row → Option ℕ
 unregister k rs = gone_if (find k rs) k rs

@@ -1,23 +1,19 @@
 -- Registrations one after another, from any rows on, in a table with room for n: the rows afterwards, and the moves in all. A refused
 -- registration changes nothing and counts nothing, so that a run that stops is the run of what came before.
-use Rattle.std.specs.Prelude.{ℕ, zero, suc, ◌+◌, List, [], ◌∷◌}
+use Rattle.std.specs.Prelude.{ℕ, zero, suc, ◌+◌, List, [], ◌∷◌, Option, Some, None, Ok, Err}
+use Rattle.program.specs.declared.Registered.TheVariants.{Inserted, Repeat}
 use Rattle.program.specs.declared.Row.{Row}
-use Rattle.program.specs.declared.Registered.{Registered}
-use Rattle.program.specs.declared.Registered.TheVariants.{Inserted, Repeat, Collision, Full}
-use Rattle.program.specs.declared.Removed.{Removed}
-use Rattle.program.specs.declared.Removed.TheVariants.{Gone, Absent}
-use Rattle.program.specs.Rows.{register, registered}
+use Rattle.program.specs.Rows.{RegisterResult, register, registered}
 
 -- the moves of one registration, and of one removal
-abbrev pub moves_of : Registered → ℕ
-moves_of (Inserted m) = m
-moves_of Repeat = 0
-moves_of Collision = 0
-moves_of Full = 0
+abbrev pub moves_of : RegisterResult → ℕ
+moves_of (Ok (Inserted m)) = m
+moves_of (Ok Repeat) = 0
+moves_of (Err e) = 0
 
-abbrev pub moves_gone : Removed → ℕ
-moves_gone (Gone m) = m
-moves_gone Absent = 0
+abbrev pub moves_gone : Option ℕ → ℕ
+moves_gone (Some m) = m
+moves_gone None = 0
 
 abbrev pub rows_after : ℕ → List Row → List Row → List Row
 rows_after n [] rs = rs

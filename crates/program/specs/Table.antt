@@ -1,21 +1,15 @@
 -- The table: five slices of numbers that hold rows, and what a registration, a removal and a lookup make of them, whatever they hold.
-use Rattle.std.specs.Prelude.{ℕ, zero, suc, ◌-◌, ◌≤◌, ◌<◌, min, ◌≡◌, Bool, false, List, [], ◌∷◌, ◌++◌, map, length, get_or, set, replicate, take, drop, ltb, leb, eqb}
+use Rattle.std.specs.Prelude.{ℕ, zero, suc, ◌+◌, ◌-◌, ◌≤◌, ◌<◌, min, ◌≡◌, Bool, false, List, [], ◌∷◌, ◌++◌, map, length, get_or, set, replicate, take, drop, ltb, leb, eqb, Option, Some, None, Ok, Err}
 use denote.Triple.Both.{Both}
 use Rattle.std.specs.Borrow.{Bor, MutBor}
 use Rattle.ebpf.specs.Choice.{◌if◌else◌}
+use Rattle.program.specs.declared.Registered.TheVariants.{Inserted, Repeat}
+use Rattle.program.specs.declared.RegisterError.TheVariants.{Collision, Full}
 use Rattle.program.specs.Search.{binary_search}
-use Rattle.program.specs.Rows.{rank, Ascending, find, register, registered, remove, unregister}
+use Rattle.program.specs.Rows.{RegisterResult, rank, Ascending, find, register, registered, remove, unregister}
 use Rattle.program.specs.declared.Row.{Row}
-use Rattle.program.specs.declared.Found.{Found}
-use Rattle.program.specs.declared.Found.TheVariants.{At, Nothing}
-use Rattle.program.specs.declared.FoundRow.{FoundRow}
-use Rattle.program.specs.declared.FoundRow.TheVariants.{At as AtRow, Nothing as NoRow}
-use Rattle.program.specs.declared.FoundIndex.{FoundIndex}
-use Rattle.program.specs.declared.FoundIndex.TheVariants.{At as AtIndex, Nothing as NoIndex}
-use Rattle.program.specs.declared.Registered.{Registered}
-use Rattle.program.specs.declared.Registered.TheVariants.{Inserted, Repeat, Collision, Full}
-use Rattle.program.specs.declared.Removed.{Removed}
-use Rattle.program.specs.declared.Removed.TheVariants.{Gone, Absent}
+use Rattle.program.specs.declared.FunctionTable.{FunctionTable}
+use Rattle.program.specs.declared.FunctionRegistry.{FunctionRegistry}
 
 -- what the five slices hold
 pub record Slices : Type 0 where
@@ -44,6 +38,22 @@ table_before k i n s l = slices k.entry.now i.entry.now n.entry.now s.entry.now 
 
 abbrev pub table_after : Lent → Lent → Lent → Lent → Lent → Slices
 table_after k i n s l = slices k.exit.now i.exit.now n.exit.now s.exit.now l.exit.now
+
+-- what a registry's columns hold, and those of a table lent for reading
+abbrev pub columns_of : FunctionRegistry → Slices
+columns_of r = slices r.keys.now r.indices.now r.kinds.now r.starts.now r.lengths.now
+
+abbrev pub columns_in : FunctionTable → Slices
+columns_in t = slices t.keys.now t.indices.now t.kinds.now t.starts.now t.lengths.now
+
+-- the registry still has the slices that it had, whatever they hold now: so whoever lent them knows that it was they that were written
+abbrev pub SameColumns : FunctionRegistry → FunctionRegistry → Type 0
+SameColumns r r' =
+    (r'.keys.ghost_name ≡ r.keys.ghost_name)
+    × (r'.indices.ghost_name ≡ r.indices.ghost_name)
+    × (r'.kinds.ghost_name ≡ r.kinds.ghost_name)
+    × (r'.starts.ghost_name ≡ r.starts.ghost_name)
+    × (r'.lengths.ghost_name ≡ r.lengths.ghost_name)
 
 unfoldable pub least : ℕ → ℕ → ℕ → ℕ → ℕ → ℕ
 least a b c d e = min a (min b (min c (min d e)))
@@ -164,16 +174,16 @@ unfoldable pub holds : Slices → ℕ → ℕ → ℕ → Bool
 holds t n at k = eqb (rank (row_at t at)) k if ltb at n else false
 
 -- a registration of a row at a place, in a table of n rows
-unfoldable pub register_at : Slices → ℕ → ℕ → Row → Registered
+unfoldable pub register_at : Slices → ℕ → ℕ → Row → RegisterResult
 register_at t n at row =
-    (Repeat if eqb (row_at t at).index row.index else Collision) if holds t n at (rank row)
-    else Full if leb (capacity t) n
-    else Inserted (n - at)
+    (Ok Repeat if eqb (row_at t at).index row.index else Err Collision) if holds t n at (rank row)
+    else Err Full if leb (capacity t) n
+    else Ok (Inserted (n - at))
 
 unfoldable pub registered_at : Opening → Slices → ℕ → ℕ → Row → Slices
 registered_at opening t n at row = t if holds t n at (rank row) else t if leb (capacity t) n else opening at n row t
 
-unfoldable pub register_in : Slices → ℕ → Row → Registered
+unfoldable pub register_in : Slices → ℕ → Row → RegisterResult
 register_in t used row = register_at t (counted t used) (place_in t (counted t used) (rank row)) row
 
 unfoldable pub registered_by : Opening → Slices → ℕ → Row → Slices
@@ -186,72 +196,82 @@ abbrev pub registered_alike_in : Slices → ℕ → Row → Slices
 registered_alike_in t used row = registered_by opened_alike t used row
 
 -- a removal of rank k at a place, from a table of n rows
-unfoldable pub unregister_at : Slices → ℕ → ℕ → ℕ → Removed
-unregister_at t n at k = Gone (n - at - 1) if holds t n at k else Absent
+unfoldable pub unregister_at : Slices → ℕ → ℕ → ℕ → Option ℕ
+unregister_at t n at k = Some (n - at - 1) if holds t n at k else None
 
 unfoldable pub unregistered_at : Slices → ℕ → ℕ → ℕ → Slices
 unregistered_at t n at k = closed_row at n t if holds t n at k else t
 
-unfoldable pub unregister_in : Slices → ℕ → ℕ → Removed
+unfoldable pub unregister_in : Slices → ℕ → ℕ → Option ℕ
 unregister_in t used k = unregister_at t (counted t used) (place_in t (counted t used) k) k
 
 unfoldable pub unregistered_in : Slices → ℕ → ℕ → Slices
 unregistered_in t used k = unregistered_at t (counted t used) (place_in t (counted t used) k) k
 
 -- the slices t become u by a registration of the row, and the answer is a
-pub record RegistersBy (opening : Opening) (t u : Slices) (used : ℕ) (row : Row) (a : Registered) : Type 0 where
+pub record RegistersBy (opening : Opening) (t u : Slices) (used : ℕ) (row : Row) (a : RegisterResult) : Type 0 where
   pub answers : a ≡ register_in t used row
   pub leaves : u ≡ registered_by opening t used row
 
-abbrev pub Registers : Slices → Slices → ℕ → Row → Registered → Type 0
+abbrev pub Registers : Slices → Slices → ℕ → Row → RegisterResult → Type 0
 Registers t u used row a = RegistersBy opened_row t u used row a
 
-abbrev pub RegistersAlike : Slices → Slices → ℕ → Row → Registered → Type 0
+abbrev pub RegistersAlike : Slices → Slices → ℕ → Row → RegisterResult → Type 0
 RegistersAlike t u used row a = RegistersBy opened_alike t u used row a
 
 -- the slices t become u by a removal of rank k, and the answer is a
-pub record Unregisters (t u : Slices) (used k : ℕ) (a : Removed) : Type 0 where
+pub record Unregisters (t u : Slices) (used k : ℕ) (a : Option ℕ) : Type 0 where
   pub answers : a ≡ unregister_in t used k
   pub leaves : u ≡ unregistered_in t used k
 
+-- how many rows are used afterwards: one more where a row was inserted, one less of those that counted where one was removed
+abbrev pub used_after : ℕ → RegisterResult → ℕ
+used_after used (Ok (Inserted m)) = used + 1
+used_after used (Ok Repeat) = used
+used_after used (Err e) = used
+
+abbrev pub used_without : Slices → ℕ → Option ℕ → ℕ
+used_without t used (Some m) = counted t used - 1
+used_without t used None = used
+
 -- a lookup of rank k: the first used row
-unfoldable pub lookup_in : Slices → ℕ → ℕ → Found
+unfoldable pub lookup_in : Slices → ℕ → ℕ → Option Row
 lookup_in t used k = find k (rows_of t (counted t used))
 
 -- the same by a binary search over the used keys: the row that it comes to, if it has the key. On a table whose rows ascend both answer the same
 -- (`lookups_agree` in proofs/Tables.antt)
-unfoldable pub found_at : Slices → ℕ → ℕ → ℕ → Found
-found_at t n at k = At (row_at t at) if holds t n at k else Nothing
+unfoldable pub found_at : Slices → ℕ → ℕ → ℕ → Option Row
+found_at t n at k = Some (row_at t at) if holds t n at k else None
 
-unfoldable pub lookup_ascending_in : Slices → ℕ → ℕ → Found
+unfoldable pub lookup_ascending_in : Slices → ℕ → ℕ → Option Row
 lookup_ascending_in t used k = found_at t (counted t used) (place_in t (counted t used) k) k
 
 -- the row's number alone, by the column of keys; as many rows count as it has numbers. On every table it is the number of the row that
 -- `lookup_ascending_in` gives (`row_agrees` in proofs/Tables.antt)
-unfoldable pub number_at : List ℕ → ℕ → ℕ → ℕ → FoundRow
-number_at keys n at k = NoRow if leb n at else AtRow at if eqb (get_or keys at 0) k else NoRow
+unfoldable pub number_at : List ℕ → ℕ → ℕ → ℕ → Option ℕ
+number_at keys n at k = None if leb n at else Some at if eqb (get_or keys at 0) k else None
 
-unfoldable pub row_ascending_in : List ℕ → ℕ → ℕ → FoundRow
+unfoldable pub row_ascending_in : List ℕ → ℕ → ℕ → Option ℕ
 row_ascending_in keys used k =
     let n = min used (length keys) in
     number_at keys n (binary_search k (take n keys)) k
 
-abbrev pub row_of_found : Slices → FoundRow → Found
-row_of_found t (AtRow n) = At (row_at t n)
-row_of_found t NoRow = Nothing
+abbrev pub row_of_found : Slices → Option ℕ → Option Row
+row_of_found t (Some n) = Some (row_at t n)
+row_of_found t None = None
 
 -- the index alone, by the columns of keys and indices; as many rows count as the shorter has numbers. On every table it is the index of the row that
 -- `lookup_ascending_in` gives (`index_agrees` in proofs/Tables.antt)
-abbrev pub index_of_row : List ℕ → FoundRow → FoundIndex
-index_of_row indices (AtRow n) = AtIndex (get_or indices n 0)
-index_of_row indices NoRow = NoIndex
+abbrev pub index_of_row : List ℕ → Option ℕ → Option ℕ
+index_of_row indices (Some n) = Some (get_or indices n 0)
+index_of_row indices None = None
 
-unfoldable pub index_ascending_in : List ℕ → List ℕ → ℕ → ℕ → FoundIndex
+unfoldable pub index_ascending_in : List ℕ → List ℕ → ℕ → ℕ → Option ℕ
 index_ascending_in keys indices used k = index_of_row indices (row_ascending_in keys (min used (length indices)) k)
 
-abbrev pub index_of_found : Found → FoundIndex
-index_of_found (At r) = AtIndex r.index
-index_of_found Nothing = NoIndex
+abbrev pub index_of_found : Option Row → Option ℕ
+index_of_found (Some r) = Some r.index
+index_of_found None = None
 
 -- ---- tables: slices whose used rows ascend, with zeros elsewhere
 
@@ -267,10 +287,10 @@ pub record Alike (t : Slices) (n : ℕ) (row : Row) : Type 0 where
   pub lengths_alike : (i : ℕ) → i < n → get_or t.lengths i 0 ≡ row.length
 
 -- what a registration and a removal are for a table, in the words of its rows
-pub record Registration (t u : Slices) (used : ℕ) (row : Row) (a : Registered) : Type 0 where
+pub record Registration (t u : Slices) (used : ℕ) (row : Row) (a : RegisterResult) : Type 0 where
   pub answers : a ≡ register (capacity t) row (rows_of t used)
   pub leaves : u ≡ lay t (registered (capacity t) row (rows_of t used))
 
-pub record Removal (t u : Slices) (used k : ℕ) (a : Removed) : Type 0 where
+pub record Removal (t u : Slices) (used k : ℕ) (a : Option ℕ) : Type 0 where
   pub answers : a ≡ unregister k (rows_of t used)
   pub leaves : u ≡ lay t (remove k (rows_of t used))

@@ -4,7 +4,7 @@ ghost use Rattle.std.specs.Prelude.{◌≡◌};
 ghost use Rattle.program.specs.Search.{is_among};
 ghost use Rattle.program.specs.HashedLegacy.{is_entrypoint, legacy_key, kept_name, kept_symbol, is_taken, legacy_row};
 
-use crate::{FunctionName, KeptName, Legacy, Row, search};
+use crate::{FunctionName, KeptName, Row, SymbolHashCollision, search};
 
 // The hash of the name entrypoint.
 pub const ENTRYPOINT_KEY: u32 = 0x71e3cf81;
@@ -122,15 +122,15 @@ pub fn legacy_row(
     labels: bool,
     name: FunctionName,
     index: u32,
-) -> Legacy
+) -> Result<Row, SymbolHashCollision>
     ensures { result ≡ legacy_row table.now builtins.now version2 check labels name index }
 {
     let key = legacy_key(table, version2, name, index);
     if is_taken(builtins, version2, check, key) {
-        return Legacy::Taken(key);
+        return Err(SymbolHashCollision { key });
     }
     let kept = kept_name(labels, name);
-    Legacy::Free(Row {
+    Ok(Row {
         key,
         index,
         kind: kept.kind,

@@ -5,9 +5,9 @@ use mathlib.Core.Path.{◌≡◌, refl, ◌∙◌}
 use mathlib.Core.Bool.{Bool, true, false, ◌&&◌, true≢false}
 use mathlib.Core.List.{List}
 use lib.ListN.{length, get_or}
+use Rattle.program.specs.HashedLegacy.{LegacyResult}
+use Rattle.std.specs.Prelude.{Ok, Err}
 use Rattle.program.specs.declared.FunctionName.TheVariants.{OfIndex}
-use Rattle.program.specs.declared.Legacy.{Legacy}
-use Rattle.program.specs.declared.Legacy.TheVariants.{Free, Taken}
 use Rattle.program.proofs.Cases.{zero_one}
 use Rattle.loader.specs.declared.calls.Call.{Call as Calling}
 use Rattle.loader.specs.declared.calls.Call.TheVariants.{None, To, Outside}
@@ -45,9 +45,9 @@ module _ (file builtins : List ℕ) (j : Job) where
       never : {A : Type 0} → ◌≡◌ {A = Bool} true false → A
       never e = absurd (true≢false e)
 
-      free : (r : Legacy) → stops (call_row (immediate j i) r) ≡ false → is_in (immediate j i) 4 b ≡ writes (call_row (immediate j i) r) b
-      free (Free row) e = refl
-      free (Taken key) e = never e
+      free : (r : LegacyResult) → stops (call_row (immediate j i) r) ≡ false → is_in (immediate j i) 4 b ≡ writes (call_row (immediate j i) r) b
+      free (Ok row) e = refl
+      free (Err taken) e = never e
 
       no_call : (x : Bool) → is_call file (text_is j) i ≡ x → call_at (text_of file j) j.version2 i ≡ None → is_call file (text_is j) i ≡ false
       no_call false q e = q

@@ -2,8 +2,8 @@
 -- Assumes nothing.
 use Rattle.loader.proofs.labels.label_row.Goals as goal
 
-pub returns-in-Taken : goal.returns-in-Taken
-returns-in-Taken c = rw c.in-Taken.is
+pub returns-in-Err : goal.returns-in-Err
+returns-in-Err c = rw c.in-Err.is
 
-pub returns-in-Free : goal.returns-in-Free
-returns-in-Free c = rw c.in-Free.is
+pub returns-in-Ok : goal.returns-in-Ok
+returns-in-Ok c = rw c.in-Ok.is

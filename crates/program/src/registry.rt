@@ -1,0 +1,121 @@
+// A table lent for writing: a place opened and closed in its five columns, and what registers and
+// removes a row.
+ghost use Rattle.std.specs.Prelude.{◌≡◌, ◌+◌, ◌-◌, ◌≤◌, ◌<◌};
+ghost use Rattle.program.specs.Table.{Registers, RegistersAlike, Unregisters, Within, columns_of, columns_in, opened_row, opened_alike, closed_row, SameColumns, used_after, used_without};
+
+use crate::columns::{close_at, open_at};
+use crate::table::row_ascending;
+use crate::{FunctionRegistry, FunctionTable, RegisterError, Registered, Row};
+
+impl FunctionRegistry<'_> {
+    // The table as it stands.
+    pub fn as_table(&self) -> FunctionTable<'_>
+        ensures columns { columns_in result ≡ columns_of self.now }
+        ensures used { result.used ≡ self.now.used }
+    {
+        FunctionTable {
+            keys: self.keys,
+            indices: self.indices,
+            kinds: self.kinds,
+            starts: self.starts,
+            lengths: self.lengths,
+            used: self.used,
+        }
+    }
+
+    // Opens the place `at` of each column, and puts the row there.
+    #[tactic(auto, unfolding(crate::specs::Table::opened_row))]
+    fn open_row(&mut self, at: usize, row: Row)
+        requires at_within { at ≤ self.old.used }
+        requires room { Within (self.old.used + 1) (columns_of self.old) }
+        ensures same { SameColumns self.old self.new }
+        ensures opened { columns_of self.new ≡ opened_row at self.old.used row (columns_of self.old) }
+        ensures used { self.new.used ≡ self.old.used + 1 }
+    {
+        let n = self.used;
+        open_at(self.keys, at, n, row.key);
+        open_at(self.indices, at, n, row.index);
+        open_at(self.kinds, at, n, row.kind);
+        open_at(self.starts, at, n, row.start);
+        open_at(self.lengths, at, n, row.length);
+        self.used = n + 1;
+    }
+
+    // Opens the place `at` of the keys and indices, and puts the row's there; its name goes behind the
+    // last row.
+    #[tactic(auto, unfolding(crate::specs::Table::opened_alike))]
+    fn open_alike(&mut self, at: usize, row: Row)
+        requires at_within { at ≤ self.old.used }
+        requires room { Within (self.old.used + 1) (columns_of self.old) }
+        ensures same { SameColumns self.old self.new }
+        ensures opened { columns_of self.new ≡ opened_alike at self.old.used row (columns_of self.old) }
+        ensures used { self.new.used ≡ self.old.used + 1 }
+    {
+        let n = self.used;
+        open_at(self.keys, at, n, row.key);
+        open_at(self.indices, at, n, row.index);
+        self.kinds[n] = row.kind;
+        self.starts[n] = row.start;
+        self.lengths[n] = row.length;
+        self.used = n + 1;
+    }
+
+    // Closes the place `at` of each column, of which `n` rows count.
+    #[tactic(auto, unfolding(crate::specs::Table::closed_row))]
+    fn close_row(&mut self, at: usize, n: usize)
+        requires at_within { at < n }
+        requires room { Within n (columns_of self.old) }
+        ensures same { SameColumns self.old self.new }
+        ensures closed { columns_of self.new ≡ closed_row at n (columns_of self.old) }
+        ensures used { self.new.used ≡ n - 1 }
+    {
+        close_at(self.keys, at, n);
+        close_at(self.indices, at, n);
+        close_at(self.kinds, at, n);
+        close_at(self.starts, at, n);
+        close_at(self.lengths, at, n);
+        self.used = n - 1;
+    }
+
+    // Registers a row. At most the rows lent count: where one is inserted there is room behind the used
+    // rows, so that they all count.
+    pub fn register_function(&mut self, row: Row) -> Result<Registered, RegisterError>
+        ensures same { SameColumns self.old self.new }
+        ensures registers { Registers (columns_of self.old) (columns_of self.new) self.old.used row result }
+        ensures used { self.new.used ≡ used_after self.old.used result }
+    {
+        let answer = self.as_table().answer_of(row)?;
+        if let Registered::Inserted(moves) = answer {
+            self.open_row(self.used - moves, row);
+        }
+        Ok(answer)
+    }
+
+    // Registers a row whose name is that of every used row: the answer is `register_function`'s, but the
+    // columns of the name are not shifted, since there equal numbers would move: the name goes behind
+    // the last row.
+    pub fn register_alike(&mut self, row: Row) -> Result<Registered, RegisterError>
+        ensures same { SameColumns self.old self.new }
+        ensures registers { RegistersAlike (columns_of self.old) (columns_of self.new) self.old.used row result }
+        ensures used { self.new.used ≡ used_after self.old.used result }
+    {
+        let answer = self.as_table().answer_of(row)?;
+        if let Registered::Inserted(moves) = answer {
+            self.open_alike(self.used - moves, row);
+        }
+        Ok(answer)
+    }
+
+    // Removes the row of a key, where there is one: how many rows moved. At most the rows lent count.
+    pub fn unregister_function(&mut self, key: u32) -> Option<usize>
+        ensures same { SameColumns self.old self.new }
+        ensures unregisters { Unregisters (columns_of self.old) (columns_of self.new) self.old.used key result }
+        ensures used { self.new.used ≡ used_without (columns_of self.old) self.old.used result }
+    {
+        let table = self.as_table();
+        let n = table.counted();
+        let at = row_ascending(table.keys, n, key)?;
+        self.close_row(at, n);
+        Some(n - at - 1)
+    }
+}

@@ -1,0 +1,112 @@
+// A table lent for reading: how many rows count, what a registration answers, and the lookups.
+ghost use Rattle.std.specs.Prelude.{◌≡◌, ◌+◌};
+ghost use Rattle.program.specs.Table.{register_in, lookup_in, lookup_ascending_in, row_ascending_in, index_ascending_in, Within, capacity, counted, row_at, columns_in};
+
+use crate::{FunctionTable, RegisterError, Registered, Row, search};
+
+impl FunctionTable<'_> {
+    // As many rows as the shortest column has numbers.
+    #[tactic(auto, unfolding(crate::specs::Table::capacity, crate::specs::Table::least))]
+    pub fn rows_lent(self) -> usize
+        ensures is { result ≡ capacity (columns_in self.entry) }
+        ensures within { Within result (columns_in self.entry) }
+    {
+        self.keys
+            .len()
+            .min(self.indices.len())
+            .min(self.kinds.len())
+            .min(self.starts.len())
+            .min(self.lengths.len())
+    }
+
+    // The rows that count: at most those lent.
+    #[tactic(auto, unfolding(crate::specs::Table::counted))]
+    pub(crate) fn counted(self) -> usize
+        ensures is { result ≡ counted (columns_in self.entry) self.entry.used }
+        ensures within { Within result (columns_in self.entry) }
+    {
+        self.used.min(self.rows_lent())
+    }
+
+    // What a registration answers, before anything moves.
+    pub(crate) fn answer_of(self, row: Row) -> Result<Registered, RegisterError>
+        ensures { result ≡ register_in (columns_in self.entry) self.entry.used row }
+    {
+        let n = self.counted();
+        let at = search::binary_search(self.keys, n, row.key);
+        if at < n && self.keys[at] == row.key {
+            if self.indices[at] == row.index {
+                return Ok(Registered::Repeat);
+            }
+            return Err(RegisterError::Collision);
+        }
+        if self.rows_lent() <= n {
+            return Err(RegisterError::Full);
+        }
+        Ok(Registered::Inserted(n - at))
+    }
+
+    fn row_at(self, at: usize) -> Row
+        requires { Within (at + 1) (columns_in self) }
+        ensures { result ≡ row_at (columns_in self.entry) at }
+    {
+        Row {
+            key: self.keys[at],
+            index: self.indices[at],
+            kind: self.kinds[at],
+            start: self.starts[at],
+            length: self.lengths[at],
+        }
+    }
+
+    // The first used row with the key, whatever the columns hold: a scan, since the rows need not
+    // ascend. At most the rows lent count.
+    pub fn lookup_by_key(self, key: u32) -> Option<Row>
+        ensures { result ≡ lookup_in (columns_in self.entry) self.entry.used key }
+    {
+        let n = self.counted();
+        let at = search::first_of(self.keys, n, key);
+        if n <= at {
+            return None;
+        }
+        Some(self.row_at(at))
+    }
+
+    // The row that a binary search over the used keys comes to, if it has the key. Where the rows
+    // ascend, as in every table that a load leaves, this is what `lookup_by_key` answers, in few steps.
+    // On other content it may miss a row that is there. At most the rows lent count.
+    pub fn lookup_ascending(self, key: u32) -> Option<Row>
+        ensures { result ≡ lookup_ascending_in (columns_in self.entry) self.entry.used key }
+    {
+        let at = row_ascending(self.keys, self.counted(), key)?;
+        Some(self.row_at(at))
+    }
+}
+
+// The number of the row under a key, as `lookup_ascending` finds it, by the column of keys alone: the
+// caller reads what it needs of that row in its own columns. As many rows count as the column has
+// numbers.
+pub fn row_ascending(keys: &[u32], used: usize, key: u32) -> Option<usize>
+    ensures { result ≡ row_ascending_in keys.now used key }
+{
+    let n = used.min(keys.len());
+    let at = search::binary_search(keys, n, key);
+    if n <= at {
+        return None;
+    }
+    let held = keys[at];
+    if held != key {
+        return None;
+    }
+    Some(at)
+}
+
+// The index of that row, by the columns of keys and indices alone: what a call needs, with less to hand
+// over. As many rows count as the shorter column has numbers.
+pub fn index_ascending(keys: &[u32], indices: &[u32], used: usize, key: u32) -> Option<u32>
+    ensures { result ≡ index_ascending_in keys.now indices.now used key }
+{
+    let n = used.min(indices.len());
+    let row = row_ascending(keys, n, key)?;
+    Some(indices[row])
+}
