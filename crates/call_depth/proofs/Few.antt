@@ -6,16 +6,18 @@ use mathlib.Core.Bool.{Bool, true, false}
 use mathlib.Core.List.{List, []}
 use native.Mathlib.Omega.{arith}
 use lib.ListN.{length}
+use Rattle.std.specs.Prelude.{Result, Ok, Err}
 use Rattle.program.specs.declared.Row.{Row}
 use Rattle.program.specs.declared.Registered.{Registered}
 use Rattle.program.specs.Rows.{registered, remove}
 use Rattle.program.specs.Rows as table
 use Rattle.program.proofs.Cases.{zero_one}
 use Rattle.program.proofs.Laws.{by_registered, length_insert, registered_room}
+use Rattle.loader.specs.declared.read_only.Placing.TheVariants.{Borrowed, Owned}
+use Rattle.loader.specs.declared.read_only.Placing.{Placing}
+use Rattle.loader.specs.declared.error.ElfError.{ElfError}
 use Rattle.loader.specs.declared.deeds.Deed.{Deed}
 use Rattle.loader.specs.declared.deeds.Deed.TheVariants.{Skip, Refuse, Halves, Word, Key, Register, RegisterOnly, RegisterOutside}
-use Rattle.loader.specs.declared.read_only.Placing.{Placing}
-use Rattle.loader.specs.declared.read_only.Placing.TheVariants.{Borrowed, Owned, Refused}
 use Rattle.loader.specs.declared.validate.Job.{Job}
 use Rattle.loader.specs.Calls.{slot_count, call_deed, slot_trace, calls_trace}
 use Rattle.loader.specs.InnerContracts.{InFile}
@@ -68,10 +70,10 @@ deed_one (Register row at) im = tt
 deed_one (RegisterOnly row) im = tt
 deed_one (RegisterOutside row) im = tt
 
-placed_none : (p : Placing) (im : List ℕ) → AtMost 0 (placed_trace p im)
-placed_none (Borrowed offset start n) im = tt
-placed_none (Owned offset lowest n) im = tt
-placed_none (Refused r) im = tt
+placed_none : (p : Result Placing ElfError) (im : List ℕ) → AtMost 0 (placed_trace p im)
+placed_none (Ok (Borrowed offset start n)) im = tt
+placed_none (Ok (Owned offset lowest n)) im = tt
+placed_none (Err r) im = tt
 
 forget_none : (version2 : Bool) (im : List ℕ) → AtMost 0 (forget_trace version2 im)
 forget_none true im = tt

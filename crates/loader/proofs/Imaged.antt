@@ -7,6 +7,7 @@ use mathlib.Core.Bool.{Bool, true, false}
 use mathlib.Core.Logic.{inl}
 use mathlib.Core.List.{List, [], ◌∷◌, ◌++◌}
 use lib.ListN.{length, get_or, take, drop, replicate}
+use Rattle.std.specs.Prelude.{Result, Ok, Err}
 use Rattle.ebpf.specs.Choice.{◌if◌else◌}
 use Rattle.ebpf.specs.LittleEndian.{le}
 use Rattle.elf_parser.specs.declared.types.Elf64Sym.{Elf64Sym}
@@ -20,11 +21,12 @@ use Rattle.elf_parser.specs.Records.{sym_of}
 use Rattle.program.specs.declared.FunctionName.TheVariants.{OfIndex, Entrypoint}
 use Rattle.program.specs.declared.Legacy.{Legacy}
 use Rattle.program.specs.declared.Legacy.TheVariants.{Free, Taken}
+use Rattle.loader.specs.declared.read_only.Placing.TheVariants.{Borrowed, Owned}
+use Rattle.loader.specs.declared.read_only.Placing.{Placing}
+use Rattle.loader.specs.declared.error.ElfError.{ElfError}
 use Rattle.loader.specs.declared.calls.Call.{Call}
 use Rattle.loader.specs.declared.calls.Call.TheVariants.{None, To, Outside}
 use Rattle.loader.specs.declared.deeds.Deed.{Deed}
-use Rattle.loader.specs.declared.read_only.Placing.{Placing}
-use Rattle.loader.specs.declared.read_only.Placing.TheVariants.{Borrowed, Owned, Refused}
 use Rattle.loader.specs.declared.validate.Job.{Job}
 use Rattle.loader.specs.Functions.{row_for, symbol_function, index_of}
 use Rattle.loader.specs.Deeds.{written, is_in, writes, deed_trace}
@@ -77,10 +79,10 @@ forget_ends : (version2 : Bool) (im l : List ℕ) → Ends (forget_trace version
 forget_ends true im l e = sym e
 forget_ends false im l e = sym e
 
-placed_ends : (p : Placing) (im l : List ℕ) → Ends (placed_trace p im) l → l ≡ im
-placed_ends (Borrowed offset start n) im l e = sym e
-placed_ends (Owned offset lowest n) im l e = sym e
-placed_ends (Refused r) im l e = absurd e
+placed_ends : (p : Result Placing ElfError) (im l : List ℕ) → Ends (placed_trace p im) l → l ≡ im
+placed_ends (Ok (Borrowed offset start n)) im l e = sym e
+placed_ends (Ok (Owned offset lowest n)) im l e = sym e
+placed_ends (Err r) im l e = absurd e
 
 module _ (s builtins : List ℕ) (j : Job) (im l : List ℕ) where
   label_is : (i : ℕ) (im : List ℕ) → label_trace s builtins j i im ≡ deed_trace (label_deed s builtins j (label_symbols s j) i) im

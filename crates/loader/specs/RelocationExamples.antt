@@ -1,5 +1,5 @@
 -- Examples on relocations and labels beside the scope's (`Worked`): each holds by computation.
-use Rattle.std.specs.Prelude.{ℕ, ◌+◌, ◌-◌, ◌*◌, ◌%◌, ◌^◌, Bool, true, false, List, [], ◌∷◌, ◌++◌, ◌≡◌, refl}
+use Rattle.std.specs.Prelude.{ℕ, ◌+◌, ◌-◌, ◌*◌, ◌%◌, ◌^◌, Bool, true, false, List, [], ◌∷◌, ◌++◌, ◌≡◌, refl, Err}
 use Rattle.std.proofs.Common.{arith}
 use Rattle.ebpf.specs.Choice.{◌if◌else◌}
 use Rattle.ebpf.specs.LittleEndian.{le, bytes_of}
@@ -14,7 +14,6 @@ use Rattle.program.specs.Search.{narrowed, binary_search, is_among}
 use Rattle.program.specs.HashedLegacy.{legacy_row, legacy_key, kept_symbol, is_taken}
 use Rattle.elf_parser.specs.Records.{entry_at}
 use Rattle.loader.specs.declared.error.ElfError.TheVariants.{InvalidVirtualAddress, UnknownRelocation, UnknownSymbol, UnresolvedSymbol, ValueOutOfBounds, AddendNegative}
-use Rattle.loader.specs.declared.read_only.Placing.TheVariants.{Refused as NoPlacing}
 use Rattle.loader.specs.declared.validate.Job.{Job}
 use Rattle.loader.specs.declared.relocations.Used.TheVariants.{Header}
 use Rattle.loader.specs.declared.relocations.Addend.TheVariants.{None as NoAddend, Is}
@@ -66,7 +65,7 @@ job_with version2 l =
       start = 0;
       length = 16;
       addr = 0x1_0000_0000;
-      placing = NoPlacing ValueOutOfBounds;
+      placing = Err ValueOutOfBounds;
     }
 
 abbrev pub layout : Layout

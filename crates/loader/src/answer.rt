@@ -28,12 +28,6 @@ pub struct Accepted {
     pub text_length: usize,
 }
 
-#[derive(Clone, Copy)]
-pub enum Load {
-    Accepted(Accepted),
-    Refused(ElfError),
-}
-
 fn version_of(version2: bool) -> u32
     ensures { result ≡ (2 if version2 else 1) }
 {
@@ -74,27 +68,23 @@ fn accepted_as(
 }
 
 // The answer of a file that passed the checks.
-pub(crate) fn answer_of(a: Outcome, job: Job) -> Load
+pub(crate) fn answer_of(a: Outcome, job: Job) -> Result<Accepted, ElfError>
     requires { job.e_entry - job.sh_addr ≤ 2 ^ 24 }
     ensures { result ≡ answer_for a job }
 {
     match a {
-        Outcome::Refused(r) => Load::Refused(r),
-        Outcome::Holds(used, moves) => {
-            let placing = job.placing;
-            match placing {
-                Placing::Refused(r) => Load::Refused(r),
-                Placing::Borrowed {
-                    offset,
-                    start,
-                    length,
-                } => Load::Accepted(accepted_as(job, false, offset, start, length, used, moves)),
-                Placing::Owned {
-                    offset,
-                    lowest: _,
-                    length,
-                } => Load::Accepted(accepted_as(job, true, offset, 0, length, used, moves)),
-            }
-        }
+        Outcome::Refused(r) => Err(r),
+        Outcome::Holds(used, moves) => match job.placing? {
+            Placing::Borrowed {
+                offset,
+                start,
+                length,
+            } => Ok(accepted_as(job, false, offset, start, length, used, moves)),
+            Placing::Owned {
+                offset,
+                lowest: _,
+                length,
+            } => Ok(accepted_as(job, true, offset, 0, length, used, moves)),
+        },
     }
 }

@@ -6,6 +6,7 @@ ghost use Rattle.loader.specs.Load.{all_count, after_placing, placed_bytes, Clea
 ghost use Rattle.loader.specs.InnerContracts.{InFile, Begins, PartAsks, FileSettles};
 
 use crate::deeds::Outcome;
+use crate::error::ElfError;
 use crate::parts::{calls_and_relocations, labels_and_entry};
 use crate::read_only::{Placing, copy_sections};
 use crate::validate::Job;
@@ -56,23 +57,14 @@ pub(crate) fn clear_all(
 }
 
 // The placing of the read-only sections refuses after everything else.
-fn after_placing(a: Outcome, placing: Placing) -> Outcome
+fn after_placing(a: Outcome, placing: Result<Placing, ElfError>) -> Outcome
     ensures { result ≡ after_placing a placing }
 {
     match a {
         Outcome::Refused(r) => Outcome::Refused(r),
         Outcome::Holds(used, moves) => match placing {
-            Placing::Refused(r) => Outcome::Refused(r),
-            Placing::Borrowed {
-                offset: _,
-                start: _,
-                length: _,
-            } => Outcome::Holds(used, moves),
-            Placing::Owned {
-                offset: _,
-                lowest: _,
-                length: _,
-            } => Outcome::Holds(used, moves),
+            Err(r) => Outcome::Refused(r),
+            Ok(_) => Outcome::Holds(used, moves),
         },
     }
 }
@@ -139,25 +131,19 @@ fn keyed_parts(
 }
 
 // The read-only sections' bytes, where they are copied.
-fn copy_placed(ro: &mut [u8], image: &[u8], file: &[u8], layout: Layout, placing: Placing)
+fn copy_placed(
+    ro: &mut [u8],
+    image: &[u8],
+    file: &[u8],
+    layout: Layout,
+    placing: Result<Placing, ElfError>,
+)
     ensures { ro.new ≡ placed_bytes file.now layout placing image.now ro.old }
 {
-    match placing {
-        Placing::Owned {
-            offset: _,
-            lowest,
-            length: _,
-        } => {
-            let h = file_header(file);
-            let count = h.e_shnum as u32;
-            copy_sections(ro, image, file, layout, count, lowest);
-        }
-        Placing::Borrowed {
-            offset: _,
-            start: _,
-            length: _,
-        } => {}
-        Placing::Refused(_) => {}
+    if let Ok(Placing::Owned { lowest, .. }) = placing {
+        let h = file_header(file);
+        let count = h.e_shnum as u32;
+        copy_sections(ro, image, file, layout, count, lowest);
     }
 }
 

@@ -6,7 +6,7 @@ ghost use Rattle.loader.specs.Loads.{Loads};
 use answer::answer_of;
 use filling::{clear_all, fill_all};
 use program::rows_lent;
-use validate::{Prepared, prepare};
+use validate::prepare;
 
 mod addresses;
 mod answer;
@@ -27,7 +27,7 @@ mod relocations;
 mod sections;
 mod validate;
 
-pub use answer::{Accepted, Load};
+pub use answer::Accepted;
 pub use calls::is_local_call;
 pub use error::{ElfError, from_parser, report_of};
 pub use filling::clear_words;
@@ -53,45 +53,41 @@ fn attempt(
     file: &[u8],
     builtins: &[u32],
     config: Config,
-) -> Load
+) -> Result<Accepted, ElfError>
     ensures { Tries file builtins config image ro_section keys indices kinds starts lengths result }
 {
-    match prepare(file, builtins, config, image.len(), ro_section.len()) {
-        Prepared::Refused(r) => Load::Refused(r),
-        Prepared::Ready(job) => {
-            let n = file.len();
-            let rows = rows_lent(
-                keys.len(),
-                indices.len(),
-                kinds.len(),
-                starts.len(),
-                lengths.len(),
-            ) as u64;
-            clear_all(
-                &mut image[n..],
-                ro_section,
-                keys,
-                indices,
-                kinds,
-                starts,
-                lengths,
-            );
-            let a = fill_all(
-                &mut image[..n],
-                ro_section,
-                keys,
-                indices,
-                kinds,
-                starts,
-                lengths,
-                file,
-                builtins,
-                job,
-                rows,
-            );
-            answer_of(a, job)
-        }
-    }
+    let job = prepare(file, builtins, config, image.len(), ro_section.len())?;
+    let n = file.len();
+    let rows = rows_lent(
+        keys.len(),
+        indices.len(),
+        kinds.len(),
+        starts.len(),
+        lengths.len(),
+    ) as u64;
+    clear_all(
+        &mut image[n..],
+        ro_section,
+        keys,
+        indices,
+        kinds,
+        starts,
+        lengths,
+    );
+    let a = fill_all(
+        &mut image[..n],
+        ro_section,
+        keys,
+        indices,
+        kinds,
+        starts,
+        lengths,
+        file,
+        builtins,
+        job,
+        rows,
+    );
+    answer_of(a, job)
 }
 
 // A LOAD: the image, the read-only bytes and the table of a file, or a refusal and only zeros
@@ -107,16 +103,16 @@ pub fn load(
     kinds: &mut [u32],
     starts: &mut [u32],
     lengths: &mut [u32],
-) -> Load
+) -> Result<Accepted, ElfError>
     ensures { Loads file builtins config image ro_section keys indices kinds starts lengths result }
 {
     match attempt(
         image, ro_section, keys, indices, kinds, starts, lengths, file, builtins, config,
     ) {
-        Load::Accepted(a) => Load::Accepted(a),
-        Load::Refused(r) => {
+        Ok(a) => Ok(a),
+        Err(r) => {
             clear_all(image, ro_section, keys, indices, kinds, starts, lengths);
-            Load::Refused(r)
+            Err(r)
         }
     }
 }

@@ -24,7 +24,6 @@ pub enum Placing {
         lowest: u64,
         length: u64,
     },
-    Refused(ElfError),
 }
 
 // What is known of the read-only sections so far: their lowest address and highest end, how many
@@ -41,12 +40,6 @@ pub struct Extent {
     pub first: u64,
     pub last: u64,
     pub many: u64,
-}
-
-#[derive(Clone, Copy)]
-pub enum Gathering {
-    Next(Extent),
-    Refused(ElfError),
 }
 
 fn is_read_only(name: &[u8]) -> bool
@@ -121,18 +114,18 @@ fn take_section(
     h: Elf64Shdr,
     n: u64,
     x: Extent,
-) -> Gathering
+) -> Result<Extent, ElfError>
     ensures { result ≡ taken version2 reject_broken index h n x }
 {
     let invalid = is_invalid(version2, h.sh_addr, h.sh_offset, x);
     let end = end_of(version2, h.sh_addr, h.sh_size);
     if reject_broken & invalid {
-        return Gathering::Refused(ElfError::ValueOutOfBounds);
+        return Err(ElfError::ValueOutOfBounds);
     }
     if MM_STACK_START < end {
-        return Gathering::Refused(ElfError::ValueOutOfBounds);
+        return Err(ElfError::ValueOutOfBounds);
     }
-    Gathering::Next(grow(version2, index, h.sh_addr, h.sh_offset, n, x))
+    Ok(grow(version2, index, h.sh_addr, h.sh_offset, n, x))
 }
 
 // Before the first section.
@@ -153,6 +146,7 @@ pub(crate) fn no_extent() -> Extent
 }
 
 // With one section more, of that header and name, read-only or not. A refusal stays.
+#[tactic(auto, using(ebpf::specs::Choice::choices))]
 pub(crate) fn gather_next(
     file: &[u8],
     layout: Layout,
@@ -161,18 +155,16 @@ pub(crate) fn gather_next(
     index: u32,
     h: Elf64Shdr,
     name: &[u8],
-    g: Gathering,
-) -> Gathering
+    g: Result<Extent, ElfError>,
+) -> Result<Extent, ElfError>
     ensures { result ≡ gather_next file.now layout version2 reject_broken index h name.now g }
 {
-    let Gathering::Next(x) = g else {
-        return g;
-    };
+    let x = g?;
     if !is_read_only(name) {
-        return g;
+        return Ok(x);
     }
     match file_range(file, layout, index) {
-        Place::Refused(_) => Gathering::Refused(ElfError::ValueOutOfBounds),
+        Place::Refused(_) => Err(ElfError::ValueOutOfBounds),
         Place::At { start: _, length } => {
             take_section(version2, reject_broken, index as u64, h, length as u64, x)
         }
@@ -196,46 +188,52 @@ fn can_borrow(x: Extent) -> bool
     !x.invalid & (saturating_sub(end, x.first) == x.many)
 }
 
-fn borrow_sections(version2: bool, x: Extent) -> Placing
+fn borrow_sections(version2: bool, x: Extent) -> Result<Placing, ElfError>
     ensures { result ≡ borrowed version2 x }
 {
     let start = saturating_sub(x.lowest, x.shift);
     let end = saturating_sub(x.highest, x.shift);
     if version2 & (x.lowest < MM_PROGRAM_START) {
-        return Placing::Refused(ElfError::ValueOutOfBounds);
+        return Err(ElfError::ValueOutOfBounds);
     }
-    Placing::Borrowed {
+    Ok(Placing::Borrowed {
         offset: from_start(x.lowest),
         start,
         length: saturating_sub(end, start),
-    }
+    })
 }
 
-fn own_sections(len: u64, optimize: bool, x: Extent) -> Placing
+fn own_sections(len: u64, optimize: bool, x: Extent) -> Result<Placing, ElfError>
     ensures { result ≡ owned len optimize x }
 {
     let lowest = pick(optimize, x.lowest, 0);
     let length = saturating_sub(x.highest, lowest);
     if len < length {
-        return Placing::Refused(ElfError::ValueOutOfBounds);
+        return Err(ElfError::ValueOutOfBounds);
     }
-    Placing::Owned {
+    Ok(Placing::Owned {
         offset: from_start(lowest),
         lowest,
         length,
-    }
+    })
 }
 
-fn place_extent(len: u64, version2: bool, reject_broken: bool, optimize: bool, x: Extent) -> Placing
+fn place_extent(
+    len: u64,
+    version2: bool,
+    reject_broken: bool,
+    optimize: bool,
+    x: Extent,
+) -> Result<Placing, ElfError>
     ensures { result ≡ placed len version2 reject_broken optimize x }
 {
     let borrows = can_borrow(x);
     let end = saturating_add(x.lowest, x.filled);
     if reject_broken & (x.highest < end) {
-        return Placing::Refused(ElfError::ValueOutOfBounds);
+        return Err(ElfError::ValueOutOfBounds);
     }
     if version2 & !borrows {
-        return Placing::Refused(ElfError::ValueOutOfBounds);
+        return Err(ElfError::ValueOutOfBounds);
     }
     if optimize & borrows {
         return borrow_sections(version2, x);
@@ -249,14 +247,11 @@ pub(crate) fn place_gathered(
     version2: bool,
     reject_broken: bool,
     optimize: bool,
-    g: Gathering,
-) -> Placing
+    g: Result<Extent, ElfError>,
+) -> Result<Placing, ElfError>
     ensures { result ≡ placing_by len version2 reject_broken optimize g }
 {
-    match g {
-        Gathering::Next(x) => place_extent(len, version2, reject_broken, optimize, x),
-        Gathering::Refused(r) => Placing::Refused(r),
-    }
+    place_extent(len, version2, reject_broken, optimize, g?)
 }
 
 // The bytes of `from` from `start` on, `n` of them, go to `at`.

@@ -21,6 +21,7 @@ use Rattle.elf_parser.specs.Types.{file_header, program_header, section_header, 
 use Rattle.program.specs.HashedLegacy.{legacy_key, kept_symbol, is_taken, legacy_row}
 use Rattle.program.specs.Rows.{rank, register, registered, unregister}
 use Rattle.program.specs.Search.{narrowed, binary_search, is_among}
+use Rattle.loader.specs.Results.{◌then◌}
 use Rattle.loader.specs.Addresses.{machine_addr}
 use Rattle.loader.specs.Bytes.{put}
 use Rattle.loader.specs.Calls.{inside, target, is_local_call, call_of, call_at, call_deed, slot_trace}
@@ -34,7 +35,7 @@ use Rattle.loader.specs.ReadOnly.{read_only, gives as loader-gives, invalid_by, 
 use Rattle.loader.specs.Relocations.{relocation_at, header_at, first_from, used_header, used_before, place_of, within, program_address, immediate_at, halves_deed, word_deed, address_deed, plan6464, relative_text, relative_value, plan_relative, function_call, builtin_call, call_by_name, plan6432, plan_at, relocation_trace}
 use Rattle.loader.specs.Sections.{section_at, starts_with, unsupported, outside_file, survey_step, survey_from}
 use Rattle.loader.specs.Trace.{and_then, each, settle}
-use Rattle.loader.specs.Validate.{size_check, ascends, header_check as loader-headerCheck, sections_check, text_check, job_of, ◌then◌, validated, prepared}
+use Rattle.loader.specs.Validate.{size_check, ascends, header_check as loader-headerCheck, sections_check, text_check, job_of, validated, prepared}
 use Rattle.std.specs.Prelude.{ℕ, zero, suc, List, [], ◌∷◌, map, ◌≡◌, refl}
 use Rattle.loader.specs.SmallFiles.{all_on, version_1, version_2}
 use Rattle.loader.specs.declared.deeds.Deed.{Deed}
