@@ -10,6 +10,7 @@ use mathlib.Core.List.{List, []}
 use lib.ListN.{length, take, drop, length-take}
 use lib.Dec.{ltb, leb}
 use borrow.Author.Tests.{ltb-true, not-false}
+use Rattle.std.specs.Prelude.{Option, Some, None}
 use Rattle.ebpf.specs.Choice.{◌if◌else◌, and_right}
 use Rattle.ebpf.specs.IndexKeys.{index_key, key_in}
 use Rattle.ebpf.proofs.Table.{key_in_none}
@@ -36,9 +37,6 @@ use Rattle.loader.specs.declared.calls.Call.TheVariants.{None, To, Outside}
 use Rattle.loader.specs.declared.deeds.Deed.{Deed}
 use Rattle.loader.specs.declared.deeds.Deed.TheVariants.{Skip, Refuse, Halves, Word, Key, Register, RegisterOnly, RegisterOutside}
 use Rattle.loader.specs.declared.relocations.Relocation.{Relocation}
-use Rattle.loader.specs.declared.relocations.Addend.{Addend}
-use Rattle.loader.specs.declared.relocations.Mapped.{Mapped}
-use Rattle.loader.specs.declared.relocations.Mapped.TheVariants.{At as Placed, Refused as Unmapped}
 use Rattle.loader.specs.declared.validate.Job.{Job}
 use Rattle.loader.specs.Addresses.{sum_up_to}
 use Rattle.loader.specs.Functions.{row_for, symbol_function, in_text, index_of}
@@ -178,7 +176,7 @@ module _ (file builtins : List ℕ) (j : Job) (off : j.check_collision ≡ false
   symbol_steady len split at addend number (Symbol y) = address_steady len split at _
   symbol_steady len split at addend number (NoSym e) = refl
 
-  steady6464 : (im : List ℕ) (l : Layout) (split : Bool) (r number : ℕ) (addend : Addend) → SteadyDeed G (plan6464 file im l split r number addend)
+  steady6464 : (im : List ℕ) (l : Layout) (split : Bool) (r number : ℕ) (addend : Option ℕ) → SteadyDeed G (plan6464 file im l split r number addend)
   unfolding plan6464
   steady6464 im l split r number addend = refuse_or G _ _ _ refl (symbol_steady (length im) split _ _ number (dynamic_symbol_of file l number))
 
@@ -186,7 +184,7 @@ module _ (file builtins : List ℕ) (j : Job) (off : j.check_collision ≡ false
   unfolding relative_text
   text_steady len low high address = refuse_or G _ _ _ refl (refuse_or G _ _ _ refl (refuse_or G _ _ _ refl tt))
 
-  relative_steady : (im : List ℕ) (version2 in_text_lem : Bool) (r : ℕ) (addend : Addend) → SteadyDeed G (plan_relative im version2 in_text_lem r addend)
+  relative_steady : (im : List ℕ) (version2 in_text_lem : Bool) (r : ℕ) (addend : Option ℕ) → SteadyDeed G (plan_relative im version2 in_text_lem r addend)
   unfolding plan_relative
   relative_steady im version2 in_text_lem r addend = refuse_or G _ _ _ (text_steady (length im) _ _ _) (word_steady (length im) r _)
 
@@ -216,14 +214,14 @@ module _ (file builtins : List ℕ) (j : Job) (off : j.check_collision ≡ false
   unfolding plan6432
   steady6432 len r number = called_steady len r number (dynamic_symbol_of file j.layout number)
 
-  plan_steady : (im : List ℕ) (p : Mapped) (info : ℕ) (addend : Addend) → SteadyDeed G (plan_of file im builtins j p info addend)
+  plan_steady : (im : List ℕ) (p : Option ℕ) (info : ℕ) (addend : Option ℕ) → SteadyDeed G (plan_of file im builtins j p info addend)
   unfolding plan_at
-  plan_steady im (Placed r) info addend =
+  plan_steady im (Some r) info addend =
       refuse_or G _ _ _ refl
       (refuse_or G _ _ _ (steady6464 im j.layout _ r _ addend)
       (refuse_or G _ _ _ (relative_steady im j.version2 _ r addend)
       (refuse_or G _ _ _ (steady6432 (length im) r _) refl)))
-  plan_steady im Unmapped info addend = refl
+  plan_steady im None info addend = refl
 
   relocation_steady : (i : ℕ) (im : List ℕ) → Steady G (relocation_trace file builtins j i im)
   unfolding relocation_trace

@@ -10,6 +10,7 @@ use lib.Dec.{eqb}
 use lib.Bits.{bit_and}
 use native.Mathlib.Omega.{arith}
 use borrow.Author.Tests.{eqb-true}
+use Rattle.std.specs.Prelude.{Option, Some, None}
 use Rattle.ebpf.specs.Choice.{◌if◌else◌, eq_not}
 use Rattle.elf_parser.specs.declared.types.Elf64Sym.{Elf64Sym}
 use Rattle.elf_parser.specs.declared.parts.Place.{Place}
@@ -30,9 +31,6 @@ use Rattle.loader.specs.declared.deeds.Deed.{Deed}
 use Rattle.loader.specs.declared.deeds.Deed.TheVariants.{Refuse}
 use Rattle.loader.specs.declared.deeds.Entry.{Entry}
 use Rattle.loader.specs.declared.deeds.Entry.TheVariants.{Nothing, Refuse as NoEntry, Register as Enter}
-use Rattle.loader.specs.declared.relocations.Addend.{Addend}
-use Rattle.loader.specs.declared.relocations.Mapped.{Mapped}
-use Rattle.loader.specs.declared.relocations.Mapped.TheVariants.{At as Placed, Refused as Unmapped}
 use Rattle.loader.specs.declared.validate.Job.{Job}
 use Rattle.loader.specs.Deeds.{entry_of, written, entry_trace, deed_trace}
 use Rattle.loader.specs.Functions.{row_for, symbol_function, index_of}
@@ -138,7 +136,7 @@ module _ (P : Row → Type 0) (none : (row : Row) → P row → ⊥) where
   symbol_none len split at addend number (Symbol y) = either split _ _ P (λ e. halves_none len at (sum_up_to at 8) _) (λ e. word_none len at _)
   symbol_none len split at addend number (NoSym r) = tt
 
-  none6464 : (s im : List ℕ) (j : Job) (split : Bool) (r number : ℕ) (addend : Addend) → AsksFor (entry_of (plan6464 s im j.layout split r number addend)) P
+  none6464 : (s im : List ℕ) (j : Job) (split : Bool) (r number : ℕ) (addend : Option ℕ) → AsksFor (entry_of (plan6464 s im j.layout split r number addend)) P
   unfolding plan6464
   none6464 s im j split r number addend = either _ _ _ P (λ e. tt) (λ e. symbol_none (length im) split _ _ number (dynamic_symbol_of s j.layout number))
 
@@ -146,7 +144,7 @@ module _ (P : Row → Type 0) (none : (row : Row) → P row → ⊥) where
   unfolding relative_text
   text_none len low high address = either _ _ _ P (λ e. tt) (λ e. either _ _ _ P (λ f. tt) (λ f. either _ _ _ P (λ g. tt) (λ g. none)))
 
-  relative_none : (im : List ℕ) (version2 in_text_lem : Bool) (r : ℕ) (addend : Addend) → AsksFor (entry_of (plan_relative im version2 in_text_lem r addend)) P
+  relative_none : (im : List ℕ) (version2 in_text_lem : Bool) (r : ℕ) (addend : Option ℕ) → AsksFor (entry_of (plan_relative im version2 in_text_lem r addend)) P
   unfolding plan_relative
   relative_none im version2 in_text_lem r addend = either in_text_lem _ _ P (λ e. text_none (length im) _ _ _) (λ e. word_none (length im) r _)
 
@@ -202,14 +200,14 @@ module _ (file builtins : List ℕ) (j : Job) (i : ℕ) (l : i < relocation_coun
   other_none : (k : ℕ) → (k ≡ 10 → ⊥) → info % 2 ^ 32 ≡ k → (row : Row) → OfThis row → ⊥
   other_none k ne e row h = ne (sym e ∙ h.1)
 
-  place_asks : (im : List ℕ) (p : Mapped) → AsksFor (entry_of (plan_of file im builtins j p info (addend_of file j i))) OfThis
+  place_asks : (im : List ℕ) (p : Option ℕ) → AsksFor (entry_of (plan_of file im builtins j p info (addend_of file j i))) OfThis
   unfolding plan_at plan6432
-  place_asks im (Placed r) =
+  place_asks im (Some r) =
       either _ _ _ OfThis (λ d. tt)
       (λ d. either _ _ _ OfThis (λ e. none6464 OfThis (other_none 1 (λ z. absurd (omega arith)) (eqb-true (info % 2 ^ 32) 1 e)) file im j _ r _ _)
       (λ e. either _ _ _ OfThis (λ f. relative_none OfThis (other_none 8 (λ z. absurd (omega arith)) (eqb-true (info % 2 ^ 32) 8 f)) im j.version2 _ r _)
       (λ f. either _ _ _ OfThis (λ g. symbol_asks (eqb-true (info % 2 ^ 32) 10 g) (length im) r (dynamic_symbol_of file j.layout (info / 2 ^ 32)) refl) (λ g. tt))))
-  place_asks im Unmapped = tt
+  place_asks im None = tt
 
   relocation_asks : (im : List ℕ) → AsksFor (entry_of (relocation_deed file builtins j i im)) OfThis
   relocation_asks im = place_asks im (place_at file j i)

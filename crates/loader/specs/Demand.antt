@@ -1,5 +1,5 @@
 -- Demand 3: one claim about a whole load, in the scope's words.
-use Rattle.std.specs.Prelude.{ℕ, suc, ◌+◌, ◌-◌, ◌/◌, ◌%◌, ◌<◌, ◌^◌, ◌≡◌, Bool, true, false, ◌||◌, not, ◌⊎◌, ◌↔◌, List, [], ◌∷◌, map, take, drop, get_or, eqb, Result, Ok, Err}
+use Rattle.std.specs.Prelude.{ℕ, suc, ◌+◌, ◌-◌, ◌/◌, ◌%◌, ◌<◌, ◌^◌, ◌≡◌, Bool, true, false, ◌||◌, not, ◌⊎◌, ◌↔◌, List, [], ◌∷◌, map, take, drop, get_or, eqb, Result, Ok, Err, Option, Some, None}
 use Rattle.std.specs.Int.Bits.{bit_and}
 use Rattle.ebpf.specs.Choice.{◌if◌else◌}
 use Rattle.ebpf.specs.LittleEndian.{le}
@@ -27,9 +27,6 @@ use Rattle.loader.specs.declared.error.ElfError.{ElfError}
 use Rattle.loader.specs.declared.answer.Accepted.{Accepted}
 use Rattle.loader.specs.declared.calls.Call.TheVariants.{To}
 use Rattle.loader.specs.declared.error.ElfError.TheVariants.{SymbolHashCollision, TableFull}
-use Rattle.loader.specs.declared.relocations.Addend.{Addend}
-use Rattle.loader.specs.declared.relocations.Mapped.{Mapped}
-use Rattle.loader.specs.declared.relocations.Mapped.TheVariants.{At as Placed, Refused as Unmapped}
 use Rattle.loader.specs.declared.validate.Config.{Config}
 use Rattle.loader.specs.declared.validate.Job.{Job}
 use Rattle.loader.specs.Deeds.{is_in}
@@ -66,20 +63,20 @@ named_by version2 in_text_lem type r b =
     false
 
 -- in a file whose text is the n bytes from `start` on
-abbrev pub named_in : Bool → ℕ → ℕ → Mapped → ℕ → ℕ → Bool
-named_in version2 start n (Placed r) type b = named_by version2 (within start n r) type r b
-named_in version2 start n Unmapped type b = false
+abbrev pub named_in : Bool → ℕ → ℕ → Option ℕ → ℕ → ℕ → Bool
+named_in version2 start n (Some r) type b = named_by version2 (within start n r) type r b
+named_in version2 start n None type b = false
 
 abbrev pub names_in : List ℕ → Layout → Bool → ℕ → ℕ → ℕ → ℕ → Bool
 names_in file l version2 start n i b = named_in version2 start n (place_in file l version2 i) ((relocation_at file l i).r_info % 2 ^ 32) b
 
-abbrev pub named_at : Job → Mapped → ℕ → ℕ → Bool
+abbrev pub named_at : Job → Option ℕ → ℕ → ℕ → Bool
 named_at j p type b = named_in j.version2 j.start j.length p type b
 
 abbrev pub info_of : List ℕ → Job → ℕ → ℕ
 info_of file j i = (relocation_at file j.layout i).r_info
 
-abbrev pub addend_of : List ℕ → Job → ℕ → Addend
+abbrev pub addend_of : List ℕ → Job → ℕ → Option ℕ
 addend_of file j i = (relocation_at file j.layout i).addend
 
 -- the relocation number i names the byte b

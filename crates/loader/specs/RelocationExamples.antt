@@ -1,5 +1,5 @@
 -- Examples on relocations and labels beside the scope's (`Worked`): each holds by computation.
-use Rattle.std.specs.Prelude.{ℕ, ◌+◌, ◌-◌, ◌*◌, ◌%◌, ◌^◌, Bool, true, false, List, [], ◌∷◌, ◌++◌, ◌≡◌, refl, Err}
+use Rattle.std.specs.Prelude.{ℕ, ◌+◌, ◌-◌, ◌*◌, ◌%◌, ◌^◌, Bool, true, false, List, [], ◌∷◌, ◌++◌, ◌≡◌, refl, Err, Some, None}
 use Rattle.std.proofs.Common.{arith}
 use Rattle.ebpf.specs.Choice.{◌if◌else◌}
 use Rattle.ebpf.specs.LittleEndian.{le, bytes_of}
@@ -15,9 +15,6 @@ use Rattle.program.specs.HashedLegacy.{legacy_row, legacy_key, kept_symbol, is_t
 use Rattle.elf_parser.specs.Records.{entry_at}
 use Rattle.loader.specs.declared.error.ElfError.TheVariants.{InvalidVirtualAddress, UnknownRelocation, UnknownSymbol, UnresolvedSymbol, ValueOutOfBounds, AddendNegative}
 use Rattle.loader.specs.declared.validate.Job.{Job}
-use Rattle.loader.specs.declared.relocations.Used.TheVariants.{Header}
-use Rattle.loader.specs.declared.relocations.Addend.TheVariants.{None as NoAddend, Is}
-use Rattle.loader.specs.declared.relocations.Mapped.TheVariants.{At, Refused as Unmapped}
 use Rattle.loader.specs.declared.deeds.Deed.{Deed}
 use Rattle.loader.specs.declared.deeds.Deed.TheVariants.{Skip, Refuse, Halves, Word, Key, Register, RegisterOnly, RegisterOutside}
 use Rattle.loader.specs.Functions.{row_for}
@@ -113,7 +110,7 @@ abbrev longer : ℕ → List ℕ
 longer third = bytes_of 8 (4 * 2 ^ 32) ++ (bytes_of 8 0 ++ (bytes_of 8 third ++ bytes_of 8 0))
 
 abbrev behind : Bool → ℕ → ℕ → Deed
-behind version2 type third = plan_at (file (relocation 0 0) (relocation 0 0) (symbol 0 0x20)) (longer third) [] (job version2) 16 type NoAddend
+behind version2 type third = plan_at (file (relocation 0 0) (relocation 0 0) (symbol 0 0x20)) (longer third) [] (job version2) 16 type None
 
 -- type 1: version 1 takes the 4 bytes at r + 4 and writes halves, version 2 those at r, and writes 8 bytes there. Type 8: 8 bytes at r, in version 1 always with
 -- the program's start, from the 4 at r + 4, in version 2 from the 8 at r, which gain it where they are below it
@@ -140,7 +137,7 @@ out_of_text = refl
 -- ---- with an addend: the text is the first 16 of 32 bytes, 4 is in its first immediate, 7 at 16; the symbol's value is 0x20
 
 abbrev added : ℕ → Bool → ℕ → ℕ → ℕ → Deed
-added value version2 r type addend = plan_at (file (relocation 0 0) (relocation 0 0) (symbol 0 value)) (longer 7) [] (job version2) r type (Is addend)
+added value version2 r type addend = plan_at (file (relocation 0 0) (relocation 0 0) (symbol 0 value)) (longer 7) [] (job version2) r type (Some addend)
 
 -- type 1 adds it to the symbol's value, in the text and out of it, in version 1 and in version 2, and the sum stops at 2^64 - 1; 4 and 7 do not count
 type_1_added :
@@ -192,7 +189,7 @@ negative :
     ∷ added 0x20 false 30 1 (2 ^ 63)
     ∷ added 0x20 false 30 1 5
     ∷ added 0x20 false 30 8 5
-    ∷ plan_of [] (longer 7) [] (job true) Unmapped 1 (Is (2 ^ 63))
+    ∷ plan_of [] (longer 7) [] (job true) None 1 (Some (2 ^ 63))
     ∷ added 0x20 false 0 2 (2 ^ 63)
     ∷ []
     ≡ Refuse AddendNegative
@@ -207,7 +204,7 @@ unfolding plan_at plan6464 address_deed plan_relative relative_text relative_val
 negative = refl
 
 -- type 10 ignores it
-type_10_added : (s im builtins : List ℕ) (j : Job) (r number a : ℕ) → plan_at s im builtins j r (10 + number * 2 ^ 32) (Is a) ≡ plan_at s im builtins j r (10 + number * 2 ^ 32) NoAddend
+type_10_added : (s im builtins : List ℕ) (j : Job) (r number a : ℕ) → plan_at s im builtins j r (10 + number * 2 ^ 32) (Some a) ≡ plan_at s im builtins j r (10 + number * 2 ^ 32) None
 unfolding plan_at ◌if◌else◌
 type_10_added s im builtins j r number a = let e : (10 + number * 2 ^ 32) % 2 ^ 32 ≡ 10 = omega arith in rw e refl
 
@@ -224,7 +221,7 @@ built_ins = refl
 
 -- version 2: address 0x18 is the second header's; address 8 is in both, and the header used last maps it. Taken alone, the first maps it
 used_last : place_at (file (relocation 0x18 8) (relocation 8 8) (symbol 0 0)) (job true) 1 ∷ place_at (file (relocation 8 8) (relocation 0 0) (symbol 0 0)) (job true) 0 ∷ place_at (file (relocation 0x28 8) (relocation 0 0) (symbol 0 0)) (job true) 0 ∷ []
-    ≡ At 0x100 ∷ At 8 ∷ Unmapped ∷ []
+    ≡ Some 0x100 ∷ Some 8 ∷ None ∷ []
 unfolding relocation_at header_at first_from used_before used_header place_of ◌if◌else◌ le bytes_of entry_at rel program_header
 used_last = refl
 
@@ -238,20 +235,20 @@ one_list :
     ∷ relocation_at both (layout_with 1 1) 1
     ∷ relocation_at both (layout_with 1 1) 2
     ∷ []
-    ≡ record { r_offset = 0x18; r_info = 8; addend = NoAddend }
-    ∷ record { r_offset = 8; r_info = 8; addend = Is 5 }
-    ∷ record { r_offset = 0; r_info = 0; addend = NoAddend }
+    ≡ record { r_offset = 0x18; r_info = 8; addend = None }
+    ∷ record { r_offset = 8; r_info = 8; addend = Some 5 }
+    ∷ record { r_offset = 0; r_info = 0; addend = None }
     ∷ []
 unfolding relocation_at ◌if◌else◌ le bytes_of entry_at rel rela
 one_list = refl
 
 -- the header that the older table used last goes on into the newer one; without the older one it is the first that contains the place
-used_goes_on : place_at both (job_with true (layout_with 1 1)) 1 ∷ place_at both (job_with true (layout_with 0 1)) 0 ∷ [] ≡ At 0x100 ∷ At 8 ∷ []
+used_goes_on : place_at both (job_with true (layout_with 1 1)) 1 ∷ place_at both (job_with true (layout_with 0 1)) 0 ∷ [] ≡ Some 0x100 ∷ Some 8 ∷ []
 unfolding relocation_at header_at first_from used_before used_header place_of ◌if◌else◌ le bytes_of entry_at rel rela program_header
 used_goes_on = refl
 
 -- the mapped place stops at 2 ^ 64 - 1
-stops : place_of true (Header 0 0x100 0xffff_ffff_ffff_fff0) 0x20 ≡ At 0xffff_ffff_ffff_ffff
+stops : place_of true (Some (record { p_vaddr = 0; end = 0x100; p_offset = 0xffff_ffff_ffff_fff0 })) 0x20 ≡ Some 0xffff_ffff_ffff_ffff
 unfolding place_of ◌if◌else◌
 stops = refl
 

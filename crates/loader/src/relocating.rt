@@ -3,7 +3,7 @@ ghost use Rattle.loader.specs.Relocations.{relocations_trace, relocation_count};
 ghost use Rattle.loader.specs.InnerContracts.{PartAsks, FileSettles};
 
 use crate::deeds::{Outcome, perform_relocation};
-use crate::relocations::{Used, plan_relocation, relocation_at, used_header};
+use crate::relocations::{plan_relocation, relocation_at, used_header};
 use crate::validate::Job;
 
 // Every relocation in turn, up to the first refusal. `header` is the program header used last.
@@ -30,7 +30,7 @@ pub(crate) fn apply_relocations(
     let older = layout.dynamic_relocations;
     let newer = layout.dynamic_relas;
     let count = (older.count + newer.count) as u32;
-    let mut header = Used::None;
+    let mut header = None;
     let mut used = held;
     let mut moves = moved;
     let mut i: u32 = 0;

@@ -7,7 +7,7 @@ ghost use Rattle.elf_parser.specs.Names.{dynamic_symbol_name};
 ghost use Rattle.loader.specs.Addresses.{sum_up_to};
 ghost use Rattle.loader.specs.Functions.{Keyed};
 ghost use Rattle.loader.specs.InnerContracts.{InFile};
-ghost use Rattle.loader.specs.Relocations.{relocation_or, rela_or, relocation_at, header_at, contains, first_from, used_header, place_of, within, program_address, immediate_at, halves_deed, word_deed, address_deed, symbol_deed, plan6464, relative_text, relative_value, addend_or, is_negative, plan_relative, register_deed, function_call, builtin_call, call_by_name, named_call, plan6432, plan_at, plan_of};
+ghost use Rattle.loader.specs.Relocations.{relocation_or, rela_or, relocation_at, header_at, contains, first_from, used_header, place_of, within, program_address, immediate_at, halves_deed, word_deed, address_deed, symbol_deed, plan6464, relative_text, relative_value, is_negative, plan_relative, register_deed, function_call, builtin_call, call_by_name, named_call, plan6432, plan_at, plan_of};
 
 use crate::addresses::{lesser, pick, saturating_add, saturating_sub};
 use crate::deeds::Deed;
@@ -29,19 +29,13 @@ const R_BPF_64_RELATIVE: u32 = 8;
 
 const R_BPF_64_32: u32 = 10;
 
-// The addend that a relocation brings, if it is of the kind that does: its bits as an unsigned number.
-#[derive(Clone, Copy)]
-pub enum Addend {
-    None,
-    Is(u64),
-}
-
-// A relocation of either kind.
+// A relocation of either kind, with the addend that it brings, if it is of the kind that does: its bits as
+// an unsigned number.
 #[derive(Clone, Copy)]
 pub struct Relocation {
     pub r_offset: u64,
     pub r_info: u64,
-    pub addend: Addend,
+    pub addend: Option<u64>,
 }
 
 // The relocation number `index` of the older table; a blank one where there is none.
@@ -52,12 +46,12 @@ fn plain_relocation(file: &[u8], layout: Layout, index: u32) -> Relocation
         Rel::Relocation(r) => Relocation {
             r_offset: r.r_offset,
             r_info: r.r_info,
-            addend: Addend::None,
+            addend: None,
         },
         Rel::Refused(_) => Relocation {
             r_offset: 0,
             r_info: 0,
-            addend: Addend::None,
+            addend: None,
         },
     }
 }
@@ -71,12 +65,12 @@ fn addend_relocation(file: &[u8], layout: Layout, index: u32) -> Relocation
         Rela::Relocation(r) => Relocation {
             r_offset: r.r_offset,
             r_info: r.r_info,
-            addend: Addend::Is(r.r_addend),
+            addend: Some(r.r_addend),
         },
         Rela::Refused(_) => Relocation {
             r_offset: 0,
             r_info: 0,
-            addend: Addend::None,
+            addend: None,
         },
     }
 }
@@ -97,44 +91,38 @@ pub fn relocation_at(file: &[u8], layout: Layout, index: u32) -> Relocation
 // A program header, as far as version 2 maps by it: the addresses from `p_vaddr` up to `end` stand
 // from `p_offset` on in the file.
 #[derive(Clone, Copy)]
-pub enum Used {
-    None,
-    Header {
-        p_vaddr: u64,
-        end: u64,
-        p_offset: u64,
-    },
+pub struct UsedHeader {
+    pub p_vaddr: u64,
+    pub end: u64,
+    pub p_offset: u64,
 }
 
 // The program header number `index`.
-fn header_at(file: &[u8], layout: Layout, index: u32) -> Used
+#[tactic(auto, unfolding(crate::specs::Relocations::header_at))]
+fn header_at(file: &[u8], layout: Layout, index: u32) -> Option<UsedHeader>
     ensures { result ≡ header_at file.now layout index }
 {
     match program_header(file, layout, index) {
-        Phdr::Header(h) => Used::Header {
+        Phdr::Header(h) => Some(UsedHeader {
             p_vaddr: h.p_vaddr,
             end: saturating_add(h.p_vaddr, h.p_memsz),
             p_offset: h.p_offset,
-        },
-        Phdr::Refused(_) => Used::None,
+        }),
+        Phdr::Refused(_) => None,
     }
 }
 
-fn does_contain(used: Used, a: u64) -> bool
+fn does_contain(used: Option<UsedHeader>, a: u64) -> bool
     ensures { result ≡ contains used a }
 {
     match used {
-        Used::Header {
-            p_vaddr,
-            end,
-            p_offset: _,
-        } => (p_vaddr <= a) & (a < end),
-        Used::None => false,
+        Some(h) => (h.p_vaddr <= a) & (a < h.end),
+        None => false,
     }
 }
 
 // The first program header that contains an address.
-fn first_header(file: &[u8], layout: Layout, count: u32, a: u64) -> Used
+fn first_header(file: &[u8], layout: Layout, count: u32, a: u64) -> Option<UsedHeader>
     ensures { result ≡ first_from file.now layout a count 0 }
 {
     let mut i: u32 = 0;
@@ -145,12 +133,18 @@ fn first_header(file: &[u8], layout: Layout, count: u32, a: u64) -> Used
         }
         i += 1;
     }
-    Used::None
+    None
 }
 
 // The header that the relocation at `r_offset` is mapped by, after one that was mapped by `used`. Version
 // 1 maps nothing.
-pub fn used_header(file: &[u8], layout: Layout, version2: bool, used: Used, r_offset: u64) -> Used
+pub fn used_header(
+    file: &[u8],
+    layout: Layout,
+    version2: bool,
+    used: Option<UsedHeader>,
+    r_offset: u64,
+) -> Option<UsedHeader>
     ensures { result ≡ used_header file.now layout version2 used r_offset }
 {
     if !version2 {
@@ -164,27 +158,16 @@ pub fn used_header(file: &[u8], layout: Layout, version2: bool, used: Used, r_of
     first_header(file, layout, count, r_offset)
 }
 
-// The place in the file that a relocation means.
-#[derive(Clone, Copy)]
-pub enum Mapped {
-    At(u64),
-    Refused,
-}
-
-pub fn r_place(version2: bool, used: Used, r_offset: u64) -> Mapped
+// The place in the file that a relocation means, if it means one.
+#[tactic(auto, using(ebpf::specs::Choice::choices), unfolding(crate::specs::Relocations::place_of))]
+pub fn r_place(version2: bool, used: Option<UsedHeader>, r_offset: u64) -> Option<u64>
     ensures { result ≡ place_of version2 used r_offset }
 {
     if !version2 {
-        return Mapped::At(r_offset);
+        return Some(r_offset);
     }
-    match used {
-        Used::Header {
-            p_vaddr,
-            end: _,
-            p_offset,
-        } => Mapped::At(saturating_add(saturating_sub(r_offset, p_vaddr), p_offset)),
-        Used::None => Mapped::Refused,
-    }
+    let h = used?;
+    Some(saturating_add(saturating_sub(r_offset, h.p_vaddr), h.p_offset))
 }
 
 // Whether a place lies in the `length` bytes from `start` on.
@@ -275,23 +258,13 @@ fn symbol_deed(
     }
 }
 
-// The addend that a relocation brings, or where it brings none the number that was read.
-fn addend_or(addend: Addend, read: u64) -> u64
-    ensures { result ≡ addend_or addend read }
-{
-    match addend {
-        Addend::Is(a) => a,
-        Addend::None => read,
-    }
-}
-
-// Whether it brings one that is negative.
-fn is_negative(addend: Addend) -> bool
+// Whether a relocation brings an addend that is negative.
+fn is_negative(addend: Option<u64>) -> bool
     ensures { result ≡ is_negative addend }
 {
     match addend {
-        Addend::Is(a) => 0x8000_0000_0000_0000 <= a,
-        Addend::None => false,
+        Some(a) => 0x8000_0000_0000_0000 <= a,
+        None => false,
     }
 }
 
@@ -303,7 +276,7 @@ fn plan_64_64(
     split: bool,
     r: u64,
     number: u32,
-    addend: Addend,
+    addend: Option<u64>,
 ) -> Deed
     ensures { result ≡ plan6464 file.now image.now layout split r number addend }
 {
@@ -318,7 +291,7 @@ fn plan_64_64(
         len,
         split,
         at,
-        addend_or(addend, read_u32(image, at as usize) as u64),
+        addend.unwrap_or(read_u32(image, at as usize) as u64),
         number,
     )
 }
@@ -362,7 +335,7 @@ fn join_halves(low: u32, high: u32) -> u64
 }
 
 // Type 8: an address that no symbol has, the addend or the bytes that are there.
-fn plan_relative(image: &[u8], version2: bool, in_text: bool, r: u64, addend: Addend) -> Deed
+fn plan_relative(image: &[u8], version2: bool, in_text: bool, r: u64, addend: Option<u64>) -> Deed
     requires { is_negative addend ≡ false }
     ensures { result ≡ plan_relative image.now version2 in_text r addend }
 {
@@ -374,12 +347,12 @@ fn plan_relative(image: &[u8], version2: bool, in_text: bool, r: u64, addend: Ad
             read_u32(image, low as usize),
             read_u32(image, high as usize),
         );
-        return relative_text(len, low, high, addend_or(addend, address));
+        return relative_text(len, low, high, addend.unwrap_or(address));
     }
     let value = relative_value(
         version2,
-        addend_or(addend, read_u32(image, low as usize) as u64),
-        addend_or(addend, read_u64(image, r as usize)),
+        addend.unwrap_or(read_u32(image, low as usize) as u64),
+        addend.unwrap_or(read_u64(image, r as usize)),
     );
     word_deed(len, r, value)
 }
@@ -539,7 +512,7 @@ fn plan_at(
     job: Job,
     r: u64,
     r_info: u64,
-    addend: Addend,
+    addend: Option<u64>,
 ) -> Deed
     requires { InFile file.now job × Keyed table.now }
     ensures { result ≡ plan_at file.now image.now builtins.now job r r_info addend }
@@ -573,16 +546,16 @@ pub(crate) fn plan_relocation(
     builtins: &[u32],
     table: &[u32],
     job: Job,
-    used: Used,
+    used: Option<UsedHeader>,
     r_offset: u64,
     r_info: u64,
-    addend: Addend,
+    addend: Option<u64>,
 ) -> Deed
     requires { InFile file.now job × Keyed table.now }
     ensures { result ≡ plan_of file.now image.now builtins.now job (place_of job.version2 used r_offset) r_info addend }
 {
     match r_place(job.version2, used, r_offset) {
-        Mapped::At(r) => plan_at(file, image, builtins, table, job, r, r_info, addend),
-        Mapped::Refused => Deed::Refuse(ElfError::ValueOutOfBounds),
+        Some(r) => plan_at(file, image, builtins, table, job, r, r_info, addend),
+        None => Deed::Refuse(ElfError::ValueOutOfBounds),
     }
 }
