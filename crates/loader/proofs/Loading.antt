@@ -17,8 +17,8 @@ use Rattle.loader.specs.declared.answer.Accepted.{Accepted}
 use Rattle.loader.specs.declared.validate.Config.{Config}
 use Rattle.loader.specs.declared.validate.Job.{Job}
 use Rattle.loader.specs.declared.error.ElfError.{ElfError}
-use Rattle.loader.specs.declared.deeds.Outcome.{Outcome}
-use Rattle.loader.specs.declared.deeds.Outcome.TheVariants.{Holds, Refused}
+use Rattle.loader.specs.declared.deeds.Held.{Held}
+use Rattle.loader.specs.Deeds.{holding}
 use Rattle.loader.specs.Trace.{Trace, and_then, settle, settle_and_then}
 use Rattle.loader.specs.Labels.{few_symbols}
 use Rattle.loader.specs.Parts.{writing_trace, naming_trace, placed_trace, job_trace}
@@ -33,7 +33,7 @@ use Rattle.loader.proofs.Front.{copied_front}
 -- ---- the placing's refusal
 
 module _ (T : Trace) (im : List ℕ) (t u : Slices) (n used moves : ℕ) where
-  held_placed : (p : Result Placing ElfError) (used' moves' : ℕ) → Settles T im t u n used moves (Holds used' moves') → Settles (and_then T (placed_trace p)) im t u n used moves (placed_by p used' moves')
+  held_placed : (p : Result Placing ElfError) (used' moves' : ℕ) → Settles T im t u n used moves (holding used' moves') → Settles (and_then T (placed_trace p)) im t u n used moves (placed_by p used' moves')
   unfolding settle
   held_placed (Ok (Borrowed offset start k)) used' moves' did = record {
     answers = sym (settle_and_then (capacity t) T (placed_trace (Ok (Borrowed offset start k))) (rows_of t used) moves ∙ rw (← did.answers) refl);
@@ -51,20 +51,20 @@ module _ (T : Trace) (im : List ℕ) (t u : Slices) (n used moves : ℕ) where
     near = tt;
   }
 
-  settles_placed : (p : Result Placing ElfError) (a : Outcome) → Settles T im t u n used moves a → Settles (and_then T (placed_trace p)) im t u n used moves (after_placing a p)
-  settles_placed p (Holds used' moves') did = held_placed p used' moves' did
-  settles_placed p (Refused r) did = settles_stop T (placed_trace p) im im t u u n n used moves r did
+  settles_placed : (p : Result Placing ElfError) (a : Result Held ElfError) → Settles T im t u n used moves a → Settles (and_then T (placed_trace p)) im t u n used moves (after_placing a p)
+  settles_placed p (Ok held) did = held_placed p held.used held.moves did
+  settles_placed p (Err r) did = settles_stop T (placed_trace p) im im t u u n n used moves r did
 
 -- ---- all parts
 
 module _ (file builtins : List ℕ) (j : Job) (im im₁ : List ℕ) (t u : Slices) (n m used moves : ℕ) where
-  pub parts_stop : (r : ElfError) → Settles (writing_trace file builtins j im) im₁ t u n used moves (Refused r) → Settles (job_trace file builtins j im) im₁ t u (n + m) used moves (Refused r)
+  pub parts_stop : (r : ElfError) → Settles (writing_trace file builtins j im) im₁ t u n used moves (Err r) → Settles (job_trace file builtins j im) im₁ t u (n + m) used moves (Err r)
   unfolding job_trace
   parts_stop r did = settles_stop (writing_trace file builtins j im) (λ (im₁ : List ℕ). and_then (naming_trace file builtins j im₁) (placed_trace j.placing)) im₁ im₁ t u u n (n + m) used moves r did
 
-  pub parts_all : (im₂ : List ℕ) (v : Slices) (used' moves' : ℕ) (a b : Outcome)
+  pub parts_all : (im₂ : List ℕ) (v : Slices) (used' moves' : ℕ) (a b : Result Held ElfError)
       → SameLens t u
-      → Settles (writing_trace file builtins j im) im₁ t u n used moves (Holds used' moves')
+      → Settles (writing_trace file builtins j im) im₁ t u n used moves (holding used' moves')
       → Settles (naming_trace file builtins j im₁) im₂ u v m used' moves' a
       → b ≡ after_placing a j.placing
       → Settles (job_trace file builtins j im) im₂ t v (n + m) used moves b
@@ -151,7 +151,7 @@ module _ (file builtins : List ℕ) (c : Config) (im ro : List ℕ) (t : Slices)
 
       -- the slices cleared but for the image's front: ro₁ and t₁, and zeros behind the front; then filled: q the front, ro₂ and t₂
       module _ (ro₁ : List ℕ) (t₁ : Slices) (ro-zeros : ro₁ ≡ replicate (length ro) 0) (lens : SameLens t t₁) (rest : List ℕ) (zeros : rest ≡ replicate (length im - length file) 0) (q ro₂ : List ℕ) (t₂ : Slices) (len : length q ≡ length file) (lens₂ : SameLens t₁ t₂) where
-        settled : (n : ℕ) (a : Outcome) → Settles (job_trace file builtins j file) q t₁ t₂ n 0 0 a → whole ≡ on_trace file j (length ro) (outcome a q t₂)
+        settled : (n : ℕ) (a : Result Held ElfError) → Settles (job_trace file builtins j file) q t₁ t₂ n 0 0 a → whole ≡ on_trace file j (length ro) (outcome a q t₂)
         settled n a did =
             let e : outcome a q t₂ ≡ settle (capacity t) (job_trace file builtins j file) [] 0 = did.answers ∙ rw (rows_none t₁, capacity_same t t₁ lens) refl in
             prepared_as (Ok j) ready ∙ ap (on_trace file j (length ro)) (sym e)
@@ -180,11 +180,11 @@ module _ (file builtins : List ℕ) (c : Config) (im ro : List ℕ) (t : Slices)
           };
         }
 
-        tried_as : (n : ℕ) (a : Outcome) → Settles (job_trace file builtins j file) q t₁ t₂ n 0 0 a → HeldBytes a ro₂ (placed_bytes file j.layout j.placing q ro₁) → Tried whole im ro t (q ++ rest) ro₂ t₂ (answer_for a j)
-        tried_as n (Refused r) did b = settled n (Refused r) did
-        tried_as n (Holds used moves) did b = held used moves j.placing did.sound.laid (settled n (Holds used moves) did) b refl
+        tried_as : (n : ℕ) (a : Result Held ElfError) → Settles (job_trace file builtins j file) q t₁ t₂ n 0 0 a → HeldBytes a ro₂ (placed_bytes file j.layout j.placing q ro₁) → Tried whole im ro t (q ++ rest) ro₂ t₂ (answer_for a j)
+        tried_as n (Err r) did b = settled n (Err r) did
+        tried_as n (Ok kept) did b = held kept.used kept.moves j.placing did.sound.laid (settled n (holding kept.used kept.moves) did) b refl
 
-        pub tried : (n : ℕ) (a : Outcome) (b : Result Accepted ElfError) → Settles (job_trace file builtins j file) q t₁ t₂ n 0 0 a × HeldBytes a ro₂ (placed_bytes file j.layout j.placing q ro₁) → b ≡ answer_for a j → Tried whole im ro t (q ++ rest) ro₂ t₂ b
+        pub tried : (n : ℕ) (a : Result Held ElfError) (b : Result Accepted ElfError) → Settles (job_trace file builtins j file) q t₁ t₂ n 0 0 a × HeldBytes a ro₂ (placed_bytes file j.layout j.placing q ro₁) → b ≡ answer_for a j → Tried whole im ro t (q ++ rest) ro₂ t₂ b
         tried n a b did e = subst (Tried whole im ro t (q ++ rest) ro₂ t₂) (sym e) (tried_as n a did.0 did.1)
 
 -- ---- the end: an attempt that is held, and one that is refused and cleared

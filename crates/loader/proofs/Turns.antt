@@ -8,15 +8,16 @@ use mir.Syntax.{w32, w64}
 use mir.Val.{Fits}
 use native.Mathlib.Omega.{arith}
 use lib.ListN.{length}
-use Rattle.std.specs.Prelude.{Option, None}
+use Rattle.std.specs.Prelude.{Option, None, Result}
 use Rattle.elf_parser.specs.declared.records.Entries.{Entries}
 use Rattle.elf_parser.specs.declared.layout.Layout.{Layout}
 use Rattle.program.specs.Table.{Slices}
 use Rattle.loader.specs.declared.relocations.UsedHeader.{UsedHeader}
-use Rattle.loader.specs.declared.deeds.Outcome.{Outcome}
 use Rattle.loader.specs.declared.deeds.Deed.{Deed}
 use Rattle.loader.specs.declared.relocations.Relocation.{Relocation}
 use Rattle.loader.specs.declared.validate.Job.{Job}
+use Rattle.loader.specs.declared.deeds.Held.{Held}
+use Rattle.loader.specs.declared.error.ElfError.{ElfError}
 use Rattle.loader.specs.Deeds.{DeedFits, deed_trace}
 use Rattle.loader.specs.Relocations.{relocation_at, relocation_count, used_header, used_before, place_of, plan_of, relocation_deed, relocation_trace, used_next, plan_fits}
 use Rattle.loader.specs.Labels.{label_symbols, label_deed, label_trace, label_fits, few_symbols}
@@ -53,7 +54,7 @@ module _ (file builtins : List ℕ) (j : Job) (i : ℕ) (header next : Option Us
   turn_deed : (im : List ℕ) (d : Deed) → d ≡ plan_of file im builtins j (place_of j.version2 next r.r_offset) r.r_info r.addend → d ≡ relocation_deed file builtins j i im
   turn_deed im d e = e ∙ rw (header_next, is) refl
 
-  pub relocation_settles : (im im' : List ℕ) (t u : Slices) (used moves : ℕ) (a : Outcome) {d : Deed}
+  pub relocation_settles : (im im' : List ℕ) (t u : Slices) (used moves : ℕ) (a : Result Held ElfError) {d : Deed}
       → d ≡ plan_of file im builtins j (place_of j.version2 next r.r_offset) r.r_info r.addend
       → Settles (deed_trace d im) im' t u 1 used moves a
       → Settles (relocation_trace file builtins j i im) im' t u 1 used moves a
@@ -67,7 +68,7 @@ relocation_fits file im builtins j next r e = subst (DeedFits (length im)) (sym 
 
 -- ---- labels
 
-pub label_settles : (file builtins : List ℕ) (j : Job) (symbols : Entries) (i : ℕ) (im im' : List ℕ) (t u : Slices) (used moves : ℕ) (a : Outcome) {d : Deed}
+pub label_settles : (file builtins : List ℕ) (j : Job) (symbols : Entries) (i : ℕ) (im im' : List ℕ) (t u : Slices) (used moves : ℕ) (a : Result Held ElfError) {d : Deed}
     → symbols ≡ label_symbols file j
     → d ≡ label_deed file builtins j symbols i
     → Settles (deed_trace d im) im' t u 1 used moves a

@@ -1,13 +1,19 @@
 -- A deed is what one slot, relocation, symbol or the entry asks for: bytes to write, a row to register, or a refusal. Its trace.
-use Rattle.std.specs.Prelude.{ℕ, ◌+◌, ◌/◌, ◌%◌, ◌^◌, ◌≤◌, ◌≡◌, refl, Bool, true, false, ◌&&◌, ◌||◌, List, length, leb, ltb}
+use Rattle.std.specs.Prelude.{ℕ, ◌+◌, ◌/◌, ◌%◌, ◌^◌, ◌≤◌, ◌≡◌, refl, Bool, true, false, ◌&&◌, ◌||◌, List, length, leb, ltb, Result, Ok}
 use Rattle.std.proofs.Common.{◌∙◌}
 use Rattle.loader.specs.declared.error.ElfError.TheVariants.{ValueOutOfBounds}
 use Rattle.loader.specs.declared.deeds.Deed.{Deed}
 use Rattle.loader.specs.declared.deeds.Deed.TheVariants.{Skip, Refuse, Halves, Word, Key, Register, RegisterOnly, RegisterOutside}
 use Rattle.loader.specs.declared.deeds.Entry.{Entry}
 use Rattle.loader.specs.declared.deeds.Entry.TheVariants.{Nothing, Refuse as NoEntry, Register as Enter}
+use Rattle.loader.specs.declared.deeds.Held.{Held}
+use Rattle.loader.specs.declared.error.ElfError.{ElfError}
 use Rattle.loader.specs.Bytes.{put, length_put}
 use Rattle.loader.specs.Trace.{Trace, done, stop, register}
+
+-- so many rows used and moves
+abbrev pub holding : ℕ → ℕ → Result Held ElfError
+holding used moves = Ok (record { used = used; moves = moves })
 
 -- the halves of v at two places
 abbrev pub put_halves : List ℕ → ℕ → ℕ → ℕ → List ℕ

@@ -1,5 +1,5 @@
 -- The entry's part of a load.
-use Rattle.std.specs.Prelude.{ℕ, ◌+◌, ◌-◌, ◌/◌, ◌%◌, Bool, true, false, not, List, eqb}
+use Rattle.std.specs.Prelude.{ℕ, ◌+◌, ◌-◌, ◌/◌, ◌%◌, Bool, true, false, not, List, eqb, Result}
 use Rattle.ebpf.specs.Choice.{◌if◌else◌}
 use Rattle.ebpf.specs.Murmur3.{murmur3}
 use Rattle.program.specs.declared.FunctionName.TheVariants.{Entrypoint}
@@ -9,13 +9,13 @@ use Rattle.program.specs.HashedLegacy.{entrypoint}
 use Rattle.loader.specs.declared.error.ElfError.TheVariants.{InvalidEntrypoint}
 use Rattle.loader.specs.declared.deeds.Deed.{Deed}
 use Rattle.loader.specs.declared.deeds.Deed.TheVariants.{Refuse}
-use Rattle.loader.specs.declared.deeds.Outcome.{Outcome}
-use Rattle.loader.specs.declared.deeds.Outcome.TheVariants.{Holds}
 use Rattle.loader.specs.declared.validate.Job.{Job}
+use Rattle.loader.specs.declared.deeds.Held.{Held}
+use Rattle.loader.specs.declared.error.ElfError.{ElfError}
 use Rattle.loader.specs.Functions.{row_for}
 use Rattle.loader.specs.Labels.{label_row, row_fits}
 use Rattle.loader.specs.Trace.{Trace, done, forget, and_then}
-use Rattle.loader.specs.Deeds.{DeedFits, deed_trace}
+use Rattle.loader.specs.Deeds.{DeedFits, deed_trace, holding}
 
 -- e_entry less the text's sh_addr, in slots; a remainder is refused
 unfoldable pub entry_deed : List ℕ → Job → Deed
@@ -25,9 +25,9 @@ entry_deed builtins j =
     label_row (row_for builtins j Entrypoint (offset / 8))
 
 -- a removal's answer, with the rows and moves up to there
-abbrev pub forgotten_by : Removed → ℕ → ℕ → Outcome
-forgotten_by (Gone n) used moves = Holds (used - 1) (moves + n)
-forgotten_by Absent used moves = Holds used moves
+abbrev pub forgotten_by : Removed → ℕ → ℕ → Result Held ElfError
+forgotten_by (Gone n) used moves = holding (used - 1) (moves + n)
+forgotten_by Absent used moves = holding used moves
 
 -- version 1 forgets the key of the name entrypoint
 abbrev pub forget_trace : Bool → List ℕ → Trace

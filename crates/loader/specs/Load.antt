@@ -9,12 +9,12 @@ use Rattle.loader.specs.declared.read_only.Placing.{Placing}
 use Rattle.loader.specs.declared.error.ElfError.{ElfError}
 use Rattle.loader.specs.declared.answer.Accepted.{Accepted}
 use Rattle.loader.specs.declared.validate.Config.{Config}
+use Rattle.loader.specs.declared.deeds.Held.{Held}
+use Rattle.loader.specs.Deeds.{holding}
 use Rattle.loader.specs.Trace.{Settled, accepted, refused, settle}
 use Rattle.loader.specs.Parts.{job_trace}
 use Rattle.loader.specs.Validate.{prepared}
 use Rattle.loader.specs.declared.validate.Job.{Job}
-use Rattle.loader.specs.declared.deeds.Outcome.{Outcome}
-use Rattle.loader.specs.declared.deeds.Outcome.TheVariants.{Holds, Refused}
 use Rattle.loader.specs.Calls.{slot_count}
 use Rattle.loader.specs.InnerContracts.{InFile, Settles}
 use Rattle.loader.specs.Labels.{label_count}
@@ -34,14 +34,14 @@ abbrev pub all_count : List ℕ → Job → ℕ
 all_count file j = writing_count j + naming_count file j
 
 -- the outcome once all is registered: refused where the placing of the read-only sections is
-abbrev pub placed_by : Result Placing ElfError → ℕ → ℕ → Outcome
-placed_by (Ok (Borrowed offset start n)) used moves = Holds used moves
-placed_by (Ok (Owned offset lowest n)) used moves = Holds used moves
-placed_by (Err r) used moves = Refused r
+abbrev pub placed_by : Result Placing ElfError → ℕ → ℕ → Result Held ElfError
+placed_by (Ok (Borrowed offset start n)) used moves = holding used moves
+placed_by (Ok (Owned offset lowest n)) used moves = holding used moves
+placed_by (Err r) used moves = Err r
 
-abbrev pub after_placing : Outcome → Result Placing ElfError → Outcome
-after_placing (Holds used moves) p = placed_by p used moves
-after_placing (Refused r) p = Refused r
+abbrev pub after_placing : Result Held ElfError → Result Placing ElfError → Result Held ElfError
+after_placing (Ok held) p = placed_by p held.used held.moves
+after_placing (Err r) p = Err r
 
 -- every lent byte and number zero
 pub record Cleared (im ro : List ℕ) (t : Slices) (im' ro' : List ℕ) (t' : Slices) : Type 0 where
@@ -56,9 +56,9 @@ placed_bytes file l (Ok (Borrowed offset start n)) im ro = ro
 placed_bytes file l (Err r) im ro = ro
 
 -- where a load holds, its read-only bytes are these
-abbrev pub HeldBytes : Outcome → List ℕ → List ℕ → Type 0
-HeldBytes (Holds used moves) ro' ro = ro' ≡ ro
-HeldBytes (Refused r) ro' ro = Unit {0}
+abbrev pub HeldBytes : Result Held ElfError → List ℕ → List ℕ → Type 0
+HeldBytes (Ok held) ro' ro = ro' ≡ ro
+HeldBytes (Err r) ro' ro = Unit {0}
 
 -- ---- the answer
 
@@ -84,9 +84,9 @@ answer_by j (Ok (Borrowed offset start n)) used moves = Ok (accepted_as j false 
 answer_by j (Ok (Owned offset lowest n)) used moves = Ok (accepted_as j true offset 0 n used moves)
 answer_by j (Err r) used moves = Err r
 
-abbrev pub answer_for : Outcome → Job → Result Accepted ElfError
-answer_for (Holds used moves) j = answer_by j j.placing used moves
-answer_for (Refused r) j = Err r
+abbrev pub answer_for : Result Held ElfError → Job → Result Accepted ElfError
+answer_for (Ok held) j = answer_by j j.placing held.used held.moves
+answer_for (Err r) j = Err r
 
 -- ---- what comes of a load
 
@@ -161,7 +161,7 @@ abbrev pub FillAsks : Bor (List ℕ) → Job → MutBor (List ℕ) → MutBor (L
 FillAsks file j image k i d s l rows =
     InFile file.now j × (length image.now ≡ length file.now) × (rows ≡ capacity (table_of k i d s l)) × (table_of k i d s l ≡ lay (table_of k i d s l) [])
 
-abbrev pub Fills : Shared → Shared → Job → Lent → Lent → Lent → Lent → Lent → Lent → Lent → Outcome → Type 0
+abbrev pub Fills : Shared → Shared → Job → Lent → Lent → Lent → Lent → Lent → Lent → Lent → Result Held ElfError → Type 0
 Fills file builtins j image ro k i d s l a =
     Settles (job_trace file.entry.now builtins.entry.now j file.entry.now) image.exit.now (table_before k i d s l) (table_after k i d s l) (all_count file.entry.now j) 0 0 a
     × HeldBytes a ro.exit.now (placed_bytes file.entry.now j.layout j.placing image.exit.now ro.entry.now)

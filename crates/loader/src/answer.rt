@@ -4,7 +4,7 @@ ghost use Rattle.ebpf.specs.Choice.{◌if◌else◌};
 ghost use Rattle.loader.specs.Load.{accepted_as, answer_for};
 
 use crate::addresses::saturating_sub;
-use crate::deeds::Outcome;
+use crate::deeds::Held;
 use crate::error::ElfError;
 use crate::read_only::Placing;
 use crate::validate::Job;
@@ -68,23 +68,21 @@ fn accepted_as(
 }
 
 // The answer of a file that passed the checks.
-pub(crate) fn answer_of(a: Outcome, job: Job) -> Result<Accepted, ElfError>
+pub(crate) fn answer_of(a: Result<Held, ElfError>, job: Job) -> Result<Accepted, ElfError>
     requires { job.e_entry - job.sh_addr ≤ 2 ^ 24 }
     ensures { result ≡ answer_for a job }
 {
-    match a {
-        Outcome::Refused(r) => Err(r),
-        Outcome::Holds(used, moves) => match job.placing? {
-            Placing::Borrowed {
-                offset,
-                start,
-                length,
-            } => Ok(accepted_as(job, false, offset, start, length, used, moves)),
-            Placing::Owned {
-                offset,
-                lowest: _,
-                length,
-            } => Ok(accepted_as(job, true, offset, 0, length, used, moves)),
-        },
+    let Held { used, moves } = a?;
+    match job.placing? {
+        Placing::Borrowed {
+            offset,
+            start,
+            length,
+        } => Ok(accepted_as(job, false, offset, start, length, used, moves)),
+        Placing::Owned {
+            offset,
+            lowest: _,
+            length,
+        } => Ok(accepted_as(job, true, offset, 0, length, used, moves)),
     }
 }

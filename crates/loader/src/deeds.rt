@@ -37,11 +37,11 @@ pub enum Entry {
     Register { row: Row, outside: bool },
 }
 
-// The rows used and the moves up to here, or why the load is refused.
+// The rows used and the moves up to here.
 #[derive(Clone, Copy)]
-pub enum Outcome {
-    Holds(usize, u64),
-    Refused(ElfError),
+pub struct Held {
+    pub used: usize,
+    pub moves: u64,
 }
 
 fn entry_of(deed: Deed) -> Entry
@@ -113,31 +113,36 @@ fn write(image: &mut [u8], deed: Deed)
 }
 
 // The rows and moves after a registration that answered so.
-fn entered(answer: Registered, used: usize, moves: u64, key: u32, rows: u64) -> Outcome
+fn entered(
+    answer: Registered,
+    used: usize,
+    moves: u64,
+    key: u32,
+    rows: u64,
+) -> Result<Held, ElfError>
     requires { (used < 2 ^ 32) × (moves + moves_of answer < 2 ^ 64) }
     ensures { result ≡ entered_by answer used moves key rows }
 {
     match answer {
-        Registered::Inserted(n) => Outcome::Holds(used + 1, moves + n as u64),
-        Registered::Repeat => Outcome::Holds(used, moves),
-        Registered::Collision => Outcome::Refused(ElfError::SymbolHashCollision { key }),
-        Registered::Full => Outcome::Refused(ElfError::TableFull { rows }),
+        Registered::Inserted(n) => Ok(Held {
+            used: used + 1,
+            moves: moves + n as u64,
+        }),
+        Registered::Repeat => Ok(Held { used, moves }),
+        Registered::Collision => Err(ElfError::SymbolHashCollision { key }),
+        Registered::Full => Err(ElfError::TableFull { rows }),
     }
 }
 
 // A registration that was held is refused all the same where the key's place is outside.
-fn finished(outcome: Outcome, outside: bool) -> Outcome
+fn finished(outcome: Result<Held, ElfError>, outside: bool) -> Result<Held, ElfError>
     ensures { result ≡ finished_by outcome outside }
 {
-    match outcome {
-        Outcome::Refused(r) => Outcome::Refused(r),
-        Outcome::Holds(used, moves) => {
-            if outside {
-                return Outcome::Refused(ElfError::ValueOutOfBounds);
-            }
-            Outcome::Holds(used, moves)
-        }
+    let held = outcome?;
+    if outside {
+        return Err(ElfError::ValueOutOfBounds);
     }
+    Ok(held)
 }
 
 // Registers one row.
@@ -151,7 +156,7 @@ fn enter(
     used: usize,
     moves: u64,
     row: Row,
-) -> Outcome
+) -> Result<Held, ElfError>
     requires { Begins 1 (table_of keys indices kinds starts lengths) rows used moves }
     ensures { Enters row (table_before keys indices kinds starts lengths) (table_after keys indices kinds starts lengths) used moves result }
 {
@@ -171,7 +176,7 @@ pub(crate) fn enter_alike(
     used: usize,
     moves: u64,
     row: Row,
-) -> Outcome
+) -> Result<Held, ElfError>
     requires { Begins 1 (table_of keys indices kinds starts lengths) rows used moves × Alike (table_of keys indices kinds starts lengths) used row }
     ensures { EntersAlike row keys indices kinds starts lengths used moves result }
 {
@@ -192,14 +197,14 @@ pub(crate) fn perform(
     used: usize,
     moves: u64,
     deed: Deed,
-) -> Outcome
+) -> Result<Held, ElfError>
     requires { DeedFits (length image.old) deed × Begins 1 (table_of keys indices kinds starts lengths) rows used moves }
     ensures { PartSettles (deed_trace deed image.old) image keys indices kinds starts lengths 1 used moves result }
 {
     write(image, deed);
     match entry_of(deed) {
-        Entry::Nothing => Outcome::Holds(used, moves),
-        Entry::Refuse(r) => Outcome::Refused(r),
+        Entry::Nothing => Ok(Held { used, moves }),
+        Entry::Refuse(r) => Err(r),
         Entry::Register { row, outside } => {
             let a = enter(
                 keys, indices, kinds, starts, lengths, rows, used, moves, row,
@@ -222,14 +227,14 @@ pub(crate) fn perform_relocation(
     used: usize,
     moves: u64,
     deed: Deed,
-) -> Outcome
+) -> Result<Held, ElfError>
     requires { DeedFits (length image.old) deed × Begins 1 (table_of keys indices kinds starts lengths) rows used moves }
     ensures { PartSettles (deed_trace deed image.old) image keys indices kinds starts lengths 1 used moves result }
 {
     let entry = entry_of(deed);
     if let Entry::Nothing = entry {
         write(image, deed);
-        return Outcome::Holds(used, moves);
+        return Ok(Held { used, moves });
     }
     perform(
         image, keys, indices, kinds, starts, lengths, rows, used, moves, deed,

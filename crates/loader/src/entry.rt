@@ -7,7 +7,7 @@ ghost use Rattle.loader.specs.Entry.{entry_deed, forgotten_by, entry_trace};
 ghost use Rattle.loader.specs.InnerContracts.{Begins, Forgets, PartSettles};
 
 use crate::addresses::saturating_sub;
-use crate::deeds::{Deed, Outcome, perform};
+use crate::deeds::{Deed, Held, perform};
 use crate::error::ElfError;
 use crate::functions::row_for;
 use crate::labels::label_row;
@@ -28,13 +28,16 @@ fn entry_deed(builtins: &[u32], table: &[u32], job: Job) -> Deed
 }
 
 // The rows and moves after a removal that answered so.
-fn forgotten(answer: Removed, used: usize, moves: u64) -> Outcome
+fn forgotten(answer: Removed, used: usize, moves: u64) -> Result<Held, ElfError>
     requires { moves + moves_gone answer < 2 ^ 64 }
     ensures { result ≡ forgotten_by answer used moves }
 {
     match answer {
-        Removed::Gone(n) => Outcome::Holds(less_one(used), moves + n as u64),
-        Removed::Absent => Outcome::Holds(used, moves),
+        Removed::Gone(n) => Ok(Held {
+            used: less_one(used),
+            moves: moves + n as u64,
+        }),
+        Removed::Absent => Ok(Held { used, moves }),
     }
 }
 
@@ -58,12 +61,12 @@ fn forget_entrypoint(
     rows: u64,
     used: usize,
     moves: u64,
-) -> Outcome
+) -> Result<Held, ElfError>
     requires { Begins 1 (table_of keys indices kinds starts lengths) rows used moves }
     ensures { Forgets version2 (table_before keys indices kinds starts lengths) (table_after keys indices kinds starts lengths) used moves result }
 {
     if version2 {
-        return Outcome::Holds(used, moves);
+        return Ok(Held { used, moves });
     }
     let answer = unregister_function(keys, indices, kinds, starts, lengths, used, ENTRYPOINT_KEY);
     forgotten(answer, used, moves)
@@ -83,12 +86,12 @@ pub(crate) fn register_entry(
     rows: u64,
     used: usize,
     moves: u64,
-) -> Outcome
+) -> Result<Held, ElfError>
     requires { Keyed table.now × (job.e_entry - job.sh_addr ≤ 2 ^ 24) × Begins 2 (table_of keys indices kinds starts lengths) rows used moves }
     ensures { PartSettles (entry_trace builtins.now job image.old) image keys indices kinds starts lengths 2 used moves result }
 {
     let deed = entry_deed(builtins, table, job);
-    match forget_entrypoint(
+    let held = forget_entrypoint(
         keys,
         indices,
         kinds,
@@ -98,10 +101,8 @@ pub(crate) fn register_entry(
         rows,
         used,
         moves,
-    ) {
-        Outcome::Refused(r) => Outcome::Refused(r),
-        Outcome::Holds(u, m) => perform(
-            image, keys, indices, kinds, starts, lengths, rows, u, m, deed,
-        ),
-    }
+    )?;
+    perform(
+        image, keys, indices, kinds, starts, lengths, rows, held.used, held.moves, deed,
+    )
 }

@@ -5,7 +5,7 @@ ghost use Rattle.loader.specs.Parts.{job_trace};
 ghost use Rattle.loader.specs.Load.{all_count, after_placing, placed_bytes, Clears, FillAsks, Fills};
 ghost use Rattle.loader.specs.InnerContracts.{InFile, Begins, PartAsks, FileSettles};
 
-use crate::deeds::Outcome;
+use crate::deeds::Held;
 use crate::error::ElfError;
 use crate::parts::{calls_and_relocations, labels_and_entry};
 use crate::read_only::{Placing, copy_sections};
@@ -57,16 +57,15 @@ pub(crate) fn clear_all(
 }
 
 // The placing of the read-only sections refuses after everything else.
-fn after_placing(a: Outcome, placing: Result<Placing, ElfError>) -> Outcome
+fn after_placing(
+    a: Result<Held, ElfError>,
+    placing: Result<Placing, ElfError>,
+) -> Result<Held, ElfError>
     ensures { result ≡ after_placing a placing }
 {
-    match a {
-        Outcome::Refused(r) => Outcome::Refused(r),
-        Outcome::Holds(used, moves) => match placing {
-            Err(r) => Outcome::Refused(r),
-            Ok(_) => Outcome::Holds(used, moves),
-        },
-    }
+    let held = a?;
+    placing?;
+    Ok(held)
 }
 
 // All parts of a load.
@@ -82,23 +81,18 @@ fn all_parts(
     table: &[u32],
     job: Job,
     rows: u64,
-) -> Outcome
+) -> Result<Held, ElfError>
     requires { PartAsks (all_count file.now job) file table job image keys indices kinds starts lengths rows 0 0 }
     ensures { FileSettles job_trace file builtins job file.now image keys indices kinds starts lengths (all_count file.now job) 0 0 result }
 {
-    match calls_and_relocations(
+    let held = calls_and_relocations(
         image, keys, indices, kinds, starts, lengths, file, builtins, table, job, rows,
-    ) {
-        Outcome::Refused(r) => Outcome::Refused(r),
-        Outcome::Holds(u, m) => {
-            let a = labels_and_entry(
-                image, keys, indices, kinds, starts, lengths, file, builtins, table, job, rows, u,
-                m,
-            );
-            let placing = job.placing;
-            after_placing(a, placing)
-        }
-    }
+    )?;
+    let a = labels_and_entry(
+        image, keys, indices, kinds, starts, lengths, file, builtins, table, job, rows, held.used,
+        held.moves,
+    );
+    after_placing(a, job.placing)
 }
 
 // The same, with the table of keys made here. Only version 1 asks for it: in version 2 an index is its
@@ -114,7 +108,7 @@ fn keyed_parts(
     builtins: &[u32],
     job: Job,
     rows: u64,
-) -> Outcome
+) -> Result<Held, ElfError>
     requires { InFile file.now job × (length image.old ≡ length file.now) × Begins (all_count file.now job) (table_of keys indices kinds starts lengths) rows 0 0 }
     ensures { FileSettles job_trace file builtins job file.now image keys indices kinds starts lengths (all_count file.now job) 0 0 result }
 {
@@ -160,19 +154,15 @@ pub(crate) fn fill_all(
     builtins: &[u32],
     job: Job,
     rows: u64,
-) -> Outcome
+) -> Result<Held, ElfError>
     requires { FillAsks file job image keys indices kinds starts lengths rows }
     ensures { Fills file builtins job image ro keys indices kinds starts lengths result }
 {
     let layout = job.layout;
     let placing = job.placing;
-    match keyed_parts(
+    let held = keyed_parts(
         image, keys, indices, kinds, starts, lengths, file, builtins, job, rows,
-    ) {
-        Outcome::Refused(r) => Outcome::Refused(r),
-        Outcome::Holds(u, m) => {
-            copy_placed(ro, image, file, layout, placing);
-            Outcome::Holds(u, m)
-        }
-    }
+    )?;
+    copy_placed(ro, image, file, layout, placing);
+    Ok(held)
 }
