@@ -74,7 +74,7 @@ two_rows = refl
 abbrev unwritten : List ℕ
 unwritten = call 0xffff_ffff ++ exit ++ exit
 
-relocated : deep unwritten 64 ∷ deep (written (Key 4 2) unwritten) 64 ∷ [] ≡ Deep 1 ∷ Deep 2 ∷ []
+relocated : deep unwritten 64 ∷ deep (written (Ok (Key 4 2)) unwritten) 64 ∷ [] ≡ Deep 1 ∷ Deep 2 ∷ []
 unfolding depth_in limit_of depth_of callee_in calls_key row_ascending_in number_at binary_search narrowed insn_at slot_at le bytes_of put ◌if◌else◌
 relocated = refl
 

@@ -10,7 +10,7 @@ use mathlib.Core.List.{List, []}
 use lib.ListN.{length, take, drop, length-take}
 use lib.Dec.{ltb, leb}
 use borrow.Author.Tests.{ltb-true, not-false}
-use Rattle.std.specs.Prelude.{Option, Some, None}
+use Rattle.std.specs.Prelude.{Option, Some, None, Result, Ok, Err}
 use Rattle.ebpf.specs.Choice.{◌if◌else◌, and_right}
 use Rattle.ebpf.specs.IndexKeys.{index_key, key_in}
 use Rattle.ebpf.proofs.Table.{key_in_none}
@@ -35,9 +35,10 @@ use Rattle.program.proofs.Cases.{by_test}
 use Rattle.loader.specs.declared.calls.Call.{Call}
 use Rattle.loader.specs.declared.calls.Call.TheVariants.{None, To, Outside}
 use Rattle.loader.specs.declared.deeds.Deed.{Deed}
-use Rattle.loader.specs.declared.deeds.Deed.TheVariants.{Skip, Refuse, Halves, Word, Key, Register, RegisterOnly, RegisterOutside}
+use Rattle.loader.specs.declared.deeds.Deed.TheVariants.{Skip, Halves, Word, Key, Register, RegisterOnly, RegisterOutside}
 use Rattle.loader.specs.declared.relocations.Relocation.{Relocation}
 use Rattle.loader.specs.declared.validate.Job.{Job}
+use Rattle.loader.specs.declared.error.ElfError.{ElfError}
 use Rattle.loader.specs.Addresses.{sum_up_to}
 use Rattle.loader.specs.Functions.{row_for, symbol_function, in_text, index_of}
 use Rattle.loader.specs.Deeds.{deed_trace}
@@ -83,28 +84,28 @@ good_key false name index name' l = (
 
 -- ---- a deed
 
-abbrev SteadyDeed : (Row → Type 0) → Deed → Type 0
-SteadyDeed P Skip = Unit {0}
-SteadyDeed P (Refuse r) = Plain r
-SteadyDeed P (Halves low high v) = Unit {0}
-SteadyDeed P (Word at v) = Unit {0}
-SteadyDeed P (Key at k) = Unit {0}
-SteadyDeed P (Register row at) = P row
-SteadyDeed P (RegisterOnly row) = P row
-SteadyDeed P (RegisterOutside row) = P row
+abbrev SteadyDeed : (Row → Type 0) → Result Deed ElfError → Type 0
+SteadyDeed P (Ok Skip) = Unit {0}
+SteadyDeed P (Err r) = Plain r
+SteadyDeed P (Ok (Halves low high v)) = Unit {0}
+SteadyDeed P (Ok (Word at v)) = Unit {0}
+SteadyDeed P (Ok (Key at k)) = Unit {0}
+SteadyDeed P (Ok (Register row at)) = P row
+SteadyDeed P (Ok (RegisterOnly row)) = P row
+SteadyDeed P (Ok (RegisterOutside row)) = P row
 
-deed_steady : (P : Row → Type 0) (d : Deed) (im : List ℕ) → SteadyDeed P d → Steady P (deed_trace d im)
+deed_steady : (P : Row → Type 0) (d : Result Deed ElfError) (im : List ℕ) → SteadyDeed P d → Steady P (deed_trace d im)
 unfolding deed_trace
-deed_steady P Skip im s = tt
-deed_steady P (Refuse r) im s = s
-deed_steady P (Halves low high v) im s = tt
-deed_steady P (Word at v) im s = tt
-deed_steady P (Key at k) im s = tt
-deed_steady P (Register row at) im s = (s, tt)
-deed_steady P (RegisterOnly row) im s = (s, tt)
-deed_steady P (RegisterOutside row) im s = (s, refl)
+deed_steady P (Ok Skip) im s = tt
+deed_steady P (Err r) im s = s
+deed_steady P (Ok (Halves low high v)) im s = tt
+deed_steady P (Ok (Word at v)) im s = tt
+deed_steady P (Ok (Key at k)) im s = tt
+deed_steady P (Ok (Register row at)) im s = (s, tt)
+deed_steady P (Ok (RegisterOnly row)) im s = (s, tt)
+deed_steady P (Ok (RegisterOutside row)) im s = (s, refl)
 
-refuse_or : (P : Row → Type 0) (b : Bool) (d e : Deed) → SteadyDeed P d → SteadyDeed P e → SteadyDeed P (d if b else e)
+refuse_or : (P : Row → Type 0) (b : Bool) (d e : Result Deed ElfError) → SteadyDeed P d → SteadyDeed P e → SteadyDeed P (d if b else e)
 refuse_or P b d e p q = picks (SteadyDeed P) b d e (λ _. p) (λ _. q)
 
 -- ---- the target of a call
@@ -140,7 +141,7 @@ module _ (file builtins : List ℕ) (j : Job) (off : j.check_collision ≡ false
   good_row name index l = good_key j.version2 name index (kept_name j.labels name) l
 
   -- what is made of a row, where it is steady with any good one
-  by_row : (f : Legacy → Deed) (name : FunctionName) (index : ℕ) → index < 2 ^ 32 → ((row : Row) → G row → SteadyDeed G (f (Free row))) → SteadyDeed G (f (row_for builtins j name index))
+  by_row : (f : Legacy → Result Deed ElfError) (name : FunctionName) (index : ℕ) → index < 2 ^ 32 → ((row : Row) → G row → SteadyDeed G (f (Free row))) → SteadyDeed G (f (row_for builtins j name index))
   by_row f name index l s = rw (free_row builtins j name index off) (s (row_of_function j name index) (good_row name index l))
 
   -- calls
@@ -192,7 +193,7 @@ module _ (file builtins : List ℕ) (j : Job) (off : j.check_collision ≡ false
   unfolding function_call
   function_steady len at name value = picks (SteadyDeed G) _ _ _ (λ _. refl) (λ e.
       by_row (register_deed len at) name (index_of j value) (index_in j value within.size (not-false (in_text j value) e))
-      (λ row g. refuse_or G (ltb len (at + 4)) (RegisterOutside row) (Register row at) g g))
+      (λ row g. refuse_or G (ltb len (at + 4)) (Ok (RegisterOutside row)) (Ok (Register row at)) g g))
 
   builtin_steady : (reject-broken : Bool) (len at r start n hash : ℕ) → SteadyDeed G (builtin_call builtins reject-broken len at r start n hash)
   unfolding builtin_call

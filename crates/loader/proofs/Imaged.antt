@@ -49,7 +49,7 @@ row_nothing (Free row) im = refl
 row_nothing (Taken key) im = refl
 
 -- a choice between deeds that write nothing
-choice_nothing : (b : Bool) (x y : Deed) (im : List ℕ) → written x im ≡ im → written y im ≡ im → written (x if b else y) im ≡ im
+choice_nothing : (b : Bool) (x y : Result Deed ElfError) (im : List ℕ) → written x im ≡ im → written y im ≡ im → written (x if b else y) im ≡ im
 unfolding ◌if◌else◌
 choice_nothing true x y im p q = p
 choice_nothing false x y im p q = q
@@ -119,14 +119,14 @@ row_clear at b (Free row) h = h
 row_clear at b (Taken key) h = refl
 
 module _ (file builtins : List ℕ) (j : Job) where
-  abbrev pub call : ℕ → List ℕ → Deed
+  abbrev pub call : ℕ → List ℕ → Result Deed ElfError
   call i im = call_deed file builtins j i
 
   pub slot_is : (i : ℕ) (im : List ℕ) → slot_trace file builtins j i im ≡ deed_trace (call i im) im
   unfolding slot_trace
   slot_is i im = refl
 
-  abbrev pub relocation : ℕ → List ℕ → Deed
+  abbrev pub relocation : ℕ → List ℕ → Result Deed ElfError
   relocation i im = relocation_deed file builtins j i im
 
   pub relocation_is : (i : ℕ) (im : List ℕ) → relocation_trace file builtins j i im ≡ deed_trace (relocation i im) im

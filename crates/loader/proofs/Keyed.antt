@@ -26,7 +26,7 @@ use Rattle.loader.specs.declared.error.ElfError.{ElfError}
 use Rattle.loader.specs.declared.validate.Job.{Job}
 use Rattle.loader.specs.Trace.{Trace, and_then, accepted, settle}
 use Rattle.loader.specs.declared.deeds.Entry.{Entry as EntryOf}
-use Rattle.loader.specs.declared.deeds.Entry.TheVariants.{Nothing, Refuse as NoEntry, Register as Enter}
+use Rattle.loader.specs.declared.deeds.Entry.TheVariants.{Nothing, Register as Enter}
 use Rattle.loader.specs.Deeds.{entry_of, deed_trace}
 use Rattle.loader.specs.Deeds as deeds
 use Rattle.loader.specs.Labels.{labels_trace}
@@ -220,15 +220,15 @@ module _ (file builtins : List ℕ) (j : Job) (cap : ℕ) (im' : List ℕ) (rows
   -- ---- the moves
 
   -- the entry's own registration moves at most all rows but one
-  entry_moves : (a : EntryOf) (im : List ℕ) (rs : List Row) (m : ℕ) → settle cap (deeds.entry_trace a im) rs m ≡ accepted im' rows moves → moves ≤ m + (cap - 1)
+  entry_moves : (a : Result EntryOf ElfError) (im : List ℕ) (rs : List Row) (m : ℕ) → settle cap (deeds.entry_trace a im) rs m ≡ accepted im' rows moves → moves ≤ m + (cap - 1)
   unfolding settle
-  entry_moves Nothing im rs m e = let n : m ≡ moves = cc in omega (arith, n)
-  entry_moves (NoEntry r) im rs m e = absurd (zero_one (cc))
-  entry_moves (Enter row false) im rs m e =
+  entry_moves (Ok Nothing) im rs m e = let n : m ≡ moves = cc in omega (arith, n)
+  entry_moves (Err r) im rs m e = absurd (zero_one (cc))
+  entry_moves (Ok (Enter row false)) im rs m e =
       let w = went (table.register cap row rs) cap row.key m _ im' rows moves e in
       let n : w.moves ≡ moves = let d = w.on in cc in
       omega (arith, w.more, n, registration_moves cap row rs)
-  entry_moves (Enter row true) im rs m e =
+  entry_moves (Ok (Enter row true)) im rs m e =
       let w = went (table.register cap row rs) cap row.key m _ im' rows moves e in
       absurd (let d = w.on in zero_one (cc))
 

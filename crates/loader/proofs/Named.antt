@@ -9,7 +9,7 @@ use mathlib.Core.List.{List}
 use lib.ListN.{length, take, drop}
 use lib.Dec.{ltb, eqb}
 use borrow.Author.Tests.{ltb-false}
-use Rattle.std.specs.Prelude.{Option, Some, None}
+use Rattle.std.specs.Prelude.{Option, Some, None, Result, Ok, Err}
 use Rattle.ebpf.specs.Choice.{◌if◌else◌}
 use Rattle.elf_parser.specs.declared.types.Elf64Sym.{Elf64Sym}
 use Rattle.elf_parser.specs.declared.layout.Layout.{Layout}
@@ -24,8 +24,9 @@ use Rattle.program.specs.declared.Legacy.{Legacy}
 use Rattle.program.specs.declared.Legacy.TheVariants.{Free, Taken}
 use Rattle.program.proofs.Cases.{zero_one}
 use Rattle.loader.specs.declared.deeds.Deed.{Deed}
-use Rattle.loader.specs.declared.deeds.Deed.TheVariants.{Skip, Refuse, Halves, Word, Key, Register, RegisterOnly, RegisterOutside}
+use Rattle.loader.specs.declared.deeds.Deed.TheVariants.{Skip, Halves, Word, Key, Register, RegisterOnly, RegisterOutside}
 use Rattle.loader.specs.declared.validate.Job.{Job}
+use Rattle.loader.specs.declared.error.ElfError.{ElfError}
 use Rattle.loader.specs.Addresses.{sum_up_to}
 use Rattle.loader.specs.Functions.{row_for, index_of}
 use Rattle.loader.specs.Relocations.{immediate_at, halves_deed, word_deed, address_deed, symbol_deed, plan6464, relative_text, plan_relative, register_deed, function_call, builtin_call, call_by_name, named_call, symbol_call, plan6432, plan_at, plan_of, text_holds}
@@ -33,31 +34,31 @@ use Rattle.loader.specs.Deeds.{is_in, writes}
 use Rattle.loader.specs.Demand.{in_halves, named_by, named_at}
 
 -- the load stops at it
-abbrev pub stops : Deed → Bool
-stops Skip = false
-stops (Refuse r) = true
-stops (Halves low high v) = false
-stops (Word at v) = false
-stops (Key at k) = false
-stops (Register row at) = false
-stops (RegisterOnly row) = false
-stops (RegisterOutside row) = true
+abbrev pub stops : Result Deed ElfError → Bool
+stops (Ok Skip) = false
+stops (Err r) = true
+stops (Ok (Halves low high v)) = false
+stops (Ok (Word at v)) = false
+stops (Ok (Key at k)) = false
+stops (Ok (Register row at)) = false
+stops (Ok (RegisterOnly row)) = false
+stops (Ok (RegisterOutside row)) = true
 
 -- of the byte b: a deed that does not stop the load writes it exactly where it is named
 module _ (b : ℕ) where
-  abbrev Clear : Bool → Deed → Type 0
+  abbrev Clear : Bool → Result Deed ElfError → Type 0
   Clear named d = stops d ≡ false → named ≡ writes d b
 
   never : {A : Type 0} → ◌≡◌ {A = Bool} true false → A
   never e = absurd (zero_one (cc))
 
   -- a choice, and one that the names make too
-  one : (p t : Bool) (x y : Deed) → Clear p x → (t ≡ false → Clear p y) → Clear p (x if t else y)
+  one : (p t : Bool) (x y : Result Deed ElfError) → Clear p x → (t ≡ false → Clear p y) → Clear p (x if t else y)
   unfolding ◌if◌else◌
   one p true x y f g = f
   one p false x y f g = g refl
 
-  both : (p q t : Bool) (x y : Deed) → Clear p x → Clear q y → Clear (p if t else q) (x if t else y)
+  both : (p q t : Bool) (x y : Result Deed ElfError) → Clear p x → Clear q y → Clear (p if t else q) (x if t else y)
   unfolding ◌if◌else◌
   both p q true x y f g = f
   both p q false x y f g = g
@@ -166,15 +167,15 @@ pub named_exactly : (b : ℕ) (s im builtins : List ℕ) (j : Job) (p : Option �
 named_exactly b s im builtins j (Some r) info addend short h = at_clear b s im short r builtins j info addend h
 named_exactly b s im builtins j None info addend short h = never b h
 
-stopped : (b : ℕ) (d : Deed) → stops d ≡ true → writes d b ≡ false
-stopped b (Refuse r) e = refl
-stopped b (RegisterOutside row) e = refl
-stopped b Skip e = refl
-stopped b (RegisterOnly row) e = refl
-stopped b (Halves low high v) e = never b (sym e)
-stopped b (Word at v) e = never b (sym e)
-stopped b (Key at k) e = never b (sym e)
-stopped b (Register row at) e = never b (sym e)
+stopped : (b : ℕ) (d : Result Deed ElfError) → stops d ≡ true → writes d b ≡ false
+stopped b (Err r) e = refl
+stopped b (Ok (RegisterOutside row)) e = refl
+stopped b (Ok Skip) e = refl
+stopped b (Ok (RegisterOnly row)) e = refl
+stopped b (Ok (Halves low high v)) e = never b (sym e)
+stopped b (Ok (Word at v)) e = never b (sym e)
+stopped b (Ok (Key at k)) e = never b (sym e)
+stopped b (Ok (Register row at)) e = never b (sym e)
 
 -- so a byte that a relocation does not name is not written by it
 pub unnamed_clear : (b : ℕ) (s im builtins : List ℕ) (j : Job) (p : Option ℕ) (info : ℕ) (addend : Option ℕ) → length im ≤ 2 ^ 24

@@ -24,7 +24,6 @@ use Rattle.loader.specs.declared.read_only.Placing.{Placing}
 use Rattle.loader.specs.declared.error.ElfError.{ElfError}
 use Rattle.loader.specs.declared.error.ElfError.TheVariants.{InvalidEntrypoint, SymbolHashCollision, TableFull}
 use Rattle.loader.specs.declared.deeds.Deed.{Deed}
-use Rattle.loader.specs.declared.deeds.Deed.TheVariants.{Refuse}
 use Rattle.loader.specs.declared.validate.Config.{Config}
 use Rattle.loader.specs.declared.validate.Job.{Job}
 use Rattle.loader.specs.declared.answer.Accepted.{Accepted}
@@ -107,7 +106,7 @@ module _ (file builtins : List ℕ) (j : Job) (off : j.check_collision ≡ false
   -- the entry's two ways
   entered : (Q : Trace → Type 0) (im : List ℕ) → Q (stop InvalidEntrypoint) → Q (register row (done im)) → Q (deed_trace (entry_deed builtins j) im)
   unfolding entry_deed deed_trace
-  entered Q im no_slot goes_on = picks (λ (d : Deed). Q (deed_trace d im)) (not (eqb ((j.e_entry - j.sh_addr) % 8) 0)) (Refuse InvalidEntrypoint) (label_row (row_for builtins j Entrypoint (entry_index j)))
+  entered Q im no_slot goes_on = picks (λ (d : Result Deed ElfError). Q (deed_trace d im)) (not (eqb ((j.e_entry - j.sh_addr) % 8) 0)) (Err InvalidEntrypoint) (label_row (row_for builtins j Entrypoint (entry_index j)))
       (λ _. no_slot)
       (λ _. rw (free_row builtins j Entrypoint (entry_index j) off) goes_on)
 

@@ -10,7 +10,7 @@ use lib.Dec.{eqb}
 use lib.Bits.{bit_and}
 use native.Mathlib.Omega.{arith}
 use borrow.Author.Tests.{eqb-true}
-use Rattle.std.specs.Prelude.{Option, Some, None}
+use Rattle.std.specs.Prelude.{Option, Some, None, Result, Ok, Err}
 use Rattle.ebpf.specs.Choice.{◌if◌else◌, eq_not}
 use Rattle.elf_parser.specs.declared.types.Elf64Sym.{Elf64Sym}
 use Rattle.elf_parser.specs.declared.parts.Place.{Place}
@@ -28,10 +28,10 @@ use Rattle.loader.specs.declared.error.ElfError.TheVariants.{InvalidEntrypoint}
 use Rattle.loader.specs.declared.calls.Call.{Call}
 use Rattle.loader.specs.declared.calls.Call.TheVariants.{None, To, Outside}
 use Rattle.loader.specs.declared.deeds.Deed.{Deed}
-use Rattle.loader.specs.declared.deeds.Deed.TheVariants.{Refuse}
 use Rattle.loader.specs.declared.deeds.Entry.{Entry}
-use Rattle.loader.specs.declared.deeds.Entry.TheVariants.{Nothing, Refuse as NoEntry, Register as Enter}
+use Rattle.loader.specs.declared.deeds.Entry.TheVariants.{Nothing, Register as Enter}
 use Rattle.loader.specs.declared.validate.Job.{Job}
+use Rattle.loader.specs.declared.error.ElfError.{ElfError}
 use Rattle.loader.specs.Deeds.{entry_of, written, entry_trace, deed_trace}
 use Rattle.loader.specs.Functions.{row_for, symbol_function, index_of}
 use Rattle.loader.specs.Addresses.{sum_up_to}
@@ -48,32 +48,32 @@ use Rattle.loader.proofs.Traces.{asks_then, keeps_then, keeps_each, ends_turn, a
 
 -- ---- a deed
 
-entry_asks : (e : Entry) (P : Row → Type 0) → AsksFor e P → (im im' : List ℕ) → Ends (entry_trace e im) im' → (row : Row) → Asks row (entry_trace e im) ↔ P row
-entry_asks Nothing P h im im' e row = (λ a. absurd a, λ p. absurd (h row p))
-entry_asks (NoEntry r) P h im im' e row = absurd e
-entry_asks (Enter r true) P h im im' e row = absurd e
-entry_asks (Enter r false) P h im im' e row = (λ a. (h row).1 (only a), λ p. inl ((h row).0 p))
+entry_asks : (e : Result Entry ElfError) (P : Row → Type 0) → AsksFor e P → (im im' : List ℕ) → Ends (entry_trace e im) im' → (row : Row) → Asks row (entry_trace e im) ↔ P row
+entry_asks (Ok Nothing) P h im im' e row = (λ a. absurd a, λ p. absurd (h row p))
+entry_asks (Err r) P h im im' e row = absurd e
+entry_asks (Ok (Enter r true)) P h im im' e row = absurd e
+entry_asks (Ok (Enter r false)) P h im im' e row = (λ a. (h row).1 (only a), λ p. inl ((h row).0 p))
   where
     only : (row ≡ r) ⊎ ⊥ → row ≡ r
     only (inl s) = s
     only (inr z) = absurd z
 
-pub deed_asks : (d : Deed) (P : Row → Type 0) → AsksFor (entry_of d) P → (im im' : List ℕ) → Ends (deed_trace d im) im' → (row : Row) → Asks row (deed_trace d im) ↔ P row
+pub deed_asks : (d : Result Deed ElfError) (P : Row → Type 0) → AsksFor (entry_of d) P → (im im' : List ℕ) → Ends (deed_trace d im) im' → (row : Row) → Asks row (deed_trace d im) ↔ P row
 unfolding deed_trace
 deed_asks d P h im im' e row = entry_asks (entry_of d) P h (written d im) im' e row
 
-pub deed_keeps : (d : Deed) (im : List ℕ) → Keeps (deed_trace d im)
+pub deed_keeps : (d : Result Deed ElfError) (im : List ℕ) → Keeps (deed_trace d im)
 unfolding deed_trace
 deed_keeps d im = go (entry_of d) (written d im)
   where
-    go : (e : Entry) (im : List ℕ) → Keeps (entry_trace e im)
-    go Nothing im = tt
-    go (NoEntry r) im = tt
-    go (Enter r true) im = tt
-    go (Enter r false) im = tt
+    go : (e : Result Entry ElfError) (im : List ℕ) → Keeps (entry_trace e im)
+    go (Ok Nothing) im = tt
+    go (Err r) im = tt
+    go (Ok (Enter r true)) im = tt
+    go (Ok (Enter r false)) im = tt
 
 -- a choice asks for what it picks
-either : (b : Bool) (x y : Deed) (P : Row → Type 0) → (b ≡ true → AsksFor (entry_of x) P) → (b ≡ false → AsksFor (entry_of y) P) → AsksFor (entry_of (x if b else y)) P
+either : (b : Bool) (x y : Result Deed ElfError) (P : Row → Type 0) → (b ≡ true → AsksFor (entry_of x) P) → (b ≡ false → AsksFor (entry_of y) P) → AsksFor (entry_of (x if b else y)) P
 unfolding ◌if◌else◌
 either true x y P p q = p refl
 either false x y P p q = q refl
@@ -272,7 +272,7 @@ pub entry_row : (builtins : List ℕ) (j : Job) (im im' : List ℕ) → Ends (de
 unfolding entry_deed deed_trace ◌if◌else◌
 entry_row builtins j im im' e = go (not (eqb ((j.e_entry - j.sh_addr) % 8) 0)) (row_for builtins j Entrypoint (entry_index j)) e
   where
-    go : (b : Bool) (x : Legacy) → Ends (deed_trace (Refuse InvalidEntrypoint if b else label_row x) im) im' → (row : Row) × (x ≡ Free row)
+    go : (b : Bool) (x : Legacy) → Ends (deed_trace (Err InvalidEntrypoint if b else label_row x) im) im' → (row : Row) × (x ≡ Free row)
     go true x e = absurd e
     go false (Free row) e = (row, refl)
     go false (Taken key) e = absurd e

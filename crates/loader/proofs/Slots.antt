@@ -22,6 +22,7 @@ use Rattle.loader.specs.declared.calls.Call.{Call}
 use Rattle.loader.specs.declared.calls.Call.TheVariants.{None, To, Outside}
 use Rattle.loader.specs.declared.deeds.Deed.TheVariants.{Skip}
 use Rattle.loader.specs.declared.validate.Job.{Job}
+use Rattle.std.specs.Prelude.{Ok}
 use Rattle.loader.specs.Functions.{row_for}
 use Rattle.loader.specs.Deeds.{DeedFits, deed_trace}
 use Rattle.loader.specs.Trace.{and_then, each}
@@ -61,7 +62,7 @@ none_by text version2 i h e =
     let other : eqb (le 1 text (8 * i)) 0x85 ≡ false = ne_eqb _ _ e in
     rw there (rw other refl)
 
-no_call : (file builtins : List ℕ) (j : Job) → InFile file j → (i : ℕ) → i < slot_count j → (get_or file (j.start + 8 * i) 0 ≡ 0x85 → ⊥) → call_deed file builtins j i ≡ Skip
+no_call : (file builtins : List ℕ) (j : Job) → InFile file j → (i : ℕ) → i < slot_count j → (get_or file (j.start + 8 * i) 0 ≡ 0x85 → ⊥) → call_deed file builtins j i ≡ Ok Skip
 unfolding call_deed
 no_call file builtins j inside i h e =
     let text = text_of file j in
@@ -80,7 +81,7 @@ next_bounds file start (suc n) i = go (eqb (get_or file (start + 8 * i) 0) 0x85)
 
 -- so what slots ask for is what those from the next call on ask for
 module _ (file builtins : List ℕ) (j : Job) (inside : InFile file j) (im : List ℕ) where
-  passed : (n i : ℕ) → call_deed file builtins j i ≡ Skip → each (slot_trace file builtins j) (suc n) i im ≡ each (slot_trace file builtins j) n (i + 1) im
+  passed : (n i : ℕ) → call_deed file builtins j i ≡ Ok Skip → each (slot_trace file builtins j) (suc n) i im ≡ each (slot_trace file builtins j) n (i + 1) im
   unfolding slot_trace deed_trace each and_then
   passed n i e = rw e refl
 

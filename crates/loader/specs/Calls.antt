@@ -1,7 +1,7 @@
 -- Local calls.
 use Prim.Native.Nat.{ℕ, zero, suc, ◌+◌, ◌-◌, ◌*◌, ◌/◌, ◌≤◌, ◌<◌}
 use Rattle.std.proofs.Common.{arith, ◌∙◌}
-use Rattle.std.specs.Prelude.{◌≡◌, Bool, ◌&&◌, not, List, length, take, drop, get_or, ltb}
+use Rattle.std.specs.Prelude.{◌≡◌, Bool, ◌&&◌, not, List, length, take, drop, get_or, ltb, Result, Ok, Err}
 use Rattle.std.proofs.Math.Path.{refl}
 use Rattle.std.proofs.Math.Bool.{true, false}
 use Rattle.std.proofs.Math.Dec.{eqb}
@@ -18,8 +18,9 @@ use Rattle.loader.specs.declared.error.ElfError.TheVariants.{RelativeJumpOutOfBo
 use Rattle.loader.specs.declared.calls.Call.{Call}
 use Rattle.loader.specs.declared.calls.Call.TheVariants.{None, To, Outside}
 use Rattle.loader.specs.declared.deeds.Deed.{Deed}
-use Rattle.loader.specs.declared.deeds.Deed.TheVariants.{Skip, Refuse, Register}
+use Rattle.loader.specs.declared.deeds.Deed.TheVariants.{Skip, Register}
 use Rattle.loader.specs.declared.validate.Job.{Job}
+use Rattle.loader.specs.declared.error.ElfError.{ElfError}
 use Rattle.loader.specs.Functions.{row_for}
 use Rattle.loader.specs.Trace.{Trace, each}
 use Rattle.loader.specs.Deeds.{deed_trace}
@@ -65,17 +66,17 @@ slot_count j = j.length / 8
 abbrev pub immediate : Job → ℕ → ℕ
 immediate j i = j.start + 8 * i + 4
 
-abbrev pub call_row : ℕ → Legacy → Deed
-call_row at (Free row) = Register row at
-call_row at (Taken key) = Refuse (SymbolHashCollision key)
+abbrev pub call_row : ℕ → Legacy → Result Deed ElfError
+call_row at (Free row) = Ok (Register row at)
+call_row at (Taken key) = Err (SymbolHashCollision key)
 
-abbrev pub call_by : List ℕ → Job → ℕ → Call → Deed
-call_by builtins j i None = Skip
-call_by builtins j i Outside = Refuse (RelativeJumpOutOfBounds i)
+abbrev pub call_by : List ℕ → Job → ℕ → Call → Result Deed ElfError
+call_by builtins j i None = Ok Skip
+call_by builtins j i Outside = Err (RelativeJumpOutOfBounds i)
 call_by builtins j i (To index) = call_row (immediate j i) (row_for builtins j OfIndex index)
 
 -- what a load does about slot number i
-unfoldable pub call_deed : List ℕ → List ℕ → Job → ℕ → Deed
+unfoldable pub call_deed : List ℕ → List ℕ → Job → ℕ → Result Deed ElfError
 call_deed file builtins j i = call_by builtins j i (call_at (text_of file j) j.version2 i)
 
 unfoldable pub slot_trace : List ℕ → List ℕ → Job → ℕ → List ℕ → Trace

@@ -1,7 +1,7 @@
 -- What a relocation asks for. A place r is an offset in the file; `s` is the file, `im` the image as the relocations before left it.
 use Prim.Native.Nat.{ℕ, zero, suc, ◌+◌, ◌-◌, ◌*◌, ◌/◌, ◌%◌, ◌≤◌, ◌<◌, ◌^◌, min}
 use Rattle.std.proofs.Common.{arith, add-one, ltb-false, leb-false}
-use Rattle.std.specs.Prelude.{◌≡◌, Bool, true, false, ◌&&◌, ◌||◌, not, List, length, take, drop, ltb, leb, eqb, Option, Some, None, unwrap_or}
+use Rattle.std.specs.Prelude.{◌≡◌, Bool, true, false, ◌&&◌, ◌||◌, not, List, length, take, drop, ltb, leb, eqb, Option, Some, None, unwrap_or, Result, Ok, Err}
 use Rattle.std.proofs.Math.Path.{refl}
 use Rattle.ebpf.specs.Choice.{◌if◌else◌}
 use Rattle.ebpf.specs.LittleEndian.{le, join}
@@ -35,7 +35,8 @@ use Rattle.loader.specs.declared.error.ElfError.TheVariants.{UnresolvedSymbol, S
 use Rattle.loader.specs.declared.validate.Job.{Job}
 use Rattle.loader.specs.declared.relocations.Relocation.{Relocation}
 use Rattle.loader.specs.declared.deeds.Deed.{Deed}
-use Rattle.loader.specs.declared.deeds.Deed.TheVariants.{Refuse, Halves, Word, Key, Register, RegisterOutside}
+use Rattle.loader.specs.declared.deeds.Deed.TheVariants.{Halves, Word, Key, Register, RegisterOutside}
+use Rattle.loader.specs.declared.error.ElfError.{ElfError}
 use Rattle.loader.specs.Addresses.{sum_up_to, MM_PROGRAM_START}
 use Rattle.loader.specs.Functions.{row_for, symbol_function, in_text, index_of}
 use Rattle.loader.specs.Trace.{Trace, each}
@@ -123,46 +124,46 @@ is_negative (Some a) = leb (2 ^ 63) a
 
 -- ---- type 1: a symbol's address plus the addend, or the four bytes that are there
 
-unfoldable pub halves_deed : ℕ → ℕ → ℕ → ℕ → Deed
+unfoldable pub halves_deed : ℕ → ℕ → ℕ → ℕ → Result Deed ElfError
 halves_deed len low high value =
-    Refuse ValueOutOfBounds if ltb len (low + 4) else
-    Refuse ValueOutOfBounds if ltb len (high + 4) else
-    Halves low high value
+    Err ValueOutOfBounds if ltb len (low + 4) else
+    Err ValueOutOfBounds if ltb len (high + 4) else
+    Ok (Halves low high value)
 
-unfoldable pub word_deed : ℕ → ℕ → ℕ → Deed
+unfoldable pub word_deed : ℕ → ℕ → ℕ → Result Deed ElfError
 word_deed len at value =
-    Refuse ValueOutOfBounds if ltb len (at + 8) else
-    Word at value
+    Err ValueOutOfBounds if ltb len (at + 8) else
+    Ok (Word at value)
 
 -- two halves 8 bytes apart, or one number
-unfoldable pub address_deed : ℕ → Bool → ℕ → ℕ → Deed
+unfoldable pub address_deed : ℕ → Bool → ℕ → ℕ → Result Deed ElfError
 address_deed len split at value = halves_deed len at (sum_up_to at 8) value if split else word_deed len at value
 
-abbrev pub symbol_deed : ℕ → Bool → ℕ → ℕ → ℕ → Sym → Deed
+abbrev pub symbol_deed : ℕ → Bool → ℕ → ℕ → ℕ → Sym → Result Deed ElfError
 symbol_deed len split at addend number (Symbol y) = address_deed len split at (program_address (sum_up_to y.st_value addend))
-symbol_deed len split at addend number (NoSym e) = Refuse (UnknownSymbol number)
+symbol_deed len split at addend number (NoSym e) = Err (UnknownSymbol number)
 
-unfoldable pub plan6464 : List ℕ → List ℕ → Layout → Bool → ℕ → ℕ → Option ℕ → Deed
+unfoldable pub plan6464 : List ℕ → List ℕ → Layout → Bool → ℕ → ℕ → Option ℕ → Result Deed ElfError
 plan6464 s im l split r number addend =
     let at : ℕ = immediate_at r if split else r in
-    Refuse ValueOutOfBounds if ltb (length im) (at + 4) else
+    Err ValueOutOfBounds if ltb (length im) (at + 4) else
     symbol_deed (length im) split at (unwrap_or addend (le 4 im at)) number (dynamic_symbol_of s l number)
 
 -- ---- type 8: the addend, or the address that is there
 
 -- in the text: an instruction's two halves
-unfoldable pub relative_text : ℕ → ℕ → ℕ → ℕ → Deed
+unfoldable pub relative_text : ℕ → ℕ → ℕ → ℕ → Result Deed ElfError
 relative_text len low high address =
-    Refuse ValueOutOfBounds if ltb len (low + 4) else
-    Refuse ValueOutOfBounds if ltb len (high + 4) else
-    Refuse InvalidVirtualAddress if eqb address 0 else
-    Halves low high (program_address address)
+    Err ValueOutOfBounds if ltb len (low + 4) else
+    Err ValueOutOfBounds if ltb len (high + 4) else
+    Err InvalidVirtualAddress if eqb address 0 else
+    Ok (Halves low high (program_address address))
 
 -- elsewhere: the eight bytes, in version 1 the upper four of them
 unfoldable pub relative_value : Bool → ℕ → ℕ → ℕ
 relative_value version2 upper whole = program_address whole if version2 else MM_PROGRAM_START + upper
 
-unfoldable pub plan_relative : List ℕ → Bool → Bool → ℕ → Option ℕ → Deed
+unfoldable pub plan_relative : List ℕ → Bool → Bool → ℕ → Option ℕ → Result Deed ElfError
 plan_relative im version2 in_text_lem r addend =
     let low : ℕ = immediate_at r in
     let high : ℕ = immediate_at (sum_up_to r 8) in
@@ -172,41 +173,41 @@ plan_relative im version2 in_text_lem r addend =
 -- ---- type 10: a call by a symbol's name
 
 -- a function to register, and the place of its key
-abbrev pub register_deed : ℕ → ℕ → Legacy → Deed
-register_deed len at (Taken key) = Refuse (SymbolHashCollision key)
-register_deed len at (Free row) = RegisterOutside row if ltb len (at + 4) else Register row at
+abbrev pub register_deed : ℕ → ℕ → Legacy → Result Deed ElfError
+register_deed len at (Taken key) = Err (SymbolHashCollision key)
+register_deed len at (Free row) = Ok (RegisterOutside row) if ltb len (at + 4) else Ok (Register row at)
 
-unfoldable pub function_call : List ℕ → Job → ℕ → ℕ → FunctionName → ℕ → Deed
+unfoldable pub function_call : List ℕ → Job → ℕ → ℕ → FunctionName → ℕ → Result Deed ElfError
 function_call builtins j len at name value =
-    Refuse ValueOutOfBounds if not (in_text j value) else
+    Err ValueOutOfBounds if not (in_text j value) else
     register_deed len at (row_for builtins j name (index_of j value))
 
 -- a hash, which must be a built-in's key where broken files are rejected
-unfoldable pub builtin_call : List ℕ → Bool → ℕ → ℕ → ℕ → ℕ → ℕ → ℕ → Deed
+unfoldable pub builtin_call : List ℕ → Bool → ℕ → ℕ → ℕ → ℕ → ℕ → ℕ → Result Deed ElfError
 builtin_call builtins reject-broken len at r start n hash =
-    Refuse (UnresolvedSymbol start n r) if reject-broken && not (is_among hash builtins) else
-    Refuse ValueOutOfBounds if ltb len (at + 4) else
-    Key at hash
+    Err (UnresolvedSymbol start n r) if reject-broken && not (is_among hash builtins) else
+    Err ValueOutOfBounds if ltb len (at + 4) else
+    Ok (Key at hash)
 
 -- STT_FUNC, and its value is not 0
 abbrev pub is_function : Elf64Sym → Bool
 is_function y = eqb (y.st_info % 16) 2 && not (eqb y.st_value 0)
 
 -- a symbol whose name is the n bytes `part` at `start`
-unfoldable pub call_by_name : List ℕ → List ℕ → Job → ℕ → ℕ → Elf64Sym → ℕ → ℕ → Deed
+unfoldable pub call_by_name : List ℕ → List ℕ → Job → ℕ → ℕ → Elf64Sym → ℕ → ℕ → Result Deed ElfError
 call_by_name part builtins j len r y start n =
     function_call builtins j len (immediate_at r) (symbol_function part start n) y.st_value if is_function y else
     builtin_call builtins j.reject_broken len (immediate_at r) r start n (murmur3 part)
 
-abbrev pub named_call : List ℕ → List ℕ → Job → ℕ → ℕ → Elf64Sym → Place → Deed
+abbrev pub named_call : List ℕ → List ℕ → Job → ℕ → ℕ → Elf64Sym → Place → Result Deed ElfError
 named_call s builtins j len r y (Stands start n) = call_by_name (take n (drop start s)) builtins j len r y start n
-named_call s builtins j len r y (NoPlace e) = Refuse (UnknownSymbol y.st_name)
+named_call s builtins j len r y (NoPlace e) = Err (UnknownSymbol y.st_name)
 
-abbrev pub symbol_call : List ℕ → List ℕ → Job → ℕ → ℕ → ℕ → Sym → Deed
+abbrev pub symbol_call : List ℕ → List ℕ → Job → ℕ → ℕ → ℕ → Sym → Result Deed ElfError
 symbol_call s builtins j len r number (Symbol y) = named_call s builtins j len r y (dynamic_symbol_name s j.layout y.st_name)
-symbol_call s builtins j len r number (NoSym e) = Refuse (UnknownSymbol number)
+symbol_call s builtins j len r number (NoSym e) = Err (UnknownSymbol number)
 
-unfoldable pub plan6432 : List ℕ → List ℕ → Job → ℕ → ℕ → ℕ → Deed
+unfoldable pub plan6432 : List ℕ → List ℕ → Job → ℕ → ℕ → ℕ → Result Deed ElfError
 plan6432 s builtins j len r number = symbol_call s builtins j len r number (dynamic_symbol_of s j.layout number)
 
 -- ---- all types
@@ -219,17 +220,17 @@ text_holds j r = within j.start j.length r
 abbrev pub uses_addend : ℕ → Bool
 uses_addend type = eqb type 1 || eqb type 8
 
-unfoldable pub plan_at : List ℕ → List ℕ → List ℕ → Job → ℕ → ℕ → Option ℕ → Deed
+unfoldable pub plan_at : List ℕ → List ℕ → List ℕ → Job → ℕ → ℕ → Option ℕ → Result Deed ElfError
 plan_at s im builtins j r info addend =
-    Refuse AddendNegative if uses_addend (info % 2 ^ 32) && is_negative addend else
+    Err AddendNegative if uses_addend (info % 2 ^ 32) && is_negative addend else
     plan6464 s im j.layout (text_holds j r || not j.version2) r (info / 2 ^ 32) addend if eqb (info % 2 ^ 32) 1 else
     plan_relative im j.version2 (text_holds j r) r addend if eqb (info % 2 ^ 32) 8 else
     plan6432 s builtins j (length im) r (info / 2 ^ 32) if eqb (info % 2 ^ 32) 10 else
-    Refuse (UnknownRelocation (info % 2 ^ 32))
+    Err (UnknownRelocation (info % 2 ^ 32))
 
-abbrev pub plan_of : List ℕ → List ℕ → List ℕ → Job → Option ℕ → ℕ → Option ℕ → Deed
+abbrev pub plan_of : List ℕ → List ℕ → List ℕ → Job → Option ℕ → ℕ → Option ℕ → Result Deed ElfError
 plan_of s im builtins j (Some r) info addend = plan_at s im builtins j r info addend
-plan_of s im builtins j None info addend = Refuse ValueOutOfBounds
+plan_of s im builtins j None info addend = Err ValueOutOfBounds
 
 -- the place that the relocation number i means
 abbrev pub place_in : List ℕ → Layout → Bool → ℕ → Option ℕ
@@ -239,7 +240,7 @@ abbrev pub place_at : List ℕ → Job → ℕ → Option ℕ
 place_at s j i = place_in s j.layout j.version2 i
 
 -- what a load does about the relocation number i
-abbrev pub relocation_deed : List ℕ → List ℕ → Job → ℕ → List ℕ → Deed
+abbrev pub relocation_deed : List ℕ → List ℕ → Job → ℕ → List ℕ → Result Deed ElfError
 relocation_deed s builtins j i im = plan_of s im builtins j (place_at s j i) (relocation_at s j.layout i).r_info (relocation_at s j.layout i).addend
 
 unfoldable pub relocation_trace : List ℕ → List ℕ → Job → ℕ → List ℕ → Trace
@@ -285,7 +286,7 @@ addend_small (Some a) n e l = leb-false (2 ^ 63) a e
 -- ---- the bytes that a relocation writes lie in the image
 
 -- a choice fits if what it picks does
-pub either : (len : ℕ) (b : Bool) (x y : Deed) → (b ≡ true → DeedFits len x) → (b ≡ false → DeedFits len y) → DeedFits len (x if b else y)
+pub either : (len : ℕ) (b : Bool) (x y : Result Deed ElfError) → (b ≡ true → DeedFits len x) → (b ≡ false → DeedFits len y) → DeedFits len (x if b else y)
 unfolding ◌if◌else◌
 either len true x y p q = p refl
 either len false x y p q = q refl

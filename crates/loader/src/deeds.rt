@@ -1,6 +1,6 @@
-// What a part of a load does: write some bytes of the image, register a function, or refuse. The
-// functions that decide on relocations, labels and the entry give a `Deed`; this module carries it out.
-ghost use Rattle.std.specs.Prelude.{◌≡◌, ◌+◌, ◌/◌, ◌%◌, ◌≤◌, ◌<◌, ◌^◌, length};
+// What a part of a load does: write some bytes of the image, or register a function. The functions that
+// decide on relocations, labels and the entry give a `Deed` or refuse; this module carries it out.
+ghost use Rattle.std.specs.Prelude.{Ok, ◌≡◌, ◌+◌, ◌/◌, ◌%◌, ◌≤◌, ◌<◌, ◌^◌, length};
 ghost use Rattle.program.specs.Table.{Alike, table_before, table_after, table_of};
 ghost use Rattle.program.specs.Runs.{moves_of};
 ghost use Rattle.loader.specs.Bytes.{put};
@@ -14,7 +14,6 @@ use program::{Registered, Row, register_alike, register_function};
 #[derive(Clone, Copy)]
 pub enum Deed {
     Skip,
-    Refuse(ElfError),
     // The halves of a number, four bytes each.
     Halves { low: usize, high: usize, value: u64 },
     // A number of eight bytes.
@@ -30,10 +29,10 @@ pub enum Deed {
 }
 
 // What a deed asks of the table.
+// Kept: an Option of a struct leaves the proofs no case by `outside`.
 #[derive(Clone, Copy)]
 pub enum Entry {
     Nothing,
-    Refuse(ElfError),
     Register { row: Row, outside: bool },
 }
 
@@ -45,23 +44,11 @@ pub struct Held {
 }
 
 fn entry_of(deed: Deed) -> Entry
-    ensures { result ≡ entry_of deed }
+    ensures { Ok result ≡ entry_of (Ok deed) }
 {
     match deed {
-        Deed::Skip => Entry::Nothing,
-        Deed::Refuse(r) => Entry::Refuse(r),
-        Deed::Halves {
-            low: _,
-            high: _,
-            value: _,
-        } => Entry::Nothing,
-        Deed::Word { at: _, value: _ } => Entry::Nothing,
-        Deed::Key { at: _, key: _ } => Entry::Nothing,
-        Deed::Register { row, at: _ } => Entry::Register {
-            row,
-            outside: false,
-        },
-        Deed::RegisterOnly { row } => Entry::Register {
+        Deed::Skip | Deed::Halves { .. } | Deed::Word { .. } | Deed::Key { .. } => Entry::Nothing,
+        Deed::Register { row, .. } | Deed::RegisterOnly { row } => Entry::Register {
             row,
             outside: false,
         },
@@ -97,18 +84,15 @@ fn store_halves(image: &mut [u8], low: usize, high: usize, v: u64)
 
 // The bytes that a deed writes.
 fn write(image: &mut [u8], deed: Deed)
-    requires { DeedFits (length image.old) deed }
-    ensures { image.new ≡ written deed image.old }
+    requires { DeedFits (length image.old) (Ok deed) }
+    ensures { image.new ≡ written (Ok deed) image.old }
 {
     match deed {
-        Deed::Skip => {}
-        Deed::Refuse(_) => {}
+        Deed::Skip | Deed::RegisterOnly { .. } | Deed::RegisterOutside { .. } => {}
         Deed::Halves { low, high, value } => store_halves(image, low, high, value),
         Deed::Word { at, value } => store_halves(image, at, at + 4, value),
         Deed::Key { at, key } => store_u32(image, at, key),
         Deed::Register { row, at } => store_u32(image, at, row.key),
-        Deed::RegisterOnly { row: _ } => {}
-        Deed::RegisterOutside { row: _ } => {}
     }
 }
 
@@ -198,13 +182,12 @@ pub(crate) fn perform(
     moves: u64,
     deed: Deed,
 ) -> Result<Held, ElfError>
-    requires { DeedFits (length image.old) deed × Begins 1 (table_of keys indices kinds starts lengths) rows used moves }
-    ensures { PartSettles (deed_trace deed image.old) image keys indices kinds starts lengths 1 used moves result }
+    requires { DeedFits (length image.old) (Ok deed) × Begins 1 (table_of keys indices kinds starts lengths) rows used moves }
+    ensures { PartSettles (deed_trace (Ok deed) image.old) image keys indices kinds starts lengths 1 used moves result }
 {
     write(image, deed);
     match entry_of(deed) {
         Entry::Nothing => Ok(Held { used, moves }),
-        Entry::Refuse(r) => Err(r),
         Entry::Register { row, outside } => {
             let a = enter(
                 keys, indices, kinds, starts, lengths, rows, used, moves, row,
@@ -228,8 +211,8 @@ pub(crate) fn perform_relocation(
     moves: u64,
     deed: Deed,
 ) -> Result<Held, ElfError>
-    requires { DeedFits (length image.old) deed × Begins 1 (table_of keys indices kinds starts lengths) rows used moves }
-    ensures { PartSettles (deed_trace deed image.old) image keys indices kinds starts lengths 1 used moves result }
+    requires { DeedFits (length image.old) (Ok deed) × Begins 1 (table_of keys indices kinds starts lengths) rows used moves }
+    ensures { PartSettles (deed_trace (Ok deed) image.old) image keys indices kinds starts lengths 1 used moves result }
 {
     let entry = entry_of(deed);
     if let Entry::Nothing = entry {

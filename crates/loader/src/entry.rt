@@ -15,13 +15,13 @@ use crate::validate::Job;
 use program::{ENTRYPOINT_KEY, FunctionName, Removed, unregister_function};
 
 // What a load does about the entry.
-fn entry_deed(builtins: &[u32], table: &[u32], job: Job) -> Deed
+fn entry_deed(builtins: &[u32], table: &[u32], job: Job) -> Result<Deed, ElfError>
     requires { Keyed table.now × (job.e_entry - job.sh_addr ≤ 2 ^ 24) }
     ensures { result ≡ entry_deed builtins.now job }
 {
     let offset = saturating_sub(job.e_entry, job.sh_addr);
     if offset % 8 != 0 {
-        return Deed::Refuse(ElfError::InvalidEntrypoint);
+        return Err(ElfError::InvalidEntrypoint);
     }
     let index = (offset / 8) as u32;
     label_row(row_for(table, builtins, job, FunctionName::Entrypoint, index))
@@ -90,7 +90,7 @@ pub(crate) fn register_entry(
     requires { Keyed table.now × (job.e_entry - job.sh_addr ≤ 2 ^ 24) × Begins 2 (table_of keys indices kinds starts lengths) rows used moves }
     ensures { PartSettles (entry_trace builtins.now job image.old) image keys indices kinds starts lengths 2 used moves result }
 {
-    let deed = entry_deed(builtins, table, job);
+    let deed = entry_deed(builtins, table, job)?;
     let held = forget_entrypoint(
         keys,
         indices,

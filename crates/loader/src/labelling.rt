@@ -31,7 +31,7 @@ pub(crate) fn register_labels(
     let mut held = Held { used, moves };
     let mut i: u32 = 0;
     while i < count {
-        let deed = label_deed(file, builtins, table, job, symbols, i);
+        let deed = label_deed(file, builtins, table, job, symbols, i)?;
         held = perform(
             image, keys, indices, kinds, starts, lengths, rows, held.used, held.moves, deed,
         )?;

@@ -41,7 +41,7 @@ pub(crate) fn apply_relocations(
         header = next;
         let deed = plan_relocation(
             file, image, builtins, table, job, next, r.r_offset, r.r_info, addend,
-        );
+        )?;
         held = perform_relocation(
             image, keys, indices, kinds, starts, lengths, rows, held.used, held.moves, deed,
         )?;

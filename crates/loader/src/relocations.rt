@@ -197,36 +197,36 @@ fn immediate_at(r: u64) -> u64
     saturating_add(r, 4)
 }
 
-fn halves_deed(len: u64, low: u64, high: u64, value: u64) -> Deed
+fn halves_deed(len: u64, low: u64, high: u64, value: u64) -> Result<Deed, ElfError>
     ensures { result ≡ halves_deed len low high value }
 {
     if past(len, low, 4) {
-        return Deed::Refuse(ElfError::ValueOutOfBounds);
+        return Err(ElfError::ValueOutOfBounds);
     }
     if past(len, high, 4) {
-        return Deed::Refuse(ElfError::ValueOutOfBounds);
+        return Err(ElfError::ValueOutOfBounds);
     }
-    Deed::Halves {
+    Ok(Deed::Halves {
         low: low as usize,
         high: high as usize,
         value,
-    }
+    })
 }
 
-fn word_deed(len: u64, at: u64, value: u64) -> Deed
+fn word_deed(len: u64, at: u64, value: u64) -> Result<Deed, ElfError>
     ensures { result ≡ word_deed len at value }
 {
     if past(len, at, 8) {
-        return Deed::Refuse(ElfError::ValueOutOfBounds);
+        return Err(ElfError::ValueOutOfBounds);
     }
-    Deed::Word {
+    Ok(Deed::Word {
         at: at as usize,
         value,
-    }
+    })
 }
 
 // Type 1 at a place: an instruction's two halves, or eight bytes.
-fn address_deed(len: u64, split: bool, at: u64, value: u64) -> Deed
+fn address_deed(len: u64, split: bool, at: u64, value: u64) -> Result<Deed, ElfError>
     ensures { result ≡ address_deed len split at value }
 {
     if split {
@@ -244,7 +244,7 @@ fn symbol_deed(
     at: u64,
     addend: u64,
     number: u32,
-) -> Deed
+) -> Result<Deed, ElfError>
     ensures { result ≡ symbol_deed len split at addend number (dynamic_symbol_of file.now layout number) }
 {
     match dynamic_symbol(file, layout, number) {
@@ -254,7 +254,7 @@ fn symbol_deed(
             at,
             program_address(saturating_add(y.st_value, addend)),
         ),
-        Sym::Refused(_) => Deed::Refuse(ElfError::UnknownSymbol { number }),
+        Sym::Refused(_) => Err(ElfError::UnknownSymbol { number }),
     }
 }
 
@@ -277,13 +277,13 @@ fn plan_64_64(
     r: u64,
     number: u32,
     addend: Option<u64>,
-) -> Deed
+) -> Result<Deed, ElfError>
     ensures { result ≡ plan6464 file.now image.now layout split r number addend }
 {
     let len = image.len() as u64;
     let at = pick(split, immediate_at(r), r);
     if past(len, at, 4) {
-        return Deed::Refuse(ElfError::ValueOutOfBounds);
+        return Err(ElfError::ValueOutOfBounds);
     }
     symbol_deed(
         file,
@@ -297,23 +297,23 @@ fn plan_64_64(
 }
 
 // Type 8 in the text: an instruction's two halves.
-fn relative_text(len: u64, low: u64, high: u64, address: u64) -> Deed
+fn relative_text(len: u64, low: u64, high: u64, address: u64) -> Result<Deed, ElfError>
     ensures { result ≡ relative_text len low high address }
 {
     if past(len, low, 4) {
-        return Deed::Refuse(ElfError::ValueOutOfBounds);
+        return Err(ElfError::ValueOutOfBounds);
     }
     if past(len, high, 4) {
-        return Deed::Refuse(ElfError::ValueOutOfBounds);
+        return Err(ElfError::ValueOutOfBounds);
     }
     if address == 0 {
-        return Deed::Refuse(ElfError::InvalidVirtualAddress);
+        return Err(ElfError::InvalidVirtualAddress);
     }
-    Deed::Halves {
+    Ok(Deed::Halves {
         low: low as usize,
         high: high as usize,
         value: program_address(address),
-    }
+    })
 }
 
 // Type 8 outside the text: version 2 keeps an address of eight bytes there, version 1 the lower half of
@@ -335,7 +335,13 @@ fn join_halves(low: u32, high: u32) -> u64
 }
 
 // Type 8: an address that no symbol has, the addend or the bytes that are there.
-fn plan_relative(image: &[u8], version2: bool, in_text: bool, r: u64, addend: Option<u64>) -> Deed
+fn plan_relative(
+    image: &[u8],
+    version2: bool,
+    in_text: bool,
+    r: u64,
+    addend: Option<u64>,
+) -> Result<Deed, ElfError>
     requires { is_negative addend ≡ false }
     ensures { result ≡ plan_relative image.now version2 in_text r addend }
 {
@@ -365,19 +371,19 @@ pub(crate) fn in_addresses(sh_addr: u64, sh_size: u64, a: u64) -> bool
 }
 
 // A function to register, and the place of its key.
-fn register_deed(len: u64, at: u64, row: Legacy) -> Deed
+fn register_deed(len: u64, at: u64, row: Legacy) -> Result<Deed, ElfError>
     ensures { result ≡ register_deed len at row }
 {
     match row {
-        Legacy::Taken(key) => Deed::Refuse(ElfError::SymbolHashCollision { key }),
+        Legacy::Taken(key) => Err(ElfError::SymbolHashCollision { key }),
         Legacy::Free(row) => {
             if past(len, at, 4) {
-                return Deed::RegisterOutside { row };
+                return Ok(Deed::RegisterOutside { row });
             }
-            Deed::Register {
+            Ok(Deed::Register {
                 row,
                 at: at as usize,
-            }
+            })
         }
     }
 }
@@ -391,14 +397,14 @@ fn function_call(
     at: u64,
     name: FunctionName,
     st_value: u64,
-) -> Deed
+) -> Result<Deed, ElfError>
     requires { Keyed table.now × (job.sh_size ≤ 2 ^ 24) }
     ensures { result ≡ function_call builtins.now job len at name st_value }
 {
     let sh_addr = job.sh_addr;
     let sh_size = job.sh_size;
     if !in_addresses(sh_addr, sh_size, st_value) {
-        return Deed::Refuse(ElfError::ValueOutOfBounds);
+        return Err(ElfError::ValueOutOfBounds);
     }
     let index = ((st_value - sh_addr) / 8) as u32;
     register_deed(len, at, row_for(table, builtins, job, name, index))
@@ -414,24 +420,24 @@ fn builtin_call(
     start: usize,
     length: usize,
     hash: u32,
-) -> Deed
+) -> Result<Deed, ElfError>
     ensures { result ≡ builtin_call builtins.now reject_broken len at r start length hash }
 {
     let known = is_builtin(builtins, hash);
     if reject_broken & !known {
-        return Deed::Refuse(ElfError::UnresolvedSymbol {
+        return Err(ElfError::UnresolvedSymbol {
             start,
             length,
             offset: r,
         });
     }
     if past(len, at, 4) {
-        return Deed::Refuse(ElfError::ValueOutOfBounds);
+        return Err(ElfError::ValueOutOfBounds);
     }
-    Deed::Key {
+    Ok(Deed::Key {
         at: at as usize,
         key: hash,
-    }
+    })
 }
 
 // A call of a symbol whose name is `part`, which stands at `start`.
@@ -445,7 +451,7 @@ fn call_by_name(
     y: Elf64Sym,
     start: usize,
     length: usize,
-) -> Deed
+) -> Result<Deed, ElfError>
     requires { Keyed table.now × (job.sh_size ≤ 2 ^ 24) × (start ≤ 2 ^ 24) × (length ≤ 64) }
     ensures { result ≡ call_by_name part.now builtins.now job len r y start length }
 {
@@ -468,7 +474,7 @@ fn named_call(
     len: u64,
     r: u64,
     y: Elf64Sym,
-) -> Deed
+) -> Result<Deed, ElfError>
     requires { InFile file.now job × Keyed table.now }
     ensures { result ≡ named_call file.now builtins.now job len r y (dynamic_symbol_name file.now job.layout y.st_name) }
 {
@@ -479,7 +485,7 @@ fn named_call(
             let part = part_of(file, Place::At { start, length });
             call_by_name(part, builtins, table, job, len, r, y, start, length)
         }
-        Place::Refused(_) => Deed::Refuse(ElfError::UnknownSymbol { number: st_name }),
+        Place::Refused(_) => Err(ElfError::UnknownSymbol { number: st_name }),
     }
 }
 
@@ -492,14 +498,14 @@ fn plan_64_32(
     len: u64,
     r: u64,
     number: u32,
-) -> Deed
+) -> Result<Deed, ElfError>
     requires { InFile file.now job × Keyed table.now }
     ensures { result ≡ plan6432 file.now builtins.now job len r number }
 {
     let layout = job.layout;
     match dynamic_symbol(file, layout, number) {
         Sym::Symbol(y) => named_call(file, builtins, table, job, len, r, y),
-        Sym::Refused(_) => Deed::Refuse(ElfError::UnknownSymbol { number }),
+        Sym::Refused(_) => Err(ElfError::UnknownSymbol { number }),
     }
 }
 
@@ -513,7 +519,7 @@ fn plan_at(
     r: u64,
     r_info: u64,
     addend: Option<u64>,
-) -> Deed
+) -> Result<Deed, ElfError>
     requires { InFile file.now job × Keyed table.now }
     ensures { result ≡ plan_at file.now image.now builtins.now job r r_info addend }
 {
@@ -523,7 +529,7 @@ fn plan_at(
     let version2 = job.version2;
     let uses_addend = (r_type == R_BPF_64_64) | (r_type == R_BPF_64_RELATIVE);
     if uses_addend & is_negative(addend) {
-        return Deed::Refuse(ElfError::AddendNegative);
+        return Err(ElfError::AddendNegative);
     }
     if r_type == R_BPF_64_64 {
         let layout = job.layout;
@@ -535,7 +541,7 @@ fn plan_at(
     if r_type == R_BPF_64_32 {
         return plan_64_32(file, builtins, table, job, image.len() as u64, r, r_sym);
     }
-    Deed::Refuse(ElfError::UnknownRelocation { number: r_type })
+    Err(ElfError::UnknownRelocation { number: r_type })
 }
 
 // What a relocation asks for, `used` being the header that maps it. The bytes that it adds to are the
@@ -550,12 +556,10 @@ pub(crate) fn plan_relocation(
     r_offset: u64,
     r_info: u64,
     addend: Option<u64>,
-) -> Deed
+) -> Result<Deed, ElfError>
     requires { InFile file.now job × Keyed table.now }
     ensures { result ≡ plan_of file.now image.now builtins.now job (place_of job.version2 used r_offset) r_info addend }
 {
-    match r_place(job.version2, used, r_offset) {
-        Some(r) => plan_at(file, image, builtins, table, job, r, r_info, addend),
-        None => Deed::Refuse(ElfError::ValueOutOfBounds),
-    }
+    let r = r_place(job.version2, used, r_offset).ok_or(ElfError::ValueOutOfBounds)?;
+    plan_at(file, image, builtins, table, job, r, r_info, addend)
 }

@@ -18,18 +18,18 @@ use Rattle.writers.specs.declared.Wrote.TheVariants.{By, NoSuchIndex, Refused}
 -- ---- n deeds from number i on, each made of its number and the image as those before left it
 
 -- the image afterwards
-unfoldable pub image_after : (ℕ → List ℕ → Deed) → ℕ → ℕ → List ℕ → List ℕ
+unfoldable pub image_after : (ℕ → List ℕ → Result Deed ElfError) → ℕ → ℕ → List ℕ → List ℕ
 image_after deed zero i im = im
 image_after deed (suc n) i im = image_after deed n (i + 1) (written (deed i im) im)
 
 -- who wrote the byte b: the last that writes it, by its number, or w where none does
-unfoldable pub writer_after : (ℕ → List ℕ → Deed) → (ℕ → Writer) → ℕ → ℕ → ℕ → List ℕ → Writer → Writer
+unfoldable pub writer_after : (ℕ → List ℕ → Result Deed ElfError) → (ℕ → Writer) → ℕ → ℕ → ℕ → List ℕ → Writer → Writer
 writer_after deed who b zero i im w = w
 writer_after deed who b (suc n) i im w = writer_after deed who b n (i + 1) (written (deed i im) im) (who i if writes (deed i im) b else w)
 
 -- ---- a load: the calls of all slots, then all relocations. Labels, the entry and the placing of the read-only sections write nothing to the image
 
-abbrev pub call_deeds : List ℕ → List ℕ → Job → ℕ → List ℕ → Deed
+abbrev pub call_deeds : List ℕ → List ℕ → Job → ℕ → List ℕ → Result Deed ElfError
 call_deeds file builtins j i im = call_deed file builtins j i
 
 abbrev pub image_of_calls : List ℕ → List ℕ → Job → List ℕ
