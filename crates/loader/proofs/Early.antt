@@ -32,8 +32,6 @@ use Rattle.program.specs.declared.Row.{Row}
 use Rattle.program.specs.HashedLegacy.{is_entrypoint, legacy_key, kept_name, is_taken, row_of, legacy_row}
 use Rattle.program.specs.HashedLegacy as legacy
 use Rattle.program.proofs.Cases.{by_test}
-use Rattle.loader.specs.declared.calls.Call.{Call}
-use Rattle.loader.specs.declared.calls.Call.TheVariants.{None, To, Outside}
 use Rattle.loader.specs.declared.deeds.Deed.{Deed}
 use Rattle.loader.specs.declared.deeds.Deed.TheVariants.{Skip, Halves, Word, Key, Register, RegisterOnly, RegisterOutside}
 use Rattle.loader.specs.declared.relocations.Relocation.{Relocation}
@@ -48,7 +46,7 @@ use Rattle.loader.specs.Labels.{label_row, named_label, label_of, label_by, labe
 use Rattle.loader.specs.Parts.{writing_trace}
 use Rattle.loader.specs.InnerContracts.{InFile}
 use Rattle.loader.specs.Demand.{name_key, key_of, early_trace}
-use Rattle.loader.proofs.Targets.{to_slot}
+use Rattle.loader.proofs.Targets.{to_slot, outside_is}
 use Rattle.loader.proofs.Plain.{Plain, picks}
 use Rattle.loader.proofs.Reaching.{Steady, steady_then, steady_each}
 
@@ -110,18 +108,18 @@ refuse_or P b d e p q = picks (SteadyDeed P) b d e (λ _. p) (λ _. q)
 
 -- ---- the target of a call
 
-abbrev Within : ℕ → Call → Type 0
-Within count None = Unit {0}
-Within count Outside = Unit {0}
-Within count (To t) = t < count
+abbrev Within : ℕ → Result (Option ℕ) ElfError → Type 0
+Within count (Ok None) = Unit {0}
+Within count (Err r) = Plain r
+Within count (Ok (Some t)) = t < count
 
 at_in : (text : List ℕ) (version2 : Bool) (i : ℕ) → Within (length text / 8) (call_at text version2 i)
 at_in text version2 i = go (call_at text version2 i) refl
   where
-    go : (c : Call) → call_at text version2 i ≡ c → Within (length text / 8) c
-    go None e = tt
-    go Outside e = tt
-    go (To to) e = to_slot text version2 i to e
+    go : (c : Result (Option ℕ) ElfError) → call_at text version2 i ≡ c → Within (length text / 8) c
+    go (Ok None) e = tt
+    go (Err r) e = rw (← outside_is text version2 i r e) refl
+    go (Ok (Some to)) e = to_slot text version2 i to e
 
 -- ---- an address of the text
 
@@ -145,10 +143,10 @@ module _ (file builtins : List ℕ) (j : Job) (off : j.check_collision ≡ false
   by_row f name index l s = rw (free_row builtins j name index off) (s (row_of_function j name index) (good_row name index l))
 
   -- calls
-  call_steady : (i : ℕ) (c : Call) → Within (length (text_of file j) / 8) c → SteadyDeed G (call_by builtins j i c)
-  call_steady i None h = tt
-  call_steady i Outside h = refl
-  call_steady i (To index) h =
+  call_steady : (i : ℕ) (c : Result (Option ℕ) ElfError) → Within (length (text_of file j) / 8) c → SteadyDeed G (call_by builtins j i c)
+  call_steady i (Ok None) h = tt
+  call_steady i (Err r) h = h
+  call_steady i (Ok (Some index)) h =
       by_row (call_row (immediate j i)) OfIndex index
       (omega (arith, h, length-take j.length (drop j.start file), within.text, within.short))
       (λ row g. g)

@@ -7,7 +7,7 @@ use mathlib.Core.Bool.{Bool, true, false}
 use mathlib.Core.Logic.{inl}
 use mathlib.Core.List.{List, [], ◌∷◌, ◌++◌}
 use lib.ListN.{length, get_or, take, drop, replicate}
-use Rattle.std.specs.Prelude.{Result, Ok, Err}
+use Rattle.std.specs.Prelude.{Result, Ok, Err, Option, Some, None}
 use Rattle.ebpf.specs.Choice.{◌if◌else◌}
 use Rattle.ebpf.specs.LittleEndian.{le}
 use Rattle.elf_parser.specs.declared.types.Elf64Sym.{Elf64Sym}
@@ -24,8 +24,6 @@ use Rattle.program.specs.declared.Legacy.TheVariants.{Free, Taken}
 use Rattle.loader.specs.declared.read_only.Placing.TheVariants.{Borrowed, Owned}
 use Rattle.loader.specs.declared.read_only.Placing.{Placing}
 use Rattle.loader.specs.declared.error.ElfError.{ElfError}
-use Rattle.loader.specs.declared.calls.Call.{Call}
-use Rattle.loader.specs.declared.calls.Call.TheVariants.{None, To, Outside}
 use Rattle.loader.specs.declared.deeds.Deed.{Deed}
 use Rattle.loader.specs.declared.validate.Job.{Job}
 use Rattle.loader.specs.Functions.{row_for, symbol_function, index_of}
@@ -138,10 +136,10 @@ module _ (file builtins : List ℕ) (j : Job) where
   unfolding call_deed
   call_clear i b im l h = go (call_at (text_of file j) j.version2 i) refl
     where
-      go : (c : Call) → call_at (text_of file j) j.version2 i ≡ c → writes (call_by builtins j i c) b ≡ false
-      go None e = refl
-      go Outside e = refl
-      go (To to) e = row_clear (immediate j i) b (row_for builtins j OfIndex to) (h to (l, e))
+      go : (c : Result (Option ℕ) ElfError) → call_at (text_of file j) j.version2 i ≡ c → writes (call_by builtins j i c) b ≡ false
+      go (Ok None) e = refl
+      go (Err r) e = refl
+      go (Ok (Some to)) e = row_clear (immediate j i) b (row_for builtins j OfIndex to) (h to (l, e))
 
   calls_length : (im l : List ℕ) → Ends (calls_trace file builtins j im) l → length l ≡ length im
   calls_length im l e = deeds_length (slot_trace file builtins j) call (slot_count j) slot_is im l e

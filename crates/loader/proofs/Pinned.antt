@@ -1,6 +1,6 @@
 -- What each field of `Loads` and of `Demand3` says of a small file: a call's key, the table's keys, an untouched byte, a refusal. Each law uses its
 -- field alone, so that a field that says less does not prove it. Assumes nothing.
-use Rattle.std.specs.Prelude.{Result, Ok, Err}
+use Rattle.std.specs.Prelude.{Result, Ok, Err, Some, None}
 use Rattle.ebpf.specs.Choice.{◌if◌else◌}
 use Rattle.ebpf.specs.IndexKeys.{index_key, key_in}
 use Rattle.ebpf.specs.Instructions.{slot_at, insn_at}
@@ -54,7 +54,6 @@ use Rattle.program.proofs.Cases.{zero_one}
 use Rattle.loader.specs.declared.read_only.Placing.TheVariants.{Borrowed}
 use Rattle.loader.specs.declared.error.ElfError.{ElfError}
 use Rattle.loader.specs.declared.answer.Accepted.{Accepted}
-use Rattle.loader.specs.declared.calls.Call.TheVariants.{None, To}
 use Rattle.loader.specs.declared.error.ElfError.TheVariants.{SymbolHashCollision, TableFull}
 use Rattle.loader.specs.declared.validate.Job.{Job}
 use Rattle.loader.specs.Calls.{local_call_in, text_of, immediate}
@@ -145,9 +144,9 @@ record Computed : Type 0 where
   whole : load_of version_2 [] all_on 304 304 4 ≡ holds answer_2 (put 4 version_2 68 2) (replicate 304 0) (first ∷ third ∷ [])
   image_whole : put 4 version_2 68 2 ++ replicate (304 - length (put 4 version_2 68 2)) 0 ≡ put 4 version_2 68 2
   local_0 : local_call_in true (insn_at (text_of version_2 (job_2 true)) 0) ≡ true
-  call_0 : call_at (text_of version_2 (job_2 true)) true 0 ≡ To 2
-  call_1 : call_at (text_of version_2 (job_2 true)) true 1 ≡ None
-  call_2 : call_at (text_of version_2 (job_2 true)) true 2 ≡ None
+  call_0 : call_at (text_of version_2 (job_2 true)) true 0 ≡ Ok (Some 2)
+  call_1 : call_at (text_of version_2 (job_2 true)) true 1 ≡ Ok None
+  call_2 : call_at (text_of version_2 (job_2 true)) true 2 ≡ Ok None
   row_call : row_for [] (job_2 true) OfIndex 2 ≡ Free third
   row_entry : row_for [] (job_2 true) Entrypoint 0 ≡ Free first
   no_labels : (label_symbols version_2 (job_2 true)).count ≡ 0
@@ -200,7 +199,7 @@ module _ (t : Slices) (im' : List ℕ) (t' : Slices) (x : Accepted) (d : Demand3
   calls_say = found (of_file (λ j used. Calls version_2 j im' (lookup_in t' used)) d.calls 0 (omega arith, computed.local_0) (λ b h. no_relocations version_2 true b))
     where
       found : (to : ℕ) × CallsTo version_2 (job_2 true) 0 to × (to < 3) × (IsNameKey (job_2 true) (le 4 im' 68) ⊎ Finds look (le 4 im' 68) to) → Finds look (le 4 im' 68) 2
-      found r = let same : To 2 ≡ To r.0 = flip computed.call_0 ∙ r.1.1 in let is : 2 ≡ r.0 = cc in by is r.3
+      found r = let same : Ok (Some 2) ≡ Ok (Some r.0) = flip computed.call_0 ∙ r.1.1 in let is : 2 ≡ r.0 = cc in by is r.3
         where
           by : 2 ≡ r.0 → IsNameKey (job_2 true) (le 4 im' 68) ⊎ Finds look (le 4 im' 68) r.0 → Finds look (le 4 im' 68) 2
           by is (inl n) = absurd (true≢false n.0)
@@ -220,15 +219,15 @@ module _ (t : Slices) (im' : List ℕ) (t' : Slices) (x : Accepted) (d : Demand3
     λ h. no_other ((all_keys 1).0 h),
   )
     where
-      no_slot : (i to : ℕ) (row : Row) → i < 3 → call_at (text_of version_2 (job_2 true)) true i ≡ To to → row_for [] (job_2 true) OfIndex to ≡ Free row → row.key ≡ 1 → ⊥
+      no_slot : (i to : ℕ) (row : Row) → i < 3 → call_at (text_of version_2 (job_2 true)) true i ≡ Ok (Some to) → row_for [] (job_2 true) OfIndex to ≡ Free row → row.key ≡ 1 → ⊥
       no_slot zero to row l c r k =
-          let same : To 2 ≡ To to = flip computed.call_0 ∙ c in
+          let same : Ok (Some 2) ≡ Ok (Some to) = flip computed.call_0 ∙ c in
           let is : 2 ≡ to = cc in
           let free : Free third ≡ Free row = flip computed.row_call ∙ ap (row_for [] (job_2 true) OfIndex) is ∙ r in
           let key : third.key ≡ row.key = cc in
           zero_one (omega (arith, key, k))
-      no_slot (suc zero) to row l c r k = let n : None ≡ To to = flip computed.call_1 ∙ c in zero_one (cc)
-      no_slot (suc (suc zero)) to row l c r k = let n : None ≡ To to = flip computed.call_2 ∙ c in zero_one (cc)
+      no_slot (suc zero) to row l c r k = let n : Ok None ≡ Ok (Some to) = flip computed.call_1 ∙ c in zero_one (cc)
+      no_slot (suc (suc zero)) to row l c r k = let n : Ok None ≡ Ok (Some to) = flip computed.call_2 ∙ c in zero_one (cc)
       no_slot (suc (suc (suc i))) to row l c r k = absurd (omega (arith, l))
 
       no_other : (row : Row) × Registers version_2 [] (job_2 true) row × (row.key ≡ 1) → ⊥

@@ -25,8 +25,6 @@ use Rattle.program.specs.declared.Legacy.{Legacy}
 use Rattle.program.specs.declared.Legacy.TheVariants.{Free, Taken}
 use Rattle.program.proofs.Cases.{zero_one}
 use Rattle.loader.specs.declared.error.ElfError.TheVariants.{InvalidEntrypoint}
-use Rattle.loader.specs.declared.calls.Call.{Call}
-use Rattle.loader.specs.declared.calls.Call.TheVariants.{None, To, Outside}
 use Rattle.loader.specs.declared.deeds.Deed.{Deed}
 use Rattle.loader.specs.declared.deeds.Entry.{Entry}
 use Rattle.loader.specs.declared.deeds.Entry.TheVariants.{Nothing, Register as Enter}
@@ -81,29 +79,29 @@ either false x y P p q = q refl
 -- ---- local calls
 
 module _ (file builtins : List ℕ) (j : Job) (i : ℕ) (l : i < slot_count j) where
-  row_asks : (to : ℕ) → call_at (text_of file j) j.version2 i ≡ To to → (r : Legacy) → row_for builtins j OfIndex to ≡ r → AsksFor (entry_of (call_row (immediate j i) r)) (OfCall file builtins j i)
+  row_asks : (to : ℕ) → call_at (text_of file j) j.version2 i ≡ Ok (Some to) → (r : Legacy) → row_for builtins j OfIndex to ≡ r → AsksFor (entry_of (call_row (immediate j i) r)) (OfCall file builtins j i)
   row_asks to c (Taken key) e = tt
   row_asks to c (Free r) e = λ row. (
     λ h.
-        let same : h.0 ≡ to = (let t : To h.0 ≡ To to = sym h.1.1 ∙ c in cc) in
+        let same : h.0 ≡ to = (let t : Ok (Some h.0) ≡ Ok (Some to) = sym h.1.1 ∙ c in cc) in
         let f : Free row ≡ Free r = sym h.2 ∙ ap (row_for builtins j OfIndex) same ∙ e in
         cc,
     λ h. (to, (l, c), e ∙ ap Free (sym h)),
   )
 
-  call_asks : (c : Call) → call_at (text_of file j) j.version2 i ≡ c → AsksFor (entry_of (call_by builtins j i c)) (OfCall file builtins j i)
-  call_asks None e = λ row h. let t = h.1.1 in zero_one (cc)
-  call_asks Outside e = tt
-  call_asks (To to) e = row_asks to e (row_for builtins j OfIndex to) refl
+  call_asks : (c : Result (Option ℕ) ElfError) → call_at (text_of file j) j.version2 i ≡ c → AsksFor (entry_of (call_by builtins j i c)) (OfCall file builtins j i)
+  call_asks (Ok None) e = λ row h. let t = h.1.1 in zero_one (cc)
+  call_asks (Err r) e = tt
+  call_asks (Ok (Some to)) e = row_asks to e (row_for builtins j OfIndex to) refl
 
   slot_asks : AsksFor (entry_of (call_deed file builtins j i)) (OfCall file builtins j i)
   unfolding call_deed
   slot_asks = call_asks (call_at (text_of file j) j.version2 i) refl
 
   -- a call that does not stop has a row
-  call_row_lem : (im im' : List ℕ) → Ends (slot_trace file builtins j i im) im' → (to : ℕ) → call_at (text_of file j) j.version2 i ≡ To to → (row : Row) × (row_for builtins j OfIndex to ≡ Free row)
+  call_row_lem : (im im' : List ℕ) → Ends (slot_trace file builtins j i im) im' → (to : ℕ) → call_at (text_of file j) j.version2 i ≡ Ok (Some to) → (row : Row) × (row_for builtins j OfIndex to ≡ Free row)
   unfolding slot_trace call_deed deed_trace
-  call_row_lem im im' e to c = go (row_for builtins j OfIndex to) (subst (λ (c : Call). Ends (deed_trace (call_by builtins j i c) im) im') c e)
+  call_row_lem im im' e to c = go (row_for builtins j OfIndex to) (subst (λ (c : Result (Option ℕ) ElfError). Ends (deed_trace (call_by builtins j i c) im) im') c e)
     where
       go : (r : Legacy) → Ends (entry_trace (entry_of (call_row (immediate j i) r)) (written (call_row (immediate j i) r) im)) im' → (row : Row) × (r ≡ Free row)
       go (Free row) e = (row, refl)
@@ -114,10 +112,10 @@ module _ (file builtins : List ℕ) (j : Job) (i : ℕ) (l : i < slot_count j) w
   unfolding slot_trace call_deed deed_trace
   call_to im im' e c = go (call_at (text_of file j) j.version2 i) refl
     where
-      go : (d : Call) → call_at (text_of file j) j.version2 i ≡ d → (to : ℕ) × CallsTo file j i to
-      go None q = absurd (local_calls file j i c q)
-      go (To to) q = (to, (c.0, q))
-      go Outside q = absurd (subst (λ (d : Call). Ends (deed_trace (call_by builtins j i d) im) im') q e)
+      go : (d : Result (Option ℕ) ElfError) → call_at (text_of file j) j.version2 i ≡ d → (to : ℕ) × CallsTo file j i to
+      go (Ok None) q = absurd (local_calls file j i c q)
+      go (Ok (Some to)) q = (to, (c.0, q))
+      go (Err r) q = absurd (subst (λ (d : Result (Option ℕ) ElfError). Ends (deed_trace (call_by builtins j i d) im) im') q e)
 
 -- ---- relocations
 

@@ -23,11 +23,10 @@ use Rattle.program.proofs.Alike.{alike_none, alike_named, alike_after, alike_kep
 use Rattle.program.proofs.Cases.{zero_one}
 use Rattle.program.proofs.Laws.{find_stays, repeat_held, find_registered_same}
 use Rattle.loader.specs.declared.error.ElfError.TheVariants.{SymbolHashCollision, RelativeJumpOutOfBounds}
-use Rattle.loader.specs.declared.calls.Call.TheVariants.{None, To, Outside}
 use Rattle.loader.specs.declared.validate.Job.{Job}
 use Rattle.loader.specs.declared.deeds.Held.{Held}
 use Rattle.loader.specs.declared.error.ElfError.{ElfError}
-use Rattle.std.specs.Prelude.{Result, Ok, Err}
+use Rattle.std.specs.Prelude.{Result, Ok, Err, Some, None}
 use Rattle.loader.specs.Bytes.{put}
 use Rattle.loader.specs.Functions.{row_for}
 use Rattle.loader.specs.Trace.{accepted, on_registered, settle}
@@ -75,15 +74,15 @@ module _ (builtins : List ℕ) (j : Job) (key index : ℕ) (k : key ≡ target_k
 -- ---- a slot, by what it calls
 
 module _ (file builtins : List ℕ) (j : Job) (i : ℕ) (im : List ℕ) where
-  pub settles_none : (t : Slices) (used moves : ℕ) → call_at (text_of file j) j.version2 i ≡ None → Ready t used → Settles (slot_trace file builtins j i im) im t t 1 used moves (holding used moves)
+  pub settles_none : (t : Slices) (used moves : ℕ) → call_at (text_of file j) j.version2 i ≡ Ok None → Ready t used → Settles (slot_trace file builtins j i im) im t t 1 used moves (holding used moves)
   unfolding slot_trace call_deed deed_trace settle
   settles_none t used moves e ready = rw e (record { answers = refl; sound = ready; near = (omega arith, omega arith) })
 
-  pub settles_outside : (t : Slices) (used moves : ℕ) → call_at (text_of file j) j.version2 i ≡ Outside → Settles (slot_trace file builtins j i im) im t t 1 used moves (Err (RelativeJumpOutOfBounds i))
+  pub settles_outside : (t : Slices) (used moves : ℕ) (r : ElfError) → call_at (text_of file j) j.version2 i ≡ Err r → Settles (slot_trace file builtins j i im) im t t 1 used moves (Err r)
   unfolding slot_trace call_deed deed_trace settle
-  settles_outside t used moves e = rw e (record { answers = refl; sound = tt; near = tt })
+  settles_outside t used moves r e = rw e (record { answers = refl; sound = tt; near = tt })
 
-  module _ (key index : ℕ) (to : call_at (text_of file j) j.version2 i ≡ To index) (k : key ≡ target_key j index) where
+  module _ (key index : ℕ) (to : call_at (text_of file j) j.version2 i ≡ Ok (Some index)) (k : key ≡ target_key j index) where
     slot_target : slot_trace file builtins j i im ≡ target_trace (row_for builtins j OfIndex index) (put 4 im (immediate j i) key)
     unfolding slot_trace call_deed deed_trace
     slot_target = rw to (go (row_for builtins j OfIndex index) refl)

@@ -25,7 +25,6 @@ use Rattle.program.specs.Rows as table
 use Rattle.program.specs.Table.{Slices, capacity, lookup_in}
 use Rattle.loader.specs.declared.error.ElfError.{ElfError}
 use Rattle.loader.specs.declared.answer.Accepted.{Accepted}
-use Rattle.loader.specs.declared.calls.Call.TheVariants.{To}
 use Rattle.loader.specs.declared.error.ElfError.TheVariants.{SymbolHashCollision, TableFull}
 use Rattle.loader.specs.declared.validate.Config.{Config}
 use Rattle.loader.specs.declared.validate.Job.{Job}
@@ -46,7 +45,7 @@ LocalCall file j i = (i < slot_count j) × (local_call_in j.version2 (insn_at (t
 
 -- and its target is slot number `to`
 abbrev pub CallsTo : List ℕ → Job → ℕ → ℕ → Type 0
-CallsTo file j i to = (i < slot_count j) × (call_at (text_of file j) j.version2 i ≡ To to)
+CallsTo file j i to = (i < slot_count j) × (call_at (text_of file j) j.version2 i ≡ Ok (Some to))
 
 -- ---- the bytes that a relocation names
 

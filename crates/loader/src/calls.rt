@@ -13,37 +13,32 @@ use crate::validate::Job;
 use ebpf::{CALL_IMM, Insn, Slot, get_insn};
 use program::{FunctionName, Row, is_taken, kept_name, legacy_key};
 
-// What a slot calls.
-#[derive(Clone, Copy)]
-pub enum Call {
-    None,
-    To(u32),
-    Outside,
-}
-
-fn inside_text(count: u64, to: u64) -> Call
+// The target `to` of the call in slot number `i`.
+#[tactic(auto, using(ebpf::specs::Choice::choices), unfolding(crate::specs::Calls::inside))]
+fn inside_text(count: u64, i: u64, to: u64) -> Result<u32, ElfError>
     requires { count ≤ 2 ^ 24 }
-    ensures { result ≡ inside count to }
+    ensures { result ≡ inside count i to }
 {
     if to < count {
-        return Call::To(to as u32);
+        return Ok(to as u32);
     }
-    Call::Outside
+    Err(ElfError::RelativeJumpOutOfBounds { slot: i })
 }
 
 // The slot number `i` plus 1 plus the signed immediate: bits from 2^31 on count from 2^32 down.
-fn target_of(count: u64, i: u64, imm: u32) -> Call
+#[tactic(auto, using(ebpf::specs::Choice::choices), unfolding(crate::specs::Calls::target))]
+fn target_of(count: u64, i: u64, imm: u32) -> Result<u32, ElfError>
     requires { (i < 2 ^ 24) × (count ≤ 2 ^ 24) }
     ensures { result ≡ target count i imm }
 {
     let to = i + 1 + imm as u64;
     if imm < 0x8000_0000 {
-        return inside_text(count, to);
+        return inside_text(count, i, to);
     }
     if to < 0x1_0000_0000 {
-        return Call::Outside;
+        return Err(ElfError::RelativeJumpOutOfBounds { slot: i });
     }
-    inside_text(count, to - 0x1_0000_0000)
+    inside_text(count, i, to - 0x1_0000_0000)
 }
 
 pub fn is_local_call(version2: bool, insn: Insn) -> bool
@@ -53,23 +48,25 @@ pub fn is_local_call(version2: bool, insn: Insn) -> bool
     (insn.opc == CALL_IMM) & ((insn.imm != 0xffff_ffff) & !near)
 }
 
-fn call_of(count: u64, version2: bool, i: u64, insn: Insn) -> Call
+#[tactic(auto, using(ebpf::specs::Choice::choices), unfolding(crate::specs::Calls::call_of))]
+fn call_of(count: u64, version2: bool, i: u64, insn: Insn) -> Result<Option<u32>, ElfError>
     requires { (i < 2 ^ 24) × (count ≤ 2 ^ 24) }
     ensures { result ≡ call_of count version2 i insn }
 {
     if is_local_call(version2, insn) {
-        return target_of(count, i, insn.imm);
+        return Ok(Some(target_of(count, i, insn.imm)?));
     }
-    Call::None
+    Ok(None)
 }
 
-// What slot number `i` of a text calls.
-fn call_at(text: &[u8], version2: bool, i: usize) -> Call
+// What slot number `i` of a text calls, if it calls another slot.
+#[tactic(auto, using(crate::proofs::Slots::whole_slot), unfolding(crate::specs::Calls::call_at))]
+fn call_at(text: &[u8], version2: bool, i: usize) -> Result<Option<u32>, ElfError>
     requires { length text.now ≤ 2 ^ 24 }
     ensures { result ≡ call_at text.now version2 i }
 {
     match get_insn(text, i) {
-        Slot::Past => Call::None,
+        Slot::Past => Ok(None),
         Slot::Holds(insn) => call_of((text.len() / 8) as u64, version2, i as u64, insn),
     }
 }
@@ -225,21 +222,18 @@ fn call_step(
 {
     let start = job.start;
     let end = start + job.length;
-    match call_at(&file[start..end], job.version2, i) {
-        Call::None => Ok(Held { used, moves }),
-        Call::Outside => Err(ElfError::RelativeJumpOutOfBounds { slot: i as u64 }),
-        Call::To(index) => {
-            let key = legacy_key(table, job.version2, FunctionName::OfIndex, index);
-            store_u32(image, start + 8 * i + 4, key);
-            if is_seen(seen, index) {
-                return Ok(Held { used, moves });
-            }
-            see(seen, index);
-            register_target(
-                keys, indices, kinds, starts, lengths, builtins, job, rows, used, moves, key, index,
-            )
-        }
+    let Some(index) = call_at(&file[start..end], job.version2, i)? else {
+        return Ok(Held { used, moves });
+    };
+    let key = legacy_key(table, job.version2, FunctionName::OfIndex, index);
+    store_u32(image, start + 8 * i + 4, key);
+    if is_seen(seen, index) {
+        return Ok(Held { used, moves });
     }
+    see(seen, index);
+    register_target(
+        keys, indices, kinds, starts, lengths, builtins, job, rows, used, moves, key, index,
+    )
 }
 
 // The slots from number `from` up to `to`, whose bytes are in the image, in turn, up to the first
