@@ -1,9 +1,8 @@
 // The answer of a load.
 ghost use Rattle.std.specs.Prelude.{◌≡◌, ◌-◌, ◌≤◌, ◌^◌};
-ghost use Rattle.ebpf.specs.Choice.{◌if◌else◌};
 ghost use Rattle.loader.specs.Load.{accepted_as, answer_for};
 
-use crate::addresses::saturating_sub;
+use crate::addresses::pick;
 use crate::deeds::Held;
 use crate::error::ElfError;
 use crate::read_only::Placing;
@@ -28,15 +27,6 @@ pub struct Accepted {
     pub text_length: usize,
 }
 
-fn version_of(version2: bool) -> u32
-    ensures { result ≡ (2 if version2 else 1) }
-{
-    if version2 {
-        return 2;
-    }
-    1
-}
-
 // The answer of an accepted load, with the place of the read-only bytes.
 fn accepted_as(
     job: Job,
@@ -50,10 +40,9 @@ fn accepted_as(
     requires { job.e_entry - job.sh_addr ≤ 2 ^ 24 }
     ensures { result ≡ accepted_as job copied offset start n used moves }
 {
-    let entry = saturating_sub(job.e_entry, job.sh_addr) / 8;
-    let version = version_of(job.version2);
+    let entry = job.e_entry.saturating_sub(job.sh_addr) / 8;
     Accepted {
-        version,
+        version: pick(job.version2, 2, 1),
         entry: entry as u32,
         used,
         moves,

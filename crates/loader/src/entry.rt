@@ -6,7 +6,6 @@ ghost use Rattle.loader.specs.Functions.{Keyed};
 ghost use Rattle.loader.specs.Entry.{entry_deed, forgotten_by, entry_trace};
 ghost use Rattle.loader.specs.InnerContracts.{Begins, Forgets, PartSettles};
 
-use crate::addresses::saturating_sub;
 use crate::deeds::{Deed, Held, perform};
 use crate::error::ElfError;
 use crate::functions::row_for;
@@ -19,7 +18,7 @@ fn entry_deed(builtins: &[u32], table: &[u32], job: Job) -> Result<Deed, ElfErro
     requires { Keyed table.now × (job.e_entry - job.sh_addr ≤ 2 ^ 24) }
     ensures { result ≡ entry_deed builtins.now job }
 {
-    let offset = saturating_sub(job.e_entry, job.sh_addr);
+    let offset = job.e_entry.saturating_sub(job.sh_addr);
     if offset % 8 != 0 {
         return Err(ElfError::InvalidEntrypoint);
     }
@@ -34,20 +33,11 @@ fn forgotten(answer: Removed, used: usize, moves: u64) -> Result<Held, ElfError>
 {
     match answer {
         Removed::Gone(n) => Ok(Held {
-            used: less_one(used),
+            used: used.saturating_sub(1),
             moves: moves + n as u64,
         }),
         Removed::Absent => Ok(Held { used, moves }),
     }
-}
-
-fn less_one(n: usize) -> usize
-    ensures { result ≡ n - 1 }
-{
-    if n == 0 {
-        return 0;
-    }
-    n - 1
 }
 
 // Version 1 removes the row under the key of the name entrypoint.

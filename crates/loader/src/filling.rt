@@ -13,26 +13,11 @@ use crate::validate::Job;
 use ebpf::key_table;
 use elf_parser::{Layout, file_header};
 
-// Every byte zero.
-fn clear_bytes(s: &mut [u8])
-    ensures { s.new ≡ replicate (length s.old) 0 }
-{
-    let mut i = 0;
-    while i < s.len() {
-        s[i] = 0;
-        i += 1;
-    }
-}
-
 // Every number zero.
 pub fn clear_words(s: &mut [u32])
     ensures { s.new ≡ replicate (length s.old) 0 }
 {
-    let mut i = 0;
-    while i < s.len() {
-        s[i] = 0;
-        i += 1;
-    }
+    s.fill(0);
 }
 
 // Every lent byte and number zero.
@@ -47,8 +32,8 @@ pub(crate) fn clear_all(
 )
     ensures { Clears image ro keys indices kinds starts lengths }
 {
-    clear_bytes(image);
-    clear_bytes(ro);
+    image.fill(0);
+    ro.fill(0);
     clear_words(keys);
     clear_words(indices);
     clear_words(kinds);

@@ -3,7 +3,6 @@
 ghost use Rattle.std.specs.Prelude.{◌≡◌, length};
 ghost use Rattle.loader.specs.GetBytes.{text_place, ro_place, lent_for, ro_of, text_place_of, part_of, part_for};
 
-use crate::addresses::saturating_sub;
 use crate::answer::Accepted;
 use crate::error::ElfError;
 use ebpf::MM_PROGRAM_START;
@@ -28,7 +27,7 @@ pub fn text_place(
 ) -> Result<PartPlace, ElfError>
     ensures { result ≡ text_place lent offset start n addr size }
 {
-    let at = saturating_sub(saturating_sub(addr, MM_PROGRAM_START), offset);
+    let at = addr.saturating_sub(MM_PROGRAM_START).saturating_sub(offset);
     if past(lent, start, n) {
         return Err(ElfError::TextOutsideReadOnly);
     }

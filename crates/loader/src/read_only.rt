@@ -3,7 +3,7 @@ ghost use Rattle.std.specs.Prelude.{◌≡◌, ◌+◌, ◌≤◌, length, drop}
 ghost use Rattle.std.proofs.Math.Seq.{paste};
 ghost use Rattle.loader.specs.ReadOnly.{read_only, gives, invalid_by, end_of, grown, taken, gather_next, nothing, from_start, can_borrow, borrowed, owned, placed, placing_by, copied_to, copy_step, copied_from};
 
-use crate::addresses::{greater, lesser, machine_addr, pick, saturating_add, saturating_sub};
+use crate::addresses::{machine_addr, pick};
 use crate::error::ElfError;
 use crate::sections::section_at;
 use ebpf::{MM_PROGRAM_START, MM_STACK_START};
@@ -84,7 +84,7 @@ fn end_of(version2: bool, addr: u64, size: u64) -> u64
 {
     let start = machine_addr(version2, addr);
     if version2 {
-        return saturating_add(start, size);
+        return start.saturating_add(size);
     }
     start
 }
@@ -95,15 +95,15 @@ fn grow(version2: bool, index: u64, addr: u64, offset: u64, n: u64, x: Extent) -
 {
     let gives = gives_shift(version2, addr, offset, x);
     Extent {
-        lowest: lesser(x.lowest, addr),
-        highest: greater(x.highest, saturating_add(addr, n)),
-        filled: saturating_add(x.filled, n),
+        lowest: x.lowest.min(addr),
+        highest: x.highest.max(addr.saturating_add(n)),
+        filled: x.filled.saturating_add(n),
         invalid: is_invalid(version2, addr, offset, x),
         shifted: x.shifted | gives,
-        shift: pick(gives, saturating_sub(addr, offset), x.shift),
+        shift: pick(gives, addr.saturating_sub(offset), x.shift),
         first: pick(x.many == 0, index, x.first),
         last: index,
-        many: saturating_add(x.many, 1),
+        many: x.many.saturating_add(1),
     }
 }
 
@@ -184,22 +184,22 @@ fn from_start(addr: u64) -> u64
 fn can_borrow(x: Extent) -> bool
     ensures { result ≡ can_borrow x }
 {
-    let end = saturating_add(x.last, 1);
-    !x.invalid & (saturating_sub(end, x.first) == x.many)
+    let end = x.last.saturating_add(1);
+    !x.invalid & (end.saturating_sub(x.first) == x.many)
 }
 
 fn borrow_sections(version2: bool, x: Extent) -> Result<Placing, ElfError>
     ensures { result ≡ borrowed version2 x }
 {
-    let start = saturating_sub(x.lowest, x.shift);
-    let end = saturating_sub(x.highest, x.shift);
+    let start = x.lowest.saturating_sub(x.shift);
+    let end = x.highest.saturating_sub(x.shift);
     if version2 & (x.lowest < MM_PROGRAM_START) {
         return Err(ElfError::ValueOutOfBounds);
     }
     Ok(Placing::Borrowed {
         offset: from_start(x.lowest),
         start,
-        length: saturating_sub(end, start),
+        length: end.saturating_sub(start),
     })
 }
 
@@ -207,7 +207,7 @@ fn own_sections(len: u64, optimize: bool, x: Extent) -> Result<Placing, ElfError
     ensures { result ≡ owned len optimize x }
 {
     let lowest = pick(optimize, x.lowest, 0);
-    let length = saturating_sub(x.highest, lowest);
+    let length = x.highest.saturating_sub(lowest);
     if len < length {
         return Err(ElfError::ValueOutOfBounds);
     }
@@ -228,7 +228,7 @@ fn place_extent(
     ensures { result ≡ placed len version2 reject_broken optimize x }
 {
     let borrows = can_borrow(x);
-    let end = saturating_add(x.lowest, x.filled);
+    let end = x.lowest.saturating_add(x.filled);
     if reject_broken & (x.highest < end) {
         return Err(ElfError::ValueOutOfBounds);
     }
@@ -288,7 +288,7 @@ fn copy_section(ro: &mut [u8], image: &[u8], file: &[u8], layout: Layout, lowest
     if !is_read_only(section_name_part(file, layout, h.sh_name)) {
         return;
     }
-    let at = saturating_sub(h.sh_addr, lowest);
+    let at = h.sh_addr.saturating_sub(lowest);
     match file_range(file, layout, index) {
         Place::Refused(_) => {}
         Place::At { start, length } => {

@@ -9,7 +9,7 @@ ghost use Rattle.loader.specs.Functions.{Keyed};
 ghost use Rattle.loader.specs.InnerContracts.{InFile};
 ghost use Rattle.loader.specs.Relocations.{relocation_or, rela_or, relocation_at, header_at, contains, first_from, used_header, place_of, within, program_address, immediate_at, halves_deed, word_deed, address_deed, symbol_deed, plan6464, relative_text, relative_value, is_negative, plan_relative, register_deed, function_call, builtin_call, call_by_name, named_call, plan6432, plan_at, plan_of};
 
-use crate::addresses::{lesser, pick, saturating_add, saturating_sub};
+use crate::addresses::pick;
 use crate::deeds::Deed;
 use crate::error::ElfError;
 use crate::functions::{row_for, symbol_function};
@@ -105,7 +105,7 @@ fn header_at(file: &[u8], layout: Layout, index: u32) -> Option<UsedHeader>
     match program_header(file, layout, index) {
         Phdr::Header(h) => Some(UsedHeader {
             p_vaddr: h.p_vaddr,
-            end: saturating_add(h.p_vaddr, h.p_memsz),
+            end: h.p_vaddr.saturating_add(h.p_memsz),
             p_offset: h.p_offset,
         }),
         Phdr::Refused(_) => None,
@@ -154,7 +154,7 @@ pub fn used_header(
         return used;
     }
     let headers = layout.program_headers;
-    let count = lesser(headers.count, 0xffff_ffff) as u32;
+    let count = headers.count.min(0xffff_ffff) as u32;
     first_header(file, layout, count, r_offset)
 }
 
@@ -167,7 +167,11 @@ pub fn r_place(version2: bool, used: Option<UsedHeader>, r_offset: u64) -> Optio
         return Some(r_offset);
     }
     let h = used?;
-    Some(saturating_add(saturating_sub(r_offset, h.p_vaddr), h.p_offset))
+    Some(
+        r_offset
+            .saturating_sub(h.p_vaddr)
+            .saturating_add(h.p_offset),
+    )
 }
 
 // Whether a place lies in the `length` bytes from `start` on.
@@ -194,7 +198,7 @@ fn program_address(a: u64) -> u64
 fn immediate_at(r: u64) -> u64
     ensures { result ≡ immediate_at r }
 {
-    saturating_add(r, 4)
+    r.saturating_add(4)
 }
 
 fn halves_deed(len: u64, low: u64, high: u64, value: u64) -> Result<Deed, ElfError>
@@ -230,7 +234,7 @@ fn address_deed(len: u64, split: bool, at: u64, value: u64) -> Result<Deed, ElfE
     ensures { result ≡ address_deed len split at value }
 {
     if split {
-        return halves_deed(len, at, saturating_add(at, 8), value);
+        return halves_deed(len, at, at.saturating_add(8), value);
     }
     word_deed(len, at, value)
 }
@@ -252,7 +256,7 @@ fn symbol_deed(
             len,
             split,
             at,
-            program_address(saturating_add(y.st_value, addend)),
+            program_address(y.st_value.saturating_add(addend)),
         ),
         Sym::Refused(_) => Err(ElfError::UnknownSymbol { number }),
     }
@@ -348,7 +352,7 @@ fn plan_relative(
     let len = image.len() as u64;
     let low = immediate_at(r);
     if in_text {
-        let high = immediate_at(saturating_add(r, 8));
+        let high = immediate_at(r.saturating_add(8));
         let address = join_halves(
             read_u32(image, low as usize),
             read_u32(image, high as usize),
@@ -367,7 +371,7 @@ fn plan_relative(
 pub(crate) fn in_addresses(sh_addr: u64, sh_size: u64, a: u64) -> bool
     ensures { result ≡ (leb sh_addr a && ltb a (sum_up_to sh_addr sh_size)) }
 {
-    (sh_addr <= a) & (a < saturating_add(sh_addr, sh_size))
+    (sh_addr <= a) & (a < sh_addr.saturating_add(sh_size))
 }
 
 // A function to register, and the place of its key.

@@ -1,10 +1,9 @@
 // The checks ahead of a load: sizes, built-ins, the parse, the header, the sections and the text's
 // place. What a load needs of them afterwards is one struct of numbers.
 ghost use Rattle.std.specs.Prelude.{◌≡◌};
-ghost use Rattle.ebpf.specs.Choice.{◌if◌else◌};
 ghost use Rattle.loader.specs.Validate.{size_check, ascends, header_check, writable_error, sections_check, text_check, job_of, file_check, validated, prepared};
 
-use crate::addresses::{machine_addr, saturating_add};
+use crate::addresses::{machine_addr, pick};
 use crate::error::{ElfError, from_parser};
 use crate::overview::look_over;
 use crate::read_only::{Placing, place_gathered};
@@ -143,8 +142,8 @@ fn check_text(
     ensures { result ≡ text_check version2 reject_broken e_entry h }
 {
     let addr = machine_addr(version2, h.sh_addr);
-    let end = saturating_add(h.sh_addr, h.sh_size);
-    let last = saturating_add(addr, h.sh_size);
+    let end = h.sh_addr.saturating_add(h.sh_size);
+    let last = addr.saturating_add(h.sh_size);
     if e_entry < h.sh_addr {
         return Err(ElfError::EntrypointOutOfBounds);
     }
@@ -185,20 +184,11 @@ fn job_of(
         e_entry,
         sh_addr: h.sh_addr,
         sh_size: h.sh_size,
-        start: pick_size(nobits, h.sh_offset),
-        length: pick_size(nobits, h.sh_size),
+        start: pick(nobits, 0, h.sh_offset) as usize,
+        length: pick(nobits, 0, h.sh_size) as usize,
         addr,
         placing,
     }
-}
-
-fn pick_size(nobits: bool, x: u64) -> usize
-    ensures { result ≡ (0 if nobits else x) }
-{
-    if nobits {
-        return 0;
-    }
-    x as usize
 }
 
 // The header's and the sections' checks.

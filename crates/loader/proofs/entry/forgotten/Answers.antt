@@ -7,7 +7,7 @@ pub overflow_add-result : goal.overflow_add-result
 overflow_add-result c = gone_fit c.args.answer _ c.args.moves c.in-Gone.is c.requires
 
 pub returns-in-Gone : goal.returns-in-Gone
-returns-in-Gone c = rw (c.in-Gone.is, c.less_one.ensures)
+returns-in-Gone c = rw (c.in-Gone.is, c.saturating_sub.ensures)
 
 pub returns-in-Absent : goal.returns-in-Absent
 returns-in-Absent c = forgotten_as c.args.answer _ c.args.used c.args.moves c.in-Absent.is
