@@ -9,7 +9,7 @@ use native.Mathlib.Omega.{arith}
 use lib.ListN.{length, get_or, take, replicate, length-append, length-replicate}
 use lib.Seq.{length-take-le, get_or-take}
 use borrow.Author.Tests.{le-leb, lt-ltb, le-ltb, eq-eqb}
-use Rattle.std.specs.Prelude.{Option, Some, None, Ok, Err}
+use Rattle.std.specs.Prelude.{Option, Some, None, Ok, Err, Result}
 use Rattle.ebpf.specs.Choice.{◌if◌else◌}
 use Rattle.program.specs.declared.Row.{Row}
 use Rattle.program.specs.declared.FunctionName.{FunctionName}
@@ -20,15 +20,12 @@ use Rattle.program.specs.HashedLegacy.{legacy_row, collision}
 use Rattle.program.proofs.Cases.{by_eq, zero_one}
 use Rattle.program.proofs.Steps.{row_below}
 use Rattle.program.proofs.Tables.{lookups_agree, row_agrees}
-use Rattle.loader.specs.declared.answer.Accepted.{Accepted}
-use Rattle.loader.specs.declared.answer.Load.{Load}
-use Rattle.loader.specs.declared.answer.Load.TheVariants.{Accepted as Accepts}
+use Rattle.loader.specs.declared.read_only.Placing.TheVariants.{Borrowed, Owned}
 use Rattle.loader.specs.declared.read_only.Placing.{Placing}
-use Rattle.loader.specs.declared.read_only.Placing.TheVariants.{Borrowed, Owned, Refused as NotPlaced}
+use Rattle.loader.specs.declared.error.ElfError.{ElfError}
+use Rattle.loader.specs.declared.answer.Accepted.{Accepted}
 use Rattle.loader.specs.declared.validate.Config.{Config}
 use Rattle.loader.specs.declared.validate.Job.{Job}
-use Rattle.loader.specs.declared.validate.Prepared.{Prepared}
-use Rattle.loader.specs.declared.validate.Prepared.TheVariants.{Ready, Refused as NotReady}
 use Rattle.loader.specs.Deeds.{deed_trace}
 use Rattle.loader.specs.Demand.{Finds, entry_index, OfEntry, name_key, IsNameKey, Entry, Others, Demand3}
 use Rattle.loader.specs.Entry.{forget_trace, entry_deed, entry_trace}
@@ -58,7 +55,7 @@ pub record Kept (file : List ℕ) (n rows : ℕ) (j : Job) (a : Accepted) : Type
   pub entry_is : a.entry ≡ entry_index j
 
 module _ (file builtins : List ℕ) (c : Config) (n m rows : ℕ) where
-  module _ (j : Job) (ready : prepared file builtins c n m ≡ Ready j) (im : List ℕ) (held : List Row) (moves : ℕ) (settles : settle rows (job_trace file builtins j file) [] 0 ≡ accepted im held moves) where
+  module _ (j : Job) (ready : prepared file builtins c n m ≡ Ok j) (im : List ℕ) (held : List Row) (moves : ℕ) (settles : settle rows (job_trace file builtins j file) [] 0 ≡ accepted im held moves) where
     kept_as : (x : Accepted) → x.used ≡ length held → x.text_start ≡ j.start → x.text_length ≡ j.length → x.entry ≡ entry_index j → Kept file n rows j x
     kept_as x u s l t =
         let f = readied file builtins c n m j ready in
@@ -71,10 +68,10 @@ module _ (file builtins : List ℕ) (c : Config) (n m rows : ℕ) where
           entry_is = t;
         }
 
-    placed_kept : (p : Placing) (a : Accepted) → answer_of (held_by file j m p im held moves) ≡ Accepts a → Kept file n rows j a
-    placed_kept (Borrowed offset start k) a e = let q : accepted_as j false offset start k (length held) moves ≡ a = cc in rw (← q) (kept_as _ refl refl refl refl)
-    placed_kept (Owned offset lowest k) a e = let q : accepted_as j true offset 0 k (length held) moves ≡ a = cc in rw (← q) (kept_as _ refl refl refl refl)
-    placed_kept (NotPlaced r) a e = absurd (zero_one (cc))
+    placed_kept : (p : Result Placing ElfError) (a : Accepted) → answer_of (held_by file j m p im held moves) ≡ Ok a → Kept file n rows j a
+    placed_kept (Ok (Borrowed offset start k)) a e = let q : accepted_as j false offset start k (length held) moves ≡ a = cc in rw (← q) (kept_as _ refl refl refl refl)
+    placed_kept (Ok (Owned offset lowest k)) a e = let q : accepted_as j true offset 0 k (length held) moves ≡ a = cc in rw (← q) (kept_as _ refl refl refl refl)
+    placed_kept (Err r) a e = absurd (zero_one (cc))
 
     -- the entry's registration is one of the load's
     entry_registered : (row : Row) × OfEntry builtins j row
@@ -89,28 +86,28 @@ module _ (file builtins : List ℕ) (c : Config) (n m rows : ℕ) where
   -- a file that an accepted load's answer is of
   pub record From (a : Accepted) : Type 0 where
     pub job : Job
-    pub ready : prepared file builtins c n m ≡ Ready job
+    pub ready : prepared file builtins c n m ≡ Ok job
     pub kept : Kept file n rows job a
     pub row : Row
     pub entered : OfEntry builtins job row
 
-  pub from : (a : Accepted) → answer_of (load_of file builtins c n m rows) ≡ Accepts a → From a
+  pub from : (a : Accepted) → answer_of (load_of file builtins c n m rows) ≡ Ok a → From a
   unfolding load_of
   from a e = by_prepared (prepared file builtins c n m) refl e
     where
-      by_settled : (j : Job) → prepared file builtins c n m ≡ Ready j
+      by_settled : (j : Job) → prepared file builtins c n m ≡ Ok j
           → (s : Settled)
           → settle rows (job_trace file builtins j file) [] 0 ≡ s
-          → answer_of (on_trace file j m s) ≡ Accepts a
+          → answer_of (on_trace file j m s) ≡ Ok a
           → From a
       by_settled j r (refused x) q h = absurd (zero_one (cc))
       by_settled j r (accepted im held moves) q h =
           let d = entry_registered j r im held moves q in
           record { job = j; ready = r; kept = placed_kept j r im held moves q j.placing a h; row = d.0; entered = d.1 }
 
-      by_prepared : (p : Prepared) → prepared file builtins c n m ≡ p → answer_of (on_prepared file builtins m rows p) ≡ Accepts a → From a
-      by_prepared (NotReady r) q h = absurd (zero_one (cc))
-      by_prepared (Ready j) q h = by_settled j q (settle rows (job_trace file builtins j file) [] 0) refl h
+      by_prepared : (p : Result Job ElfError) → prepared file builtins c n m ≡ p → answer_of (on_prepared file builtins m rows p) ≡ Ok a → From a
+      by_prepared (Err r) q h = absurd (zero_one (cc))
+      by_prepared (Ok j) q h = by_settled j q (settle rows (job_trace file builtins j file) [] 0) refl h
 
 -- ---- the entry has a row
 
@@ -153,17 +150,17 @@ image_long n (holds a im ro rows) = omega (arith, length-append im (replicate (n
 image_long n (refuses r) = omega (arith, length-replicate n (zero))
 
 -- what a load of n lent bytes for the image, m for the read-only bytes, and the table t₀ leaves: its answer, image and table
-pub record Made (file builtins : List ℕ) (c : Config) (n m : ℕ) (t₀ : Slices) (im : List ℕ) (t : Slices) (r : Load) : Type 0 where
+pub record Made (file builtins : List ℕ) (c : Config) (n m : ℕ) (t₀ : Slices) (im : List ℕ) (t : Slices) (r : Result Accepted ElfError) : Type 0 where
   pub answers : r ≡ answer_of (load_of file builtins c n m (capacity t₀))
   pub image : im ≡ image_of n (load_of file builtins c n m (capacity t₀))
   pub keyed : Demand3 file builtins c n m t₀ im t r
   pub ascending : OnUsed r (λ used. IsTable t used)
 
-pub made : (file builtins : Shared) (c : Config) (image ro keys indices kinds starts lengths : Lent) (r : Load) → Loads file builtins c image ro keys indices kinds starts lengths r
+pub made : (file builtins : Shared) (c : Config) (image ro keys indices kinds starts lengths : Lent) (r : Result Accepted ElfError) → Loads file builtins c image ro keys indices kinds starts lengths r
     → Made file.entry.now builtins.entry.now c (length image.entry.now) (length ro.entry.now) (table_before keys indices kinds starts lengths) image.exit.now (table_after keys indices kinds starts lengths) r
 made file builtins c image ro keys indices kinds starts lengths r l = record { answers = l.loaded.answers; image = l.loaded.demand_1.image; keyed = l.keyed; ascending = l.ascending }
 
-module _ (file builtins : List ℕ) (c : Config) (n m : ℕ) (t₀ : Slices) (im : List ℕ) (t : Slices) (a : Accepted) (l : Made file builtins c n m t₀ im t (Accepts a)) where
+module _ (file builtins : List ℕ) (c : Config) (n m : ℕ) (t₀ : Slices) (im : List ℕ) (t : Slices) (a : Accepted) (l : Made file builtins c n m t₀ im t (Ok a)) where
   source : From file builtins c n m (capacity t₀) a
   source = from file builtins c n m (capacity t₀) a (sym l.answers)
 

@@ -6,15 +6,17 @@ use mathlib.Core.Bool.{Bool, true, false}
 use mathlib.Core.List.{List, []}
 use native.Mathlib.Omega.{arith}
 use lib.ListN.{length}
+use Rattle.std.specs.Prelude.{Result, Ok, Err}
 use Rattle.program.specs.declared.Row.{Row}
 use Rattle.program.specs.Rows.{registered, remove, RegisterResult}
 use Rattle.program.specs.Rows as table
 use Rattle.program.proofs.Cases.{zero_one}
 use Rattle.program.proofs.Laws.{by_registered, length_insert, registered_room}
-use Rattle.loader.specs.declared.deeds.Deed.{Deed}
-use Rattle.loader.specs.declared.deeds.Deed.TheVariants.{Skip, Refuse, Halves, Word, Key, Register, RegisterOnly, RegisterOutside}
+use Rattle.loader.specs.declared.read_only.Placing.TheVariants.{Borrowed, Owned}
 use Rattle.loader.specs.declared.read_only.Placing.{Placing}
-use Rattle.loader.specs.declared.read_only.Placing.TheVariants.{Borrowed, Owned, Refused}
+use Rattle.loader.specs.declared.error.ElfError.{ElfError}
+use Rattle.loader.specs.declared.deeds.Deed.{Deed}
+use Rattle.loader.specs.declared.deeds.Deed.TheVariants.{Skip, Halves, Word, Key, Register, RegisterOnly, RegisterOutside}
 use Rattle.loader.specs.declared.validate.Job.{Job}
 use Rattle.loader.specs.Calls.{slot_count, call_deed, slot_trace, calls_trace}
 use Rattle.loader.specs.InnerContracts.{InFile}
@@ -56,21 +58,21 @@ unfolding each
 most_each step s zero i im = tt
 most_each step s (suc n) i im = let e : suc n ≡ 1 + n = omega arith in rw e (most_then 1 n (step i im) (λ im'. each step n (i + 1) im') (s i im) (λ im'. most_each step s n (i + 1) im'))
 
-deed_one : (d : Deed) (im : List ℕ) → AtMost 1 (deed_trace d im)
+deed_one : (d : Result Deed ElfError) (im : List ℕ) → AtMost 1 (deed_trace d im)
 unfolding deed_trace
-deed_one Skip im = tt
-deed_one (Refuse r) im = tt
-deed_one (Halves low high v) im = tt
-deed_one (Word at v) im = tt
-deed_one (Key at k) im = tt
-deed_one (Register row at) im = tt
-deed_one (RegisterOnly row) im = tt
-deed_one (RegisterOutside row) im = tt
+deed_one (Ok Skip) im = tt
+deed_one (Err r) im = tt
+deed_one (Ok (Halves low high v)) im = tt
+deed_one (Ok (Word at v)) im = tt
+deed_one (Ok (Key at k)) im = tt
+deed_one (Ok (Register row at)) im = tt
+deed_one (Ok (RegisterOnly row)) im = tt
+deed_one (Ok (RegisterOutside row)) im = tt
 
-placed_none : (p : Placing) (im : List ℕ) → AtMost 0 (placed_trace p im)
-placed_none (Borrowed offset start n) im = tt
-placed_none (Owned offset lowest n) im = tt
-placed_none (Refused r) im = tt
+placed_none : (p : Result Placing ElfError) (im : List ℕ) → AtMost 0 (placed_trace p im)
+placed_none (Ok (Borrowed offset start n)) im = tt
+placed_none (Ok (Owned offset lowest n)) im = tt
+placed_none (Err r) im = tt
 
 forget_none : (version2 : Bool) (im : List ℕ) → AtMost 0 (forget_trace version2 im)
 forget_none true im = tt

@@ -10,7 +10,7 @@ use lib.ListN.{length, get_or, take, get_or-eq_default}
 use lib.Seq.{length-take-le, get_or-take, take-take}
 use lib.Dec.{ltb, eqb}
 use borrow.Author.Tests.{le-ltb, lt-leb}
-use Rattle.std.specs.Prelude.{Option, Some, None}
+use Rattle.std.specs.Prelude.{Option, Some, None, Result, Ok, Err}
 use Rattle.ebpf.specs.Choice.{◌if◌else◌}
 use Rattle.ebpf.specs.Instructions.{insn_at}
 use Rattle.ebpf.specs.declared.Insn.{Insn}
@@ -26,9 +26,8 @@ use Rattle.call_graph.specs.Profile.{Profile, CallsFunction, Answers}
 use Rattle.call_graph.specs.Ways.{Reaches, Calling}
 use Rattle.call_graph.proofs.Equation.{answer_means}
 use Rattle.call_graph.proofs.Ways.{longest_as, smallest_as, no_return}
+use Rattle.loader.specs.declared.error.ElfError.{ElfError}
 use Rattle.loader.specs.declared.answer.Accepted.{Accepted}
-use Rattle.loader.specs.declared.answer.Load.{Load}
-use Rattle.loader.specs.declared.answer.Load.TheVariants.{Accepted as Accepts, Refused as Refuses}
 use Rattle.loader.specs.declared.error.ElfError.TheVariants.{BufferShort}
 use Rattle.loader.specs.declared.validate.Config.{Config}
 use Rattle.loader.specs.Demand.{Finds}
@@ -131,7 +130,7 @@ small_front xs n r h l = by_lt r n (λ _. get_or (take n xs) r 0 < 2 ^ 32)
     (λ b. let z : get_or (take n xs) r 0 ≡ 0 = get_or-eq_default (take n xs) 0 (omega (arith, length-take-le n xs l)) in omega (arith, z))
 
 module _ (file builtins : List ℕ) (c : Config) (n m : ℕ) (t₀ : Slices) (im : List ℕ) (t : Slices) where
-  module _ (a : Accepted) (l : Made file builtins c n m t₀ im t (Accepts a)) where
+  module _ (a : Accepted) (l : Made file builtins c n m t₀ im t (Ok a)) where
     -- THE QUESTION ABOUT AN ACCEPTED LOAD is refused for a short `work` only
     pub answered : (work limit : ℕ)
         → depth_by work (capacity t₀) im t.keys t.indices a limit ≡ (Refused BufferShort if ltb work (capacity t₀) else limited (limit_of limit) (depth_of (profile_after a im t) a.entry))
@@ -153,12 +152,12 @@ module _ (file builtins : List ℕ) (c : Config) (n m : ℕ) (t₀ : Slices) (im
         (limited_means (profile_after a im t) a.entry (limit_of limit) (depth_of (profile_after a im t) a.entry) (profile_means small)))
 
   -- WHAT IT MEANS; the numbers of the index column have 32 bits
-  pub depth_means : (r : Load) → Made file builtins c n m t₀ im t r → (work limit : ℕ) → ((i : ℕ) → get_or t.indices i 0 < 2 ^ 32)
+  pub depth_means : (r : Result Accepted ElfError) → Made file builtins c n m t₀ im t r → (work limit : ℕ) → ((i : ℕ) → get_or t.indices i 0 < 2 ^ 32)
       → (x : CallDepth)
       → x ≡ depth_asked work (capacity t₀) im t.keys t.indices r limit
       → MeansOf r im t (capacity t₀) work limit x
-  depth_means (Accepts a) l work limit small x e = λ h. rw e (means_accepted a l work limit h small)
-  depth_means (Refuses r) l work limit small x e = tt
+  depth_means (Ok a) l work limit small x e = λ h. rw e (means_accepted a l work limit h small)
+  depth_means (Err r) l work limit small x e = tt
 
 -- 50 EXACTLY WHERE A FUNCTION THAT IS REACHED REACHES ITSELF
 pub recursive_iff : (R : ℕ → ℕ → Type 0) (e limit : ℕ) (x : CallDepth) → Means R e limit x → ((i : ℕ) × (x ≡ RecursiveCall i)) ↔ ((j : ℕ) × Reaches R e j × Calling R j j)

@@ -1,13 +1,12 @@
 -- The question about a load already made: its answer, and its image and table. On every input, an answer too that no load gave.
-use Rattle.std.specs.Prelude.{ℕ, ◌+◌, Bool, ◌&&◌, ◌||◌, not, List, length, take, drop, ltb, leb, eqb}
+use Rattle.std.specs.Prelude.{ℕ, ◌+◌, Bool, ◌&&◌, ◌||◌, not, List, length, take, drop, ltb, leb, eqb, Result, Ok, Err}
 use Rattle.ebpf.specs.Choice.{◌if◌else◌}
 use Rattle.program.specs.Search.{index_of}
 use Rattle.call_graph.specs.declared.Depth.{Depth}
 use Rattle.call_graph.specs.declared.Depth.TheVariants.{Deep as IsDeep, Recursive as IsRecursive}
 use Rattle.call_graph.specs.Answer.{depth_of}
+use Rattle.loader.specs.declared.error.ElfError.{ElfError}
 use Rattle.loader.specs.declared.answer.Accepted.{Accepted}
-use Rattle.loader.specs.declared.answer.Load.{Load}
-use Rattle.loader.specs.declared.answer.Load.TheVariants.{Accepted as Accepts, Refused as Refuses}
 use Rattle.loader.specs.declared.error.ElfError.TheVariants.{BufferShort, ValueOutOfBounds}
 use Rattle.call_depth.specs.declared.CallDepth.{CallDepth}
 use Rattle.call_depth.specs.declared.CallDepth.TheVariants.{Deep, RecursiveCall, TooDeep, Refused}
@@ -40,6 +39,6 @@ depth_by work rows image keys indices a limit =
     depth_in (take a.text_length (drop a.text_start image)) (take a.used keys) (take a.used indices) (eqb a.version 2) a.entry limit
 
 -- HOW DEEP THE PROFILE CALLS, by a load's answer
-abbrev pub depth_asked : ℕ → ℕ → List ℕ → List ℕ → List ℕ → Load → ℕ → CallDepth
-depth_asked work rows image keys indices (Refuses r) limit = Refused r
-depth_asked work rows image keys indices (Accepts a) limit = depth_by work rows image keys indices a limit
+abbrev pub depth_asked : ℕ → ℕ → List ℕ → List ℕ → List ℕ → Result Accepted ElfError → ℕ → CallDepth
+depth_asked work rows image keys indices (Err r) limit = Refused r
+depth_asked work rows image keys indices (Ok a) limit = depth_by work rows image keys indices a limit

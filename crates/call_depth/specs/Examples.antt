@@ -1,5 +1,5 @@
 -- Worked examples, each by computation.
-use Rattle.std.specs.Prelude.{ℕ, true, false, List, [], ◌∷◌, ◌++◌, ◌≡◌, refl}
+use Rattle.std.specs.Prelude.{ℕ, true, false, List, [], ◌∷◌, ◌++◌, ◌≡◌, refl, Ok, Err}
 use Rattle.ebpf.specs.Choice.{◌if◌else◌}
 use Rattle.ebpf.specs.Instructions.{slot_at, insn_at}
 use Rattle.ebpf.specs.LittleEndian.{le, bytes_of}
@@ -7,7 +7,6 @@ use Rattle.program.specs.Search.{narrowed, binary_search}
 use Rattle.program.specs.Table.{number_at, row_ascending_in}
 use Rattle.call_graph.specs.Answer.{depth_of}
 use Rattle.loader.specs.declared.answer.Accepted.{Accepted}
-use Rattle.loader.specs.declared.answer.Load.TheVariants.{Accepted as Accepts, Refused as Refuses}
 use Rattle.loader.specs.declared.deeds.Deed.TheVariants.{Key}
 use Rattle.loader.specs.declared.error.ElfError.TheVariants.{WrongAbi, BufferShort, ValueOutOfBounds}
 use Rattle.loader.specs.Bytes.{put}
@@ -75,7 +74,7 @@ two_rows = refl
 abbrev unwritten : List ℕ
 unwritten = call 0xffff_ffff ++ exit ++ exit
 
-relocated : deep unwritten 64 ∷ deep (written (Key 4 2) unwritten) 64 ∷ [] ≡ Deep 1 ∷ Deep 2 ∷ []
+relocated : deep unwritten 64 ∷ deep (written (Ok (Key 4 2)) unwritten) 64 ∷ [] ≡ Deep 1 ∷ Deep 2 ∷ []
 unfolding depth_in limit_of depth_of callee_in calls_key row_ascending_in number_at binary_search narrowed insn_at slot_at le bytes_of put ◌if◌else◌
 relocated = refl
 
@@ -101,7 +100,7 @@ answer entry used start = record {
 }
 
 abbrev ask : ℕ → Accepted → CallDepth
-ask work a = depth_asked work 4 (exit ++ call 1 ++ call 2 ++ exit) (0 ∷ 1 ∷ 2 ∷ 0 ∷ []) (0 ∷ 1 ∷ 2 ∷ 0 ∷ []) (Accepts a) 64
+ask work a = depth_asked work 4 (exit ++ call 1 ++ call 2 ++ exit) (0 ∷ 1 ∷ 2 ∷ 0 ∷ []) (0 ∷ 1 ∷ 2 ∷ 0 ∷ []) (Ok a) 64
 
 -- a chain of 3; `work` shorter than the rows lent, though not than those used: 41; an entry without a row, more rows used than lent, a text past the image: 33
 asked : ask 4 (answer 0 3 8) ∷ ask 3 (answer 0 3 8) ∷ ask 4 (answer 3 3 8) ∷ ask 4 (answer 0 5 8) ∷ ask 4 (answer 0 3 9) ∷ []
@@ -110,5 +109,5 @@ unfolding depth_by fits_in depth_in limit_of depth_of callee_in calls_key row_as
 asked = refl
 
 -- a refused load's own refusal, whatever `work` is
-refused : depth_asked 0 4 [] [] [] (Refuses WrongAbi) 64 ≡ Refused WrongAbi
+refused : depth_asked 0 4 [] [] [] (Err WrongAbi) 64 ≡ Refused WrongAbi
 refused = refl

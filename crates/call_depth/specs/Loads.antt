@@ -1,9 +1,9 @@
 -- What `load_call_depth` promises.
-use Rattle.std.specs.Prelude.{ℕ, ◌≤◌, ◌≡◌, List, length}
+use Rattle.std.specs.Prelude.{ℕ, ◌≤◌, ◌≡◌, List, length, Result, Ok, Err}
 use Rattle.program.specs.Table.{Slices, Lent, Shared, table_before, table_after, capacity}
+use Rattle.loader.specs.declared.error.ElfError.{ElfError}
+use Rattle.loader.specs.declared.answer.Accepted.{Accepted}
 use Rattle.loader.specs.declared.validate.Config.{Config}
-use Rattle.loader.specs.declared.answer.Load.{Load}
-use Rattle.loader.specs.declared.answer.Load.TheVariants.{Accepted as Accepts, Refused as Refuses}
 use Rattle.loader.specs.Loads.{Loads}
 use Rattle.call_depth.specs.declared.CallDepth.{CallDepth}
 use Rattle.call_depth.specs.declared.LoadDepth.{LoadDepth}
@@ -11,9 +11,9 @@ use Rattle.call_depth.specs.Asked.{limit_of, depth_asked}
 use Rattle.call_depth.specs.Meaning.{FunctionCalls, Means}
 
 -- of an accepted load, with a number of `work` for each row
-abbrev pub MeansOf : Load → List ℕ → Slices → ℕ → ℕ → ℕ → CallDepth → Type 0
-MeansOf (Accepts a) im t rows work limit x = rows ≤ work → Means (FunctionCalls a im t) a.entry (limit_of limit) x
-MeansOf (Refuses r) im t rows work limit x = Unit {0}
+abbrev pub MeansOf : Result Accepted ElfError → List ℕ → Slices → ℕ → ℕ → ℕ → CallDepth → Type 0
+MeansOf (Ok a) im t rows work limit x = rows ≤ work → Means (FunctionCalls a im t) a.entry (limit_of limit) x
+MeansOf (Err r) im t rows work limit x = Unit {0}
 
 -- all that `load` promises, whatever comes of the question, and how deep the profile calls. What `work` holds afterwards is left free
 pub record LoadsAndMeasures (file builtins : Shared) (c : Config) (image ro keys indices kinds starts lengths work : Lent) (limit : ℕ) (r : LoadDepth) : Type 0 where

@@ -11,7 +11,7 @@ ghost use Rattle.call_depth.specs.Loads.{LoadsAndMeasures};
 
 use call_graph::Depth;
 use elf_parser::past;
-use loader::{Accepted, Config, ElfError, Load, load};
+use loader::{Accepted, Config, ElfError, load};
 use program::FunctionTable;
 use recursion::recursive;
 use settling::settle;
@@ -35,7 +35,7 @@ pub enum CallDepth {
 // What a load answers, and how deep the profile calls.
 #[derive(Clone, Copy)]
 pub struct LoadDepth {
-    pub load: Load,
+    pub load: Result<Accepted, ElfError>,
     pub depth: CallDepth,
 }
 
@@ -169,7 +169,7 @@ pub fn call_depth(
     kinds: &[u32],
     starts: &[u32],
     lengths: &[u32],
-    answer: Load,
+    answer: Result<Accepted, ElfError>,
     limit: u32,
 ) -> CallDepth
     ensures { result ≡ depth_asked (length work.old) (capacity (slices keys.now indices.now kinds.now starts.now lengths.now)) image.now keys.now indices.now answer limit }
@@ -184,8 +184,8 @@ pub fn call_depth(
     };
     let rows = table.rows_lent();
     match answer {
-        Load::Refused(r) => CallDepth::Refused(r),
-        Load::Accepted(a) => depth_by(work, image, keys, indices, rows, a, limit),
+        Err(r) => CallDepth::Refused(r),
+        Ok(a) => depth_by(work, image, keys, indices, rows, a, limit),
     }
 }
 

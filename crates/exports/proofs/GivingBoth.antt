@@ -3,8 +3,10 @@ use Prim.Native.Nat.{ℕ}
 use mathlib.Core.Path.{◌≡◌, ap, ◌∙◌, subst}
 use mathlib.Core.List.{List}
 use lib.ListN.{length}
+use Rattle.std.specs.Prelude.{Result}
 use Rattle.program.specs.Table.{Slices, capacity}
-use Rattle.loader.specs.declared.answer.Load.{Load}
+use Rattle.loader.specs.declared.error.ElfError.{ElfError}
+use Rattle.loader.specs.declared.answer.Accepted.{Accepted}
 use Rattle.loader.specs.declared.validate.Config.{Config}
 use Rattle.loader.specs.Load.{Loading, load_of, answer_of, Loaded}
 use Rattle.writers.specs.declared.Wrote.{Wrote}
@@ -20,7 +22,7 @@ module _ (file builtins im ro : List ℕ) (t : Slices) where
   abbrev whole : Config → Loading
   whole c = load_of file builtins c (length im) (length ro) (capacity t)
 
-  pub both_given : (c d : Config) (e : c ≡ d) (im' ro' : List ℕ) (t' : Slices) (a : Load) → Loaded (whole c) im ro t im' ro' t' a
+  pub both_given : (c d : Config) (e : c ≡ d) (im' ro' : List ℕ) (t' : Slices) (a : Result Accepted ElfError) → Loaded (whole c) im ro t im' ro' t' a
       → (w v : Wrote)
       → w ≡ v
       → (b : Answer) (before after : List ℕ) (r : ℕ)
@@ -29,4 +31,4 @@ module _ (file builtins im ro : List ℕ) (t : Slices) where
       → Given (load_wrote_answer (answer_of (whole d)) v) before after r
   both_given c d e im' ro' t' a did w v q b before after r is g =
       subst (λ (y : Answer). Given y before after r)
-      (is ∙ ap (λ (x : Load). load_wrote_answer x w) (did.answers ∙ ap (λ (k : Config). answer_of (whole k)) e) ∙ ap (load_wrote_answer (answer_of (whole d))) q) g
+      (is ∙ ap (λ (x : Result Accepted ElfError). load_wrote_answer x w) (did.answers ∙ ap (λ (k : Config). answer_of (whole k)) e) ∙ ap (load_wrote_answer (answer_of (whole d))) q) g

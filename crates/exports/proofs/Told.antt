@@ -1,5 +1,8 @@
 -- What words tell: the word where there is none is no row's number, and the words of a load's answer ask what the answer itself asks.
 -- Assumes nothing.
+use Rattle.std.specs.Prelude.{Result, Ok, Err}
+use Rattle.loader.specs.declared.error.ElfError.{ElfError}
+use Rattle.loader.specs.declared.answer.Accepted.{Accepted}
 use mathlib.Core.Path.{◌≡◌, refl, ap}
 use mathlib.Core.Bool.{Bool}
 use Prim.Native.Nat.{ℕ, ◌%◌, ◌<◌, ◌^◌}
@@ -12,8 +15,6 @@ use Rattle.ebpf.specs.Choice.{◌if◌else◌}
 use Rattle.program.specs.Table.{row_ascending_in}
 use Rattle.program.proofs.Steps.{row_below}
 use Rattle.program.proofs.Cases.{by_lt}
-use Rattle.loader.specs.declared.answer.Load.{Load}
-use Rattle.loader.specs.declared.answer.Load.TheVariants.{Accepted as Accepts, Refused as Refuses}
 use Rattle.loader.specs.Errors as load
 use Rattle.writers.specs.Asked.{asked}
 use Rattle.exports.specs.Answers.{none_word, row_word, written, words_of, load_answer}
@@ -38,10 +39,10 @@ unfolding refusal_name names name_in bytes ◌if◌else◌
 number_some n h e = let k : length (refusal_name 0) ≡ 0 = refl in omega (arith, rw e at h)
 
 -- THE WORDS OF A LOAD'S ANSWER, all 24, ask who wrote a byte as the answer does
-pub wrote_told : (file : List ℕ) (a : Load) (b : ℕ) → who_wrote_answer file (words_of (load_answer a)) b ≡ wrote_answer (asked file a b)
+pub wrote_told : (file : List ℕ) (a : Result Accepted ElfError) (b : ℕ) → who_wrote_answer file (words_of (load_answer a)) b ≡ wrote_answer (asked file a b)
 unfolding who_wrote_answer written ◌if◌else◌
-wrote_told file (Accepts a) b = refl
-wrote_told file (Refuses e) b =
+wrote_told file (Ok a) b = refl
+wrote_told file (Err e) b =
     let n = (load.report_of e).number in
     let small = number_small n (load_named e) in
     let k : n % 2 ^ 32 ≡ n = omega arith in

@@ -1,6 +1,6 @@
 -- What the exported functions answer: a number, 0 or why there is nothing, and 23 words behind it.
 use Rattle.program.specs.declared.Row.{Row}
-use Rattle.std.specs.Prelude.{ℕ, zero, suc, ◌-◌, ◌/◌, ◌%◌, ◌^◌, ◌≡◌, Bool, true, false, eqb, List, [], ◌∷◌, length, Option, Some, None}
+use Rattle.std.specs.Prelude.{ℕ, zero, suc, ◌-◌, ◌/◌, ◌%◌, ◌^◌, ◌≡◌, Bool, true, false, eqb, List, [], ◌∷◌, length, Option, Some, None, Result, Ok, Err}
 use Rattle.elf_parser.specs.declared.error.ElfParserError.{ElfParserError}
 use Rattle.elf_parser.specs.declared.error.Report.{Report}
 use Rattle.elf_parser.specs.declared.layout.Layout.{Layout}
@@ -15,12 +15,10 @@ use Rattle.elf_parser.specs.Parse.{parsed}
 use Rattle.hash_table.specs.declared.FoundSymbol.{FoundSymbol}
 use Rattle.hash_table.specs.declared.FoundSymbol.TheVariants.{At as SymbolAt, Nothing as NoSymbol, BadHashTable}
 use Rattle.program.specs.Table.{Lent, Shared}
-use Rattle.loader.specs.declared.answer.Accepted.{Accepted}
-use Rattle.loader.specs.declared.answer.Load.{Load}
-use Rattle.loader.specs.declared.answer.Load.TheVariants.{Accepted as Accepts, Refused as Refuses}
-use Rattle.loader.specs.declared.validate.Config.{Config}
 use Rattle.loader.specs.declared.get_bytes.PartPlace.{PartPlace}
-use Rattle.loader.specs.declared.get_bytes.PartPlace.TheVariants.{At as TextAt, Refused as NoText}
+use Rattle.loader.specs.declared.error.ElfError.{ElfError}
+use Rattle.loader.specs.declared.answer.Accepted.{Accepted}
+use Rattle.loader.specs.declared.validate.Config.{Config}
 use Rattle.loader.specs.Errors as load
 use Rattle.loader.specs.Load.{load_of_lent, answer_of}
 use Rattle.loader.specs.Loads.{Loads}
@@ -172,9 +170,9 @@ loaded_with number a last behind =
     ∷ behind
     ∷ [])
 
-abbrev pub load_answer : Load → Answer
-load_answer (Accepts a) = loaded_with 0 a 0 0
-load_answer (Refuses e) = reported (load.report_of e)
+abbrev pub load_answer : Result Accepted ElfError → Answer
+load_answer (Ok a) = loaded_with 0 a 0 0
+load_answer (Err e) = reported (load.report_of e)
 
 -- WHAT `sbpf_load` PROMISES: what `load` promises, with demands 1 and 3, and its answer in words
 pub record GivesLoad (file builtins : Shared) (settings : ℕ) (image ro keys indices kinds starts lengths answer : Lent) (r : ℕ) : Type 0 where
@@ -182,9 +180,9 @@ pub record GivesLoad (file builtins : Shared) (settings : ℕ) (image ro keys in
   pub gives : Gives (load_answer (answer_of (load_of_lent file builtins (config_of settings) image ro keys indices kinds starts lengths))) answer r
 
 -- the text's place: its start and its length
-abbrev pub text_answer : PartPlace → Answer
-text_answer (TextAt start n) = accepted (start ∷ n ∷ [])
-text_answer (NoText e) = reported (load.report_of e)
+abbrev pub text_answer : Result PartPlace ElfError → Answer
+text_answer (Ok p) = accepted (p.start ∷ p.length ∷ [])
+text_answer (Err e) = reported (load.report_of e)
 
 -- ---- what private contracts cite
 

@@ -1,10 +1,9 @@
 -- Who wrote a byte, in words.
-use Rattle.std.specs.Prelude.{ℕ, ◌%◌, ◌^◌, ◌≡◌, Bool, List, [], ◌∷◌, length, get_or, ltb, eqb}
+use Rattle.std.specs.Prelude.{ℕ, ◌%◌, ◌^◌, ◌≡◌, Bool, List, [], ◌∷◌, length, get_or, ltb, eqb, Result, Ok, Err}
 use Rattle.ebpf.specs.Choice.{◌if◌else◌}
 use Rattle.program.specs.Table.{Lent, Shared, table_before, capacity}
+use Rattle.loader.specs.declared.error.ElfError.{ElfError}
 use Rattle.loader.specs.declared.answer.Accepted.{Accepted}
-use Rattle.loader.specs.declared.answer.Load.{Load}
-use Rattle.loader.specs.declared.answer.Load.TheVariants.{Accepted as Accepts, Refused as Refuses}
 use Rattle.loader.specs.declared.validate.Config.{Config}
 use Rattle.loader.specs.Errors as load
 use Rattle.loader.specs.Load.{load_of_lent, answer_of}
@@ -89,9 +88,9 @@ accepted_wrote a (By w) = loaded_with 0 a (kind_of w) (number_in w)
 accepted_wrote a NoSuchIndex = loaded_with 45 a 0 0
 accepted_wrote a (Refused e) = reported (load.report_of e)
 
-abbrev pub load_wrote_answer : Load → Wrote → Answer
-load_wrote_answer (Accepts a) wrote = accepted_wrote a wrote
-load_wrote_answer (Refuses e) wrote = reported (load.report_of e)
+abbrev pub load_wrote_answer : Result Accepted ElfError → Wrote → Answer
+load_wrote_answer (Ok a) wrote = accepted_wrote a wrote
+load_wrote_answer (Err e) wrote = reported (load.report_of e)
 
 -- what comes of the load, and who wrote the byte
 abbrev pub load_wrote_of : Shared → Shared → Config → Lent → Lent → Lent → Lent → Lent → Lent → Lent → ℕ → LoadWrote

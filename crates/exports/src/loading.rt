@@ -3,7 +3,7 @@ ghost use Rattle.std.specs.Prelude.{◌≡◌, ◌<◌};
 ghost use Rattle.exports.specs.Answers.{bit_of, config_of, number_of, loaded_with, load_answer, text_answer};
 
 use crate::answers::{Answer, answer_with, reported};
-use loader::{Accepted, Config, Load, PartPlace, report_of};
+use loader::{Accepted, Config, ElfError, PartPlace, report_of};
 
 // Whether the bit of that value, a power of two, is set.
 fn bit(settings: u32, value: u32) -> bool
@@ -62,20 +62,20 @@ pub(crate) fn loaded_with(number: u32, a: Accepted, last: u64, behind: u64) -> A
     answer_with(number, &words)
 }
 
-pub(crate) fn load_answer(a: Load) -> Answer
+pub(crate) fn load_answer(a: Result<Accepted, ElfError>) -> Answer
     ensures { result ≡ load_answer a }
 {
     match a {
-        Load::Accepted(a) => loaded_with(0, a, 0, 0),
-        Load::Refused(e) => reported(report_of(e)),
+        Ok(a) => loaded_with(0, a, 0, 0),
+        Err(e) => reported(report_of(e)),
     }
 }
 
-pub(crate) fn text_answer(p: PartPlace) -> Answer
+pub(crate) fn text_answer(p: Result<PartPlace, ElfError>) -> Answer
     ensures { result ≡ text_answer p }
 {
     match p {
-        PartPlace::At { start, length } => answer_with(0, &[0, 0, 0, start, length]),
-        PartPlace::Refused(e) => reported(report_of(e)),
+        Ok(PartPlace { start, length }) => answer_with(0, &[0, 0, 0, start, length]),
+        Err(e) => reported(report_of(e)),
     }
 }

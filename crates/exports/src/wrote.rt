@@ -4,7 +4,7 @@ ghost use Rattle.exports.specs.Wrote.{kind_of, number_in, wrote_answer, refusal_
 
 use crate::answers::{Answer, answer_with, reported, word_in};
 use crate::loading::loaded_with;
-use loader::{Accepted, Load, clear_words, report_of};
+use loader::{Accepted, ElfError, clear_words, report_of};
 use writers::{Filled, Writer, Wrote, who_wrote_all_by, who_wrote_by};
 
 fn kind_of(w: Writer) -> u64
@@ -99,11 +99,11 @@ fn accepted_wrote(a: Accepted, wrote: Wrote) -> Answer
     }
 }
 
-pub(crate) fn load_wrote_answer(load: Load, wrote: Wrote) -> Answer
+pub(crate) fn load_wrote_answer(load: Result<Accepted, ElfError>, wrote: Wrote) -> Answer
     ensures { result ≡ load_wrote_answer load wrote }
 {
     match load {
-        Load::Accepted(a) => accepted_wrote(a, wrote),
-        Load::Refused(e) => reported(report_of(e)),
+        Ok(a) => accepted_wrote(a, wrote),
+        Err(e) => reported(report_of(e)),
     }
 }

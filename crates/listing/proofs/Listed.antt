@@ -7,21 +7,18 @@ use mathlib.Core.List.{List, [], ◌++◌}
 use lib.ListN.{length, get_or, drop, replicate, drop_of_length-le, length-replicate}
 use lib.Seq.{drop-cons}
 use borrow.Author.Tests.{lt-ltb, le-ltb}
+use Rattle.std.specs.Prelude.{Result, Ok, Err}
 use Rattle.ebpf.specs.Choice.{◌if◌else◌}
 use Rattle.program.specs.declared.Row.{Row}
 use Rattle.program.specs.Rows.{Ascending}
 use Rattle.program.specs.Table.{Slices, slices, rows_of, row_at, tab, capacity, least}
 use Rattle.program.proofs.Laying.{zero_row, row_at_lem, length_rows, rows_lay}
-use Rattle.loader.specs.declared.answer.Accepted.{Accepted}
-use Rattle.loader.specs.declared.answer.Load.{Load}
-use Rattle.loader.specs.declared.answer.Load.TheVariants.{Accepted as Accepts, Refused as Refuses}
-use Rattle.loader.specs.declared.error.ElfError.{ElfError}
+use Rattle.loader.specs.declared.read_only.Placing.TheVariants.{Borrowed, Owned}
 use Rattle.loader.specs.declared.read_only.Placing.{Placing}
-use Rattle.loader.specs.declared.read_only.Placing.TheVariants.{Borrowed, Owned, Refused as NotPlaced}
+use Rattle.loader.specs.declared.answer.Accepted.{Accepted}
+use Rattle.loader.specs.declared.error.ElfError.{ElfError}
 use Rattle.loader.specs.declared.validate.Config.{Config}
 use Rattle.loader.specs.declared.validate.Job.{Job}
-use Rattle.loader.specs.declared.validate.Prepared.{Prepared}
-use Rattle.loader.specs.declared.validate.Prepared.TheVariants.{Ready, Refused as NotReady}
 use Rattle.loader.specs.Errors.{report_of}
 use Rattle.loader.specs.Load.{Loading, load_of, on_prepared, on_trace, held_by, answer_of, rows_in, Loaded}
 use Rattle.loader.specs.Parts.{job_trace}
@@ -58,11 +55,11 @@ lines_columns t n = lines_tab n (row_at (slices t.keys t.indices t.kinds [] []))
 
 -- ---- the lines of an answer, stored
 
-module _ (answer : Load) (t : Slices) (s u : List ℕ) where
-  pub refused_stored : (e : ElfError) (r : ℕ) → answer ≡ Refuses e → Stored 93 (refused_line (report_of e)) s u 0 r → Stored 16221 (answer_lines answer (rows_of t (used_of answer))) s u 0 r
+module _ (answer : Result Accepted ElfError) (t : Slices) (s u : List ℕ) where
+  pub refused_stored : (e : ElfError) (r : ℕ) → answer ≡ Err e → Stored 93 (refused_line (report_of e)) s u 0 r → Stored 16221 (answer_lines answer (rows_of t (used_of answer))) s u 0 r
   refused_stored e r is a = rw is (stored_most 93 16221 (refused_line (report_of e)) s u 0 r (omega (arith, a.next, a.near)) a)
 
-  pub accepted_stored : (y : Accepted) (v : List ℕ) (p r : ℕ) → answer ≡ Accepts y → Stored 93 (accepted_line y) s u 0 p → Stored 16128 (row_lines (rows_of t y.used)) u v p r
+  pub accepted_stored : (y : Accepted) (v : List ℕ) (p r : ℕ) → answer ≡ Ok y → Stored 93 (accepted_line y) s u 0 p → Stored 16128 (row_lines (rows_of t y.used)) u v p r
       → Stored 16221 (answer_lines answer (rows_of t (used_of answer))) s v 0 r
   accepted_stored y v p r is a b = rw is (stored_both 93 16128 (accepted_line y) (row_lines (rows_of t y.used)) s u v 0 p r a b)
 
@@ -74,29 +71,29 @@ record Counted (x : Loading) (n : ℕ) : Type 0 where
   rising : Ascending (rows_in x)
 
 module _ (file builtins : List ℕ) (m cap : ℕ) where
-  counted_held : (j : Job) (p : Placing) (im : List ℕ) (rows : List Row) (moves : ℕ) → length rows ≤ cap → Ascending rows → Counted (held_by file j m p im rows moves) cap
-  counted_held j (Borrowed offset start n) im rows moves h r = record { used = refl; room = h; rising = r }
-  counted_held j (Owned offset lowest n) im rows moves h r = record { used = refl; room = h; rising = r }
-  counted_held j (NotPlaced e) im rows moves h r = record { used = refl; room = zero-le; rising = tt }
+  counted_held : (j : Job) (p : Result Placing ElfError) (im : List ℕ) (rows : List Row) (moves : ℕ) → length rows ≤ cap → Ascending rows → Counted (held_by file j m p im rows moves) cap
+  counted_held j (Ok (Borrowed offset start n)) im rows moves h r = record { used = refl; room = h; rising = r }
+  counted_held j (Ok (Owned offset lowest n)) im rows moves h r = record { used = refl; room = h; rising = r }
+  counted_held j (Err e) im rows moves h r = record { used = refl; room = zero-le; rising = tt }
 
   counted_trace : (j : Job) (s : Settled) → settle cap (job_trace file builtins j file) [] 0 ≡ s → Counted (on_trace file j m s) cap
   counted_trace j (accepted im rows moves) e = counted_held j j.placing im rows moves (rows_room file builtins j cap im rows moves e) (settle_ascends cap im rows moves (job_trace file builtins j file) [] 0 tt e)
   counted_trace j (refused r) e = record { used = refl; room = zero-le; rising = tt }
 
-  counted_prepared : (p : Prepared) → Counted (on_prepared file builtins m cap p) cap
-  counted_prepared (Ready j) = counted_trace j (settle cap (job_trace file builtins j file) [] 0) refl
-  counted_prepared (NotReady r) = record { used = refl; room = zero-le; rising = tt }
+  counted_prepared : (p : Result Job ElfError) → Counted (on_prepared file builtins m cap p) cap
+  counted_prepared (Ok j) = counted_trace j (settle cap (job_trace file builtins j file) [] 0) refl
+  counted_prepared (Err r) = record { used = refl; room = zero-le; rising = tt }
 
   counted : (c : Config) (n : ℕ) → Counted (load_of file builtins c n m cap) cap
   unfolding load_of
   counted c n = counted_prepared (prepared file builtins c n m)
 
-answer_lines_lem : (a : Load) (rs rs' : List Row) → row_lines rs ≡ row_lines rs' → answer_lines a rs ≡ answer_lines a rs'
-answer_lines_lem (Accepts y) rs rs' e = rw e
-answer_lines_lem (Refuses r) rs rs' e = refl
+answer_lines_lem : (a : Result Accepted ElfError) (rs rs' : List Row) → row_lines rs ≡ row_lines rs' → answer_lines a rs ≡ answer_lines a rs'
+answer_lines_lem (Ok y) rs rs' e = rw e
+answer_lines_lem (Err r) rs rs' e = refl
 
 -- what a load leaves gives the load's lines
-module _ (x : Loading) (im ro : List ℕ) (t : Slices) (im' ro' : List ℕ) (t' : Slices) (a : Load) (did : Loaded x im ro t im' ro' t' a) (n : ℕ) (c : Counted x n) (cap : capacity t ≡ n) where
+module _ (x : Loading) (im ro : List ℕ) (t : Slices) (im' ro' : List ℕ) (t' : Slices) (a : Result Accepted ElfError) (did : Loaded x im ro t im' ro' t' a) (n : ℕ) (c : Counted x n) (cap : capacity t ≡ n) where
   left_used : used_of a ≤ n
   left_used = rw (did.answers, c.used) c.room
 
@@ -125,7 +122,7 @@ listed_counted file = counted file [] 16384 256 all_on 16384
 pub rows_rise : (file : List ℕ) → Ascending (rows_in (listed_load file))
 rows_rise file = (listed_counted file).rising
 
-module _ (file im ro : List ℕ) (t : Slices) (a : Load) (did : Loaded (load_of file [] all_on (length zeros) (length zeros) (capacity none)) zeros zeros none im ro t a) where
+module _ (file im ro : List ℕ) (t : Slices) (a : Result Accepted ElfError) (did : Loaded (load_of file [] all_on (length zeros) (length zeros) (capacity none)) zeros zeros none im ro t a) where
   as_listed : Loaded (listed_load file) zeros zeros none im ro t a
   as_listed = rw (length-replicate {A = ℕ} 16384 0, none_rows) at did
 

@@ -1,13 +1,12 @@
 -- The lines that `loadlist` prints of a file.
-use Rattle.std.specs.Prelude.{ℕ, ◌+◌, ◌-◌, ◌≤◌, ◌≡◌, true, List, [], ◌∷◌, ◌++◌, length, take, replicate, ltb}
+use Rattle.std.specs.Prelude.{ℕ, ◌+◌, ◌-◌, ◌≤◌, ◌≡◌, true, List, [], ◌∷◌, ◌++◌, length, take, replicate, ltb, Result, Ok, Err}
 use Rattle.std.proofs.lemmas.List.Edits.{sets}
 use Rattle.ebpf.specs.Choice.{◌if◌else◌}
 use Rattle.elf_parser.specs.declared.error.Report.{Report}
 use Rattle.program.specs.declared.Row.{Row}
 use Rattle.program.specs.Table.{Lent, Shared, slices, rows_of}
+use Rattle.loader.specs.declared.error.ElfError.{ElfError}
 use Rattle.loader.specs.declared.answer.Accepted.{Accepted}
-use Rattle.loader.specs.declared.answer.Load.{Load}
-use Rattle.loader.specs.declared.answer.Load.TheVariants.{Accepted as Accepts, Refused as Refuses}
 use Rattle.loader.specs.declared.validate.Config.{Config}
 use Rattle.loader.specs.Errors.{report_of}
 use Rattle.loader.specs.Load.{Loading, load_of, answer_of, rows_in}
@@ -52,9 +51,9 @@ abbrev pub accepted_line : Accepted → List ℕ
 accepted_line a = word_line accepted_word a.version a.entry a.used a.moves
 
 -- by the answer and the rows
-abbrev pub answer_lines : Load → List Row → List ℕ
-answer_lines (Accepts a) rows = accepted_line a ++ row_lines rows
-answer_lines (Refuses e) rows = refused_line (report_of e)
+abbrev pub answer_lines : Result Accepted ElfError → List Row → List ℕ
+answer_lines (Ok a) rows = accepted_line a ++ row_lines rows
+answer_lines (Err e) rows = refused_line (report_of e)
 
 abbrev pub load_lines : Loading → List ℕ
 load_lines x = answer_lines (answer_of x) (rows_in x)
@@ -94,9 +93,9 @@ abbrev pub filled : ℕ → List ℕ → List ℕ
 filled n bytes = take n bytes ++ replicate (n - length bytes) 0
 
 -- the rows that an answer counts
-abbrev pub used_of : Load → ℕ
-used_of (Accepts a) = a.used
-used_of (Refuses e) = 0
+abbrev pub used_of : Result Accepted ElfError → ℕ
+used_of (Ok a) = a.used
+used_of (Err e) = 0
 
 -- the first n rows of three lent columns; a line has nothing of a name's start and length
 abbrev pub column_rows : Shared → Shared → Shared → ℕ → List Row

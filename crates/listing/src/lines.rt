@@ -4,7 +4,7 @@ ghost use Rattle.loader.specs.Errors.{report_of};
 ghost use Rattle.listing.specs.Lines.{word_line, row_line, row_lines, refused_line, accepted_line, answer_lines, used_of, column_rows, Stores};
 
 use crate::storing::{put_byte, put_bytes, put_decimal, put_spaced};
-use loader::{Accepted, ElfError, Load, report_of};
+use loader::{Accepted, ElfError, report_of};
 
 // The rows lent to a load.
 pub(crate) const ROWS: usize = 256;
@@ -77,7 +77,7 @@ fn put_rows(
 // What a load answered, and its rows.
 pub(crate) fn put_load(
     out: &mut [u8],
-    answer: Load,
+    answer: Result<Accepted, ElfError>,
     keys: &[u32; ROWS],
     indices: &[u32; ROWS],
     kinds: &[u32; ROWS],
@@ -86,8 +86,8 @@ pub(crate) fn put_load(
     ensures { Stores 16221 (answer_lines answer (column_rows keys indices kinds (used_of answer))) out 0 result }
 {
     match answer {
-        Load::Refused(e) => put_refused(out, e),
-        Load::Accepted(a) => {
+        Err(e) => put_refused(out, e),
+        Ok(a) => {
             let next = put_accepted(out, a);
             put_rows(out, next, keys, indices, kinds, a.used)
         }

@@ -2,7 +2,7 @@
 ghost use Rattle.std.specs.Prelude.{◌+◌, ◌≤◌, length};
 
 use ebpf::hash_symbol_name;
-use loader::{Accepted, Load, PartPlace, get_text_place, report_of};
+use loader::{Accepted, ElfError, get_text_place, report_of};
 use std::io;
 
 // The bytes of five columns of 256 numbers.
@@ -42,23 +42,23 @@ fn print_text_number(
     ro_length: u64,
 ) -> io::Result<()> {
     match get_text_place(a, image_length, ro_length) {
-        PartPlace::At { .. } => print!(rt; " 0"),
-        PartPlace::Refused(e) => print!(rt; " {}", report_of(e).number),
+        Ok(_) => print!(rt; " 0"),
+        Err(e) => print!(rt; " {}", report_of(e).number),
     }
 }
 
 fn print_answer(
     rt: &impl Print,
-    answer: Load,
+    answer: Result<Accepted, ElfError>,
     image_length: u64,
     ro_length: u64,
 ) -> io::Result<()> {
     match answer {
-        Load::Accepted(a) => {
+        Ok(a) => {
             print_accepted(rt, a)?;
             print_text_number(rt, a, image_length, ro_length)
         }
-        Load::Refused(e) => {
+        Err(e) => {
             let r = report_of(e);
             print_refused(rt, r.number as u64, r.value, r.start, r.length)
         }
@@ -112,7 +112,7 @@ fn print_columns_hash(
 
 pub(crate) fn print_line(
     rt: &impl Print,
-    answer: Load,
+    answer: Result<Accepted, ElfError>,
     image: &[u8],
     ro_section: &[u8],
     keys: &[u32],

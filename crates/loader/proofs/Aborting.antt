@@ -11,6 +11,7 @@ use mathlib.Core.List.{List}
 use lib.ListN.{length}
 use lib.Dec.{eqb}
 use borrow.Author.Tests.{ltb-false, lt-ltb, le-ltb, le-leb, lt-leb, not-false}
+use Rattle.std.specs.Prelude.{Ok, Err, Result}
 use Rattle.ebpf.specs.Choice.{◌if◌else◌, yes, no_go, not_first, row_rest, or_false, and_false}
 use Rattle.elf_parser.specs.declared.types.Elf64Ehdr.{Elf64Ehdr}
 use Rattle.elf_parser.specs.declared.types.Elf64Shdr.{Elf64Shdr}
@@ -25,30 +26,25 @@ use Rattle.elf_parser.specs.Parse.{parsed}
 use Rattle.elf_parser.specs.Records.{range_by, section_header_of, file_range_of, range_stands}
 use Rattle.elf_parser.specs.SectionNames.{same_bytes}
 use Rattle.program.proofs.Cases.{by_test, by_le}
+use Rattle.loader.specs.declared.read_only.Placing.TheVariants.{Borrowed, Owned}
+use Rattle.loader.specs.declared.read_only.Placing.{Placing}
 use Rattle.loader.specs.declared.answer.Accepted.{Accepted}
-use Rattle.loader.specs.declared.answer.Load.TheVariants.{Accepted as Accepts}
 use Rattle.loader.specs.declared.error.ElfError.{ElfError}
 use Rattle.loader.specs.declared.error.ElfError.TheVariants.{BuiltinsNotAscending, TextOutsideReadOnly}
-use Rattle.loader.specs.declared.get_bytes.PartPlace.TheVariants.{At, Refused}
 use Rattle.loader.specs.declared.read_only.Extent.{Extent}
-use Rattle.loader.specs.declared.read_only.Gathering.{Gathering}
-use Rattle.loader.specs.declared.read_only.Gathering.TheVariants.{Next}
-use Rattle.loader.specs.declared.read_only.Placing.{Placing}
-use Rattle.loader.specs.declared.read_only.Placing.TheVariants.{Borrowed, Owned, Refused as NotPlaced}
 use Rattle.loader.specs.declared.sections.Survey.{Survey}
 use Rattle.loader.specs.declared.validate.Config.{Config}
-use Rattle.loader.specs.declared.validate.Verdict.TheVariants.{Pass}
 use Rattle.loader.specs.declared.validate.Job.{Job}
-use Rattle.loader.specs.declared.validate.Prepared.TheVariants.{Ready, Refused as NotReady}
+use Rattle.loader.specs.Results.{not_ok, ◌then◌, then_both, then_ok}
 use Rattle.loader.specs.Addresses.{sum_up_to, machine_addr, MM_PROGRAM_START, MM_STACK_START}
 use Rattle.loader.specs.Sections.{header_or, section_at, name_of, dot_text, outside_file, survey_step, survey_from, no_survey, survey}
 use Rattle.loader.specs.ReadOnly.{read_only, gather_by, gathered, from_start, placing}
 use Rattle.loader.specs.Placed.{owned_fits, owned_room}
-use Rattle.loader.specs.Validate.{size_check, ascends, header_check, sections_check, text_check, job_of, ◌then◌, file_check, is_version2, validated, parsed_then, prepared}
-use Rattle.loader.specs.GetBytes.{text_at, text_place, ro_place, lent_for, ro_of, text_place_of}
+use Rattle.loader.specs.Validate.{size_check, ascends, header_check, sections_check, text_check, job_of, file_check, is_version2, validated, parsed_then, prepared}
+use Rattle.loader.specs.GetBytes.{text_at, bytes_at, text_place, ro_place, lent_for, ro_of, text_place_of}
 use Rattle.loader.specs.Load.{accepted_as, answer_by, load_of, answer_of}
 use Rattle.loader.proofs.Answered.{by_load}
-use Rattle.loader.proofs.Readied.{Lies, pick_in, in_file, not_passed, not_ready, then_first, then_rest, ready_by_lem, prepared_by_lem, sections_pass, text_passes, readied, placed_as}
+use Rattle.loader.proofs.Readied.{Lies, pick_in, in_file, sections_pass, text_passes, readied, placed_as}
 use Rattle.loader.proofs.Gathered.{Spans, spans, copied_offset, Stays, stays, copied_lowest}
 
 -- ---- the text's section is one of those surveyed, with that name, and all of them lie in the file
@@ -102,15 +98,15 @@ text_stands len e (NoShdr r) below lies = absurd (omega (arith, below))
 -- ---- the checks
 
 -- version 2 is optimized
-optimized : (h : Elf64Ehdr) (c : Config) (version2 : Bool) → header_check h c version2 ≡ Pass → version2 ≡ true → c.optimize_rodata ≡ true
+optimized : (h : Elf64Ehdr) (c : Config) (version2 : Bool) → header_check h c version2 ≡ Ok tt → version2 ≡ true → c.optimize_rodata ≡ true
 unfolding header_check
 optimized h c version2 e on =
-    let e1 = row_rest _ _ _ _ (not_passed _) e in
-    let e2 = row_rest _ _ _ _ (not_passed _) e1 in
-    let e3 = row_rest _ _ _ _ (not_passed _) e2 in
-    let e4 = row_rest _ _ _ _ (not_passed _) e3 in
-    let e5 = row_rest _ _ _ _ (not_passed _) e4 in
-    not-false _ (and_false version2 _ (not_first _ _ _ _ (not_passed _) e5) on)
+    let e1 = row_rest _ _ _ _ (not_ok _ _) e in
+    let e2 = row_rest _ _ _ _ (not_ok _ _) e1 in
+    let e3 = row_rest _ _ _ _ (not_ok _ _) e2 in
+    let e4 = row_rest _ _ _ _ (not_ok _ _) e3 in
+    let e5 = row_rest _ _ _ _ (not_ok _ _) e4 in
+    not-false _ (and_false version2 _ (not_first _ _ _ _ (not_ok _ _) e5) on)
 
 machine_1 : (addr : ℕ) → machine_addr false addr ≡ sum_up_to addr MM_PROGRAM_START
 unfolding machine_addr ◌if◌else◌
@@ -121,15 +117,15 @@ unfolding machine_addr ◌if◌else◌
 machine_2 addr h = rw (le-leb MM_PROGRAM_START addr h) refl
 
 -- in version 1 the text stands at the program's start at the latest, before it is put into the machine
-text_low : (version2 reject-broken : Bool) (e_entry : ℕ) (h : Elf64Shdr) → text_check version2 reject-broken e_entry h ≡ Pass → version2 ≡ false → h.sh_addr ≤ MM_PROGRAM_START
+text_low : (version2 reject-broken : Bool) (e_entry : ℕ) (h : Elf64Shdr) → text_check version2 reject-broken e_entry h ≡ Ok tt → version2 ≡ false → h.sh_addr ≤ MM_PROGRAM_START
 unfolding text_check
 text_low true reject-broken e_entry h e off = absurd (true≢false off)
 text_low false reject-broken e_entry h e off =
-    let e1 = row_rest _ _ _ _ (not_passed _) e in
-    let e2 = row_rest _ _ _ _ (not_passed _) e1 in
-    let e3 = row_rest _ _ _ _ (not_passed _) e2 in
-    let e4 = row_rest _ _ _ _ (not_passed _) e3 in
-    let f : machine_addr false h.sh_addr ≤ MM_STACK_START = ltb-false _ _ (not_first _ _ _ _ (not_passed _) e4) in
+    let e1 = row_rest _ _ _ _ (not_ok _ _) e in
+    let e2 = row_rest _ _ _ _ (not_ok _ _) e1 in
+    let e3 = row_rest _ _ _ _ (not_ok _ _) e2 in
+    let e4 = row_rest _ _ _ _ (not_ok _ _) e3 in
+    let f : machine_addr false h.sh_addr ≤ MM_STACK_START = ltb-false _ _ (not_first _ _ _ _ (not_ok _ _) e4) in
     let q = machine_1 h.sh_addr in
     omega (arith, f, q)
 
@@ -147,7 +143,7 @@ record Texts (s : List ℕ) (c : Config) (j : Job) : Type 0 where
   optimizes : j.version2 ≡ true → c.optimize_rodata ≡ true
   lie : (i : ℕ) → i < (file_header s).e_shnum → Lies s j.layout i
 
-validated_text : (s : List ℕ) (c : Config) (l : Layout) (j : Job) → validated s c l ≡ Ready j → Texts s c j
+validated_text : (s : List ℕ) (c : Config) (l : Layout) (j : Job) → validated s c l ≡ Ok j → Texts s c j
 unfolding validated job_of section_at
 validated_text s c l j e = subst (Texts s c) done.1 (record {
   index = v.text;
@@ -156,9 +152,9 @@ validated_text s c l j e = subst (Texts s c) done.1 (record {
   stands = text_stands (length s) h.e_entry (section_header_of s l v.text) below (lies v.text has.0);
   addr_is = refl;
   machine = refl;
-  low = text_low version2 c.reject_broken_elfs h.e_entry text (then_rest _ _ rest);
+  low = text_low version2 c.reject_broken_elfs h.e_entry text (then_both (sections_check s l v) (text_check version2 c.reject_broken_elfs h.e_entry text) tt rest).1;
   version = refl;
-  optimizes = optimized h c version2 (then_first _ _ done.0);
+  optimizes = optimized h c version2 (then_both (header_check h c version2) _ tt done.0).0;
   lie = lies;
 })
   where
@@ -174,17 +170,17 @@ validated_text s c l j e = subst (Texts s c) done.1 (record {
     text : Elf64Shdr
     text = section_at s l v.text
 
-    place : Placing
+    place : Result Placing ElfError
     place = placing s l h.e_shnum version2 c.reject_broken_elfs c.optimize_rodata
 
-    done : (file_check s c l h version2 v ≡ Pass) × (job_of c version2 l h.e_entry text place ≡ j)
-    done = ready_by_lem (file_check s c l h version2 v) (job_of c version2 l h.e_entry text place) j e
+    done : (file_check s c l h version2 v ≡ Ok tt) × (job_of c version2 l h.e_entry text place ≡ j)
+    done = then_ok (file_check s c l h version2 v) (job_of c version2 l h.e_entry text place) j e
 
-    rest : (sections_check s l v then text_check version2 c.reject_broken_elfs h.e_entry text) ≡ Pass
-    rest = then_rest _ _ done.0
+    rest : (sections_check s l v then text_check version2 c.reject_broken_elfs h.e_entry text) ≡ Ok tt
+    rest = (then_both (header_check h c version2) (sections_check s l v then text_check version2 c.reject_broken_elfs h.e_entry text) tt done.0).1
 
     sections : (v.texts ≡ 1) × (v.outside ≡ false)
-    sections = sections_pass s l v (then_first _ _ rest)
+    sections = sections_pass s l v (then_both (sections_check s l v) (text_check version2 c.reject_broken_elfs h.e_entry text) tt rest).0
 
     has : IsText s l h.e_shnum v.text
     has = survey_text s l h.e_shnum (λ z. omega (arith, sections.0, z))
@@ -193,21 +189,21 @@ validated_text s c l j e = subst (Texts s c) done.1 (record {
     lies = survey_lie s l h.e_shnum sections.1
 
     below : h.e_entry < text.sh_addr + text.sh_size
-    below = text_passes version2 c.reject_broken_elfs h.e_entry text (then_rest _ _ rest)
+    below = text_passes version2 c.reject_broken_elfs h.e_entry text (then_both (sections_check s l v) (text_check version2 c.reject_broken_elfs h.e_entry text) tt rest).1
 
-parsed_text : (s : List ℕ) (c : Config) (p : Parsed) (j : Job) → parsed_then s c p ≡ Ready j → Texts s c j
-parsed_text s c (NoFile r) j e = absurd (not_ready _ _ e)
+parsed_text : (s : List ℕ) (c : Config) (p : Parsed) (j : Job) → parsed_then s c p ≡ Ok j → Texts s c j
+parsed_text s c (NoFile r) j e = absurd (not_ok _ _ e)
 parsed_text s c (File l) j e = validated_text s c l j e
 
-prepared_text : (s builtins : List ℕ) (c : Config) (n m : ℕ) (j : Job) → prepared s builtins c n m ≡ Ready j → Texts s c j
+prepared_text : (s builtins : List ℕ) (c : Config) (n m : ℕ) (j : Job) → prepared s builtins c n m ≡ Ok j → Texts s c j
 unfolding prepared
 prepared_text s builtins c n m j e =
-    let w = (prepared_by_lem (size_check (length s) n m) (NotReady BuiltinsNotAscending if not (ascends builtins) else parsed_then s c (parsed s)) j e).1 in
-    parsed_text s c (parsed s) j (row_rest _ _ _ _ (not_ready _ _) w)
+    let w = (then_both (size_check (length s) n m) (Err BuiltinsNotAscending if not (ascends builtins) else parsed_then s c (parsed s)) j e).1 in
+    parsed_text s c (parsed s) j (row_rest _ _ _ _ (not_ok _ _) w)
 
 -- ---- the places, by the numbers of an answer
 
-no_part : (r : ElfError) (at k : ℕ) → At at k ≡ Refused r → ⊥
+no_part : (r : ElfError) (at k : ℕ) → bytes_at at k ≡ Err r → ⊥
 no_part r at k e = let z : ◌≡◌ {A = ℕ} 0 1 = cc in omega arith
 
 from_low : (addr : ℕ) → addr < MM_PROGRAM_START → from_start addr ≡ addr
@@ -218,16 +214,16 @@ from_high : (addr : ℕ) → MM_PROGRAM_START ≤ addr → from_start addr ≡ a
 unfolding from_start ◌if◌else◌
 from_high addr h = rw (le-leb MM_PROGRAM_START addr h) refl
 
-ro_in : (lent start n : ℕ) → start + n ≤ lent → ro_place lent start n ≡ At start n
+ro_in : (lent start n : ℕ) → start + n ≤ lent → ro_place lent start n ≡ bytes_at start n
 unfolding ro_place
 ro_in lent start n h = sym (no_go _ _ _ _ (le-ltb lent (start + n) h) refl)
 
 module _ (lent offset start n addr size : ℕ) (lies : start + n ≤ lent) where
-  text_in : text_at addr offset + size ≤ n → text_place lent offset start n addr size ≡ At (start + text_at addr offset) size
+  text_in : text_at addr offset + size ≤ n → text_place lent offset start n addr size ≡ bytes_at (start + text_at addr offset) size
   unfolding text_place
   text_in h = sym (no_go _ _ _ _ (le-ltb lent (start + n) lies) (no_go _ _ _ _ (le-ltb n (text_at addr offset + size) h) refl))
 
-  text_out : n < text_at addr offset + size → text_place lent offset start n addr size ≡ Refused TextOutsideReadOnly
+  text_out : n < text_at addr offset + size → text_place lent offset start n addr size ≡ Err TextOutsideReadOnly
   unfolding text_place
   text_out h = sym (no_go _ _ _ _ (le-ltb lent (start + n) lies) (yes _ _ _ (lt-ltb n (text_at addr offset + size) h)))
 
@@ -238,8 +234,8 @@ module _ {A : Type 0} where
   else_row true x y h = absurd (h refl)
   else_row false x y h = refl
 
-text_else : (lent offset start n addr size : ℕ) → (text_place lent offset start n addr size ≡ Refused TextOutsideReadOnly → ⊥)
-    → text_place lent offset start n addr size ≡ At (start + text_at addr offset) size
+text_else : (lent offset start n addr size : ℕ) → (text_place lent offset start n addr size ≡ Err TextOutsideReadOnly → ⊥)
+    → text_place lent offset start n addr size ≡ bytes_at (start + text_at addr offset) size
 unfolding text_place
 text_else lent offset start n addr size h = let e = else_row _ _ _ h in e ∙ else_row _ _ _ (λ q. h (e ∙ q))
 
@@ -253,7 +249,7 @@ module _ (lent offset lowest n addr sh-addr size : ℕ)
     (above : lowest ≤ sh-addr)
     (room : (sh-addr - lowest) + size ≤ n)
     (off : offset ≡ from_start lowest) where
-  copied_text : (text_place lent offset 0 n addr size ≡ Refused TextOutsideReadOnly) ↔ (lowest ≡ MM_PROGRAM_START)
+  copied_text : (text_place lent offset 0 n addr size ≡ Err TextOutsideReadOnly) ↔ (lowest ≡ MM_PROGRAM_START)
   copied_text = (
     λ e. by_le MM_PROGRAM_START lowest (λ b. lowest ≡ MM_PROGRAM_START)
         (λ high. omega (arith, high, above, low))
@@ -291,14 +287,14 @@ module _ (len lowest highest shift offset start n addr sh-addr size : ℕ)
 
 -- in version 1, the read-only sections are copied from the program's start on
 abbrev pub FromStart : Job → Type 0
-FromStart j = (j.version2 ≡ false) × ((offset : ℕ) × (k : ℕ) × (j.placing ≡ Owned offset MM_PROGRAM_START k))
+FromStart j = (j.version2 ≡ false) × ((offset : ℕ) × (k : ℕ) × (j.placing ≡ Ok (Owned offset MM_PROGRAM_START k)))
 
 -- the same, by the file: in version 1, with the optimization on, their lowest address is the program's start
 abbrev pub LowestAtStart : List ℕ → Config → Job → Type 0
 LowestAtStart file c j =
-    (j.version2 ≡ false) × (c.optimize_rodata ≡ true) × ((x : Extent) × (gathered file j.layout (file_header file).e_shnum j.version2 c.reject_broken_elfs ≡ Next x) × (x.lowest ≡ MM_PROGRAM_START))
+    (j.version2 ≡ false) × (c.optimize_rodata ≡ true) × ((x : Extent) × (gathered file j.layout (file_header file).e_shnum j.version2 c.reject_broken_elfs ≡ Ok x) × (x.lowest ≡ MM_PROGRAM_START))
 
-module _ (file builtins : List ℕ) (c : Config) (n m : ℕ) (j : Job) (ready : prepared file builtins c n m ≡ Ready j) where
+module _ (file builtins : List ℕ) (c : Config) (n m : ℕ) (j : Job) (ready : prepared file builtins c n m ≡ Ok j) where
   t : Texts file c j
   t = prepared_text file builtins c n m j ready
 
@@ -311,10 +307,10 @@ module _ (file builtins : List ℕ) (c : Config) (n m : ℕ) (j : Job) (ready : 
   in_buffer : length file ≤ m
   in_buffer = (readied file builtins c n m j ready).2
 
-  is_placed : (p : Placing) → j.placing ≡ p → placing file j.layout (file_header file).e_shnum j.version2 c.reject_broken_elfs c.optimize_rodata ≡ p
+  is_placed : (p : Result Placing ElfError) → j.placing ≡ p → placing file j.layout (file_header file).e_shnum j.version2 c.reject_broken_elfs c.optimize_rodata ≡ p
   is_placed p e = rw t.version (sym (placed_as file builtins c n m j ready) ∙ e)
 
-  module _ (offset lowest k : ℕ) (owns : j.placing ≡ Owned offset lowest k) where
+  module _ (offset lowest k : ℕ) (owns : j.placing ≡ Ok (Owned offset lowest k)) where
     -- only version 1 copies
     copies : (j.version2 ≡ false) × (offset ≡ from_start lowest)
     copies = copied_offset file j.layout (file_header file).e_shnum j.version2 c.reject_broken_elfs c.optimize_rodata offset lowest k t.optimizes (is_placed _ owns)
@@ -322,10 +318,10 @@ module _ (file builtins : List ℕ) (c : Config) (n m : ℕ) (j : Job) (ready : 
     fits : k ≤ length file
     fits = owned_fits file j.layout (file_header file).e_shnum j.version2 c.reject_broken_elfs c.optimize_rodata offset lowest k (is_placed _ owns)
 
-    ro_copied : ro_place m 0 k ≡ At 0 k
+    ro_copied : ro_place m 0 k ≡ bytes_at 0 k
     ro_copied = ro_in m 0 k (omega (arith, fits, in_buffer))
 
-    text_copied : (text_place m offset 0 k j.addr j.length ≡ Refused TextOutsideReadOnly) ↔ (lowest ≡ MM_PROGRAM_START)
+    text_copied : (text_place m offset 0 k j.addr j.length ≡ Err TextOutsideReadOnly) ↔ (lowest ≡ MM_PROGRAM_START)
     text_copied =
         let r = owned_room file j.layout (file_header file).e_shnum j.version2 c.reject_broken_elfs c.optimize_rodata offset lowest k short (is_placed _ owns) t.index t.listed t.named j.start j.length t.stands in
         let a = t.addr_is in
@@ -364,8 +360,8 @@ module _ (file builtins : List ℕ) (c : Config) (n m : ℕ) (j : Job) (ready : 
         (t.machine ∙ ap (λ (b : Bool). machine_addr b j.sh_addr) off ∙ machine_1 j.sh_addr))
         refl
 
-  text_borrowed : (offset start k : ℕ) → j.placing ≡ Borrowed offset start k
-      → (ro_place n start k ≡ At start k) × (text_place n offset start k j.addr j.length ≡ At (start + text_at j.addr offset) j.length)
+  text_borrowed : (offset start k : ℕ) → j.placing ≡ Ok (Borrowed offset start k)
+      → (ro_place n start k ≡ bytes_at start k) × (text_place n offset start k j.addr j.length ≡ bytes_at (start + text_at j.addr offset) j.length)
   text_borrowed offset start k e =
       let w = stays file j.layout (file_header file).e_shnum j.version2 c.reject_broken_elfs c.optimize_rodata offset start k (is_placed _ e) in
       let all = spans file j.layout j.version2 c.reject_broken_elfs (file_header file).e_shnum t.index j.start j.length t.lie t.named t.stands w.0 w.1 in
@@ -374,40 +370,40 @@ module _ (file builtins : List ℕ) (c : Config) (n m : ℕ) (j : Job) (ready : 
 
   -- both places of an answer
   abbrev Places : Accepted → Type 0
-  Places a = (ro_of a (lent_for a n m) ≡ At a.ro_start a.ro_length) × ((text_place_of a (lent_for a n m) ≡ Refused TextOutsideReadOnly) ↔ FromStart j)
+  Places a = (ro_of a (lent_for a n m) ≡ bytes_at a.ro_start a.ro_length) × ((text_place_of a (lent_for a n m) ≡ Err TextOutsideReadOnly) ↔ FromStart j)
 
-  owned_places : (used moves offset lowest k : ℕ) → j.placing ≡ Owned offset lowest k → Places (accepted_as j true offset 0 k used moves)
+  owned_places : (used moves offset lowest k : ℕ) → j.placing ≡ Ok (Owned offset lowest k) → Places (accepted_as j true offset 0 k used moves)
   unfolding ◌if◌else◌
   owned_places used moves offset lowest k owns =
       let r = text_copied offset lowest k owns in (
         ro_copied offset lowest k owns,
         (
-          λ e. ((copies offset lowest k owns).0, (offset, k, owns ∙ ap (λ (u : ℕ). Owned offset u k) (r.0 e))),
+          λ e. ((copies offset lowest k owns).0, (offset, k, owns ∙ ap (λ (u : ℕ). Ok (Owned offset u k)) (r.0 e))),
           λ h. r.1 (same h.1.0 h.1.1 h.1.2),
         ),
       )
     where
-      same : (o i : ℕ) → j.placing ≡ Owned o MM_PROGRAM_START i → lowest ≡ MM_PROGRAM_START
-      same o i q = let w : Owned offset lowest k ≡ Owned o MM_PROGRAM_START i = sym owns ∙ q in cc
+      same : (o i : ℕ) → j.placing ≡ Ok (Owned o MM_PROGRAM_START i) → lowest ≡ MM_PROGRAM_START
+      same o i q = let w : Ok (Owned offset lowest k) ≡ Ok (Owned o MM_PROGRAM_START i) = sym owns ∙ q in cc
 
-  borrowed_places : (used moves offset start k : ℕ) → j.placing ≡ Borrowed offset start k → Places (accepted_as j false offset start k used moves)
+  borrowed_places : (used moves offset start k : ℕ) → j.placing ≡ Ok (Borrowed offset start k) → Places (accepted_as j false offset start k used moves)
   unfolding ◌if◌else◌
   borrowed_places used moves offset start k stay = (
     (text_borrowed offset start k stay).0,
     (λ e. absurd (no_part _ _ _ (sym (text_borrowed offset start k stay).1 ∙ e)), λ h. absurd (not_both h.1.0 h.1.1 h.1.2)),
   )
     where
-      not_both : (o i : ℕ) → j.placing ≡ Owned o MM_PROGRAM_START i → ⊥
-      not_both o i q = let w : Borrowed offset start k ≡ Owned o MM_PROGRAM_START i = sym stay ∙ q in let z : ◌≡◌ {A = ℕ} 0 1 = cc in omega arith
+      not_both : (o i : ℕ) → j.placing ≡ Ok (Owned o MM_PROGRAM_START i) → ⊥
+      not_both o i q = let w : Ok (Borrowed offset start k) ≡ Ok (Owned o MM_PROGRAM_START i) = sym stay ∙ q in let z : ◌≡◌ {A = ℕ} 0 1 = cc in omega arith
 
-  places : (used moves : ℕ) (a : Accepted) (p : Placing) → j.placing ≡ p → answer_by j p used moves ≡ Accepts a → Places a
-  places used moves a (Borrowed offset start k) q e =
+  places : (used moves : ℕ) (a : Accepted) (p : Result Placing ElfError) → j.placing ≡ p → answer_by j p used moves ≡ Ok a → Places a
+  places used moves a (Ok (Borrowed offset start k)) q e =
       let s : accepted_as j false offset start k used moves ≡ a = cc in
       subst Places s (borrowed_places used moves offset start k q)
-  places used moves a (Owned offset lowest k) q e =
+  places used moves a (Ok (Owned offset lowest k)) q e =
       let s : accepted_as j true offset 0 k used moves ≡ a = cc in
       subst Places s (owned_places used moves offset lowest k q)
-  places used moves a (NotPlaced r) q e = let z : ◌≡◌ {A = ℕ} 0 1 = cc in absurd (omega arith)
+  places used moves a (Err r) q e = let z : ◌≡◌ {A = ℕ} 0 1 = cc in absurd (omega arith)
 
   -- ---- the lowest address of the sections gathered
 
@@ -423,17 +419,17 @@ module _ (file builtins : List ℕ) (c : Config) (n m : ℕ) (j : Job) (ready : 
       (h.0, s.0, (w.0, w.1, s.1))
 
   -- the extent is that of the sections gathered
-  one_extent : (x y : Extent) (g : Gathering) → g ≡ Next x → g ≡ Next y → y ≡ x
-  one_extent x y g p q = let w : Next y ≡ Next x = sym q ∙ p in cc
+  one_extent : (x y : Extent) (g : Result Extent ElfError) → g ≡ Ok x → g ≡ Ok y → y ≡ x
+  one_extent x y g p q = let w : Ok y ≡ Ok x = sym q ∙ p in cc
 
-  from_low_by : (p : Placing) → j.placing ≡ p → (used moves : ℕ) (a : Accepted) → answer_by j p used moves ≡ Accepts a → LowestAtStart file c j → FromStart j
+  from_low_by : (p : Result Placing ElfError) → j.placing ≡ p → (used moves : ℕ) (a : Accepted) → answer_by j p used moves ≡ Ok a → LowestAtStart file c j → FromStart j
   unfolding ◌if◌else◌
-  from_low_by (Owned offset lowest k) q used moves a e h =
+  from_low_by (Ok (Owned offset lowest k)) q used moves a e h =
       let w = copied_lowest file j.layout (file_header file).e_shnum j.version2 c.reject_broken_elfs c.optimize_rodata offset lowest k (is_placed _ q) in
       let s = one_extent h.2.0 w.0 _ h.2.1 w.1 in
       let r : lowest ≡ MM_PROGRAM_START = w.2 ∙ ap (λ (b : Bool). w.0.lowest if b else 0) h.1 ∙ ap (λ (y : Extent). y.lowest) s ∙ h.2.2 in
-      (h.0, (offset, k, q ∙ ap (λ (u : ℕ). Owned offset u k) r))
-  from_low_by (Borrowed offset start k) q used moves a e h =
+      (h.0, (offset, k, q ∙ ap (λ (u : ℕ). Ok (Owned offset u k)) r))
+  from_low_by (Ok (Borrowed offset start k)) q used moves a e h =
       let w = stays file j.layout (file_header file).e_shnum j.version2 c.reject_broken_elfs c.optimize_rodata offset start k (is_placed _ q) in
       let all = spans file j.layout j.version2 c.reject_broken_elfs (file_header file).e_shnum t.index j.start j.length t.lie t.named t.stands w.0 w.1 in
       let s = one_extent h.2.0 w.0 _ h.2.1 (ap gather_by w.1) in
@@ -443,26 +439,26 @@ module _ (file builtins : List ℕ) (c : Config) (n m : ℕ) (j : Job) (ready : 
       let end = (kept offset start k w.0 all w.2).1 in
       let none = all.shifts.plain h.0 in
       absurd (omega (arith, lo, up, down, end, none, short))
-  from_low_by (NotPlaced r) q used moves a e h = let z : ◌≡◌ {A = ℕ} 0 1 = cc in absurd (omega arith)
+  from_low_by (Err r) q used moves a e h = let z : ◌≡◌ {A = ℕ} 0 1 = cc in absurd (omega arith)
 
 -- ---- THE LAWS, of an accepted load with n bytes lent for the image and m for the read-only ones
 
-module _ (file builtins : List ℕ) (c : Config) (n m cap : ℕ) (j : Job) (ready : prepared file builtins c n m ≡ Ready j) (a : Accepted) (accepts : answer_of (load_of file builtins c n m cap) ≡ Accepts a) where
+module _ (file builtins : List ℕ) (c : Config) (n m cap : ℕ) (j : Job) (ready : prepared file builtins c n m ≡ Ok j) (a : Accepted) (accepts : answer_of (load_of file builtins c n m cap) ≡ Ok a) where
   both : Places file builtins c n m j ready a
   both =
       let w = by_load file builtins c n m cap j a ready accepts in
       places file builtins c n m j ready (length w.rows) w.moves a j.placing refl w.answers
 
   -- its read-only bytes lie in the lent ones
-  pub ro_given : ro_of a (lent_for a n m) ≡ At a.ro_start a.ro_length
+  pub ro_given : ro_of a (lent_for a n m) ≡ bytes_at a.ro_start a.ro_length
   ro_given = both.0
 
   -- its text lies in them, but where version 1 copies them from the program's start on
-  pub text_aborts : (text_place_of a (lent_for a n m) ≡ Refused TextOutsideReadOnly) ↔ FromStart j
+  pub text_aborts : (text_place_of a (lent_for a n m) ≡ Err TextOutsideReadOnly) ↔ FromStart j
   text_aborts = both.1
 
   -- that is where their lowest address is the program's start
-  pub text_aborts_at : (text_place_of a (lent_for a n m) ≡ Refused TextOutsideReadOnly) ↔ LowestAtStart file c j
+  pub text_aborts_at : (text_place_of a (lent_for a n m) ≡ Err TextOutsideReadOnly) ↔ LowestAtStart file c j
   text_aborts_at =
       let w = by_load file builtins c n m cap j a ready accepts in (
         λ e. low_from file builtins c n m j ready (both.1.0 e),
@@ -470,5 +466,5 @@ module _ (file builtins : List ℕ) (c : Config) (n m cap : ℕ) (j : Job) (read
       )
 
   -- everywhere else it has its place
-  pub text_given : (FromStart j → ⊥) → text_place_of a (lent_for a n m) ≡ At (a.ro_start + text_at a.text_addr a.ro_offset) a.text_length
+  pub text_given : (FromStart j → ⊥) → text_place_of a (lent_for a n m) ≡ bytes_at (a.ro_start + text_at a.text_addr a.ro_offset) a.text_length
   text_given h = text_else (lent_for a n m) a.ro_offset a.ro_start a.ro_length a.text_addr a.text_length (λ e. h (both.1.0 e))

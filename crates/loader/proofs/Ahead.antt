@@ -15,12 +15,13 @@ use Rattle.program.specs.Rows as table
 use Rattle.program.specs.Runs.{moves_gone}
 use Rattle.program.specs.Table.{Slices, capacity, rows_of}
 use Rattle.loader.specs.declared.deeds.Deed.{Deed}
-use Rattle.loader.specs.declared.deeds.Deed.TheVariants.{Skip, Refuse, Halves, Word, Key, Register, RegisterOnly, RegisterOutside}
+use Rattle.loader.specs.declared.deeds.Deed.TheVariants.{Skip, Halves, Word, Key, Register, RegisterOnly, RegisterOutside}
 use Rattle.loader.specs.declared.deeds.Entry.{Entry}
-use Rattle.loader.specs.declared.deeds.Entry.TheVariants.{Nothing, Refuse as NoEntry, Register as Enter}
-use Rattle.loader.specs.declared.deeds.Outcome.{Outcome}
-use Rattle.loader.specs.declared.deeds.Outcome.TheVariants.{Holds, Refused}
+use Rattle.loader.specs.declared.deeds.Entry.TheVariants.{Nothing, Register as Enter}
 use Rattle.loader.specs.declared.validate.Job.{Job}
+use Rattle.loader.specs.declared.deeds.Held.{Held}
+use Rattle.loader.specs.declared.error.ElfError.{ElfError}
+use Rattle.std.specs.Prelude.{Result, Ok, Err}
 use Rattle.loader.specs.Bytes.{put, length_put}
 use Rattle.loader.specs.Trace.{Trace, done, stop, register, forget, Settled, accepted, refused, on_registered, settle}
 use Rattle.loader.specs.Deeds.{written, entry_of, entry_trace, deed_trace, DeedFits}
@@ -85,11 +86,11 @@ settle_map f cap (register row T) rs m =
     (ap (on_registered (table.register cap row rs) cap row.key m) (fun_ext (λ n. settle_map f cap T (registered cap row rs) n)))
 settle_map f cap (forget key T) rs m = settle_map f cap T (remove key rs) (m + moves_gone (unregister key rs))
 
-outcome_map : (f : List ℕ → List ℕ) (a : Outcome) (im : List ℕ) (u : Slices) → outcome a (f im) u ≡ map_settled f (outcome a im u)
-outcome_map f (Holds used moves) im u = refl
-outcome_map f (Refused r) im u = refl
+outcome_map : (f : List ℕ → List ℕ) (a : Result Held ElfError) (im : List ℕ) (u : Slices) → outcome a (f im) u ≡ map_settled f (outcome a im u)
+outcome_map f (Ok held) im u = refl
+outcome_map f (Err r) im u = refl
 
-settles_map : (f : List ℕ → List ℕ) (T : Trace) (im : List ℕ) (t u : Slices) (n used moves : ℕ) (a : Outcome) → Settles T im t u n used moves a → Settles (map_trace f T) (f im) t u n used moves a
+settles_map : (f : List ℕ → List ℕ) (T : Trace) (im : List ℕ) (t u : Slices) (n used moves : ℕ) (a : Result Held ElfError) → Settles T im t u n used moves a → Settles (map_trace f T) (f im) t u n used moves a
 settles_map f T im t u n used moves a did = record {
   answers = outcome_map f a im u ∙ ap (map_settled f) did.answers ∙ sym (settle_map f (capacity t) T (rows_of t used) moves);
   sound = did.sound;
@@ -99,27 +100,27 @@ settles_map f T im t u n used moves a did = record {
 -- ---- a deed that writes before the place
 
 module _ (file : List ℕ) (q : ℕ) where
-  written_ahead : (d : Deed) (im : List ℕ) → DeedFits q d → q ≤ length im → written d (ahead q im file) ≡ ahead q (written d im) file
-  written_ahead Skip im h l = refl
-  written_ahead (Refuse r) im h l = refl
-  written_ahead (Halves low high v) im h l =
+  written_ahead : (d : Result Deed ElfError) (im : List ℕ) → DeedFits q d → q ≤ length im → written d (ahead q im file) ≡ ahead q (written d im) file
+  written_ahead (Ok Skip) im h l = refl
+  written_ahead (Err r) im h l = refl
+  written_ahead (Ok (Halves low high v)) im h l =
       ap (λ (x : List ℕ). put 4 x high (v / 2 ^ 32)) (ahead_put 4 im file low (v % 2 ^ 32) q h.0 l)
       ∙ ahead_put 4 (put 4 im low (v % 2 ^ 32)) file high (v / 2 ^ 32) q h.1 (simp length_put l)
-  written_ahead (Word at v) im h l =
+  written_ahead (Ok (Word at v)) im h l =
       ap (λ (x : List ℕ). put 4 x (at + 4) (v / 2 ^ 32)) (ahead_put 4 im file at (v % 2 ^ 32) q (omega (arith, h)) l)
       ∙ ahead_put 4 (put 4 im at (v % 2 ^ 32)) file (at + 4) (v / 2 ^ 32) q (omega (arith, h)) (simp length_put l)
-  written_ahead (Key at k) im h l = ahead_put 4 im file at k q h l
-  written_ahead (Register row at) im h l = ahead_put 4 im file at row.key q h l
-  written_ahead (RegisterOnly row) im h l = refl
-  written_ahead (RegisterOutside row) im h l = refl
+  written_ahead (Ok (Key at k)) im h l = ahead_put 4 im file at k q h l
+  written_ahead (Ok (Register row at)) im h l = ahead_put 4 im file at row.key q h l
+  written_ahead (Ok (RegisterOnly row)) im h l = refl
+  written_ahead (Ok (RegisterOutside row)) im h l = refl
 
-  entry_map : (f : List ℕ → List ℕ) (e : Entry) (im : List ℕ) → entry_trace e (f im) ≡ map_trace f (entry_trace e im)
-  entry_map f Nothing im = refl
-  entry_map f (NoEntry r) im = refl
-  entry_map f (Enter row false) im = refl
-  entry_map f (Enter row true) im = refl
+  entry_map : (f : List ℕ → List ℕ) (e : Result Entry ElfError) (im : List ℕ) → entry_trace e (f im) ≡ map_trace f (entry_trace e im)
+  entry_map f (Ok Nothing) im = refl
+  entry_map f (Err r) im = refl
+  entry_map f (Ok (Enter row false)) im = refl
+  entry_map f (Ok (Enter row true)) im = refl
 
-  deed_ahead : (d : Deed) (im im' : List ℕ) (t u : Slices) (used moves : ℕ) (a : Outcome) → DeedFits q d → q ≤ length im
+  deed_ahead : (d : Result Deed ElfError) (im im' : List ℕ) (t u : Slices) (used moves : ℕ) (a : Result Held ElfError) → DeedFits q d → q ≤ length im
       → Settles (deed_trace d im) im' t u 1 used moves a → Settles (deed_trace d (ahead q im file)) (ahead q im' file) t u 1 used moves a
   unfolding deed_trace
   deed_ahead d im im' t u used moves a h l did =
@@ -128,7 +129,7 @@ module _ (file : List ℕ) (q : ℕ) where
       (settles_map (λ (x : List ℕ). ahead q x file) (entry_trace (entry_of d) (written d im)) im' t u 1 used moves a did)
 
   -- a slot before the place
-  pub slot_ahead : (builtins : List ℕ) (j : Job) (i : ℕ) (im im' : List ℕ) (t u : Slices) (used moves : ℕ) (a : Outcome)
+  pub slot_ahead : (builtins : List ℕ) (j : Job) (i : ℕ) (im im' : List ℕ) (t u : Slices) (used moves : ℕ) (a : Result Held ElfError)
       → immediate j i + 4 ≤ q → q ≤ length im
       → Settles (slot_trace file builtins j i im) im' t u 1 used moves a → Settles (slot_trace file builtins j i (ahead q im file)) (ahead q im' file) t u 1 used moves a
   unfolding slot_trace

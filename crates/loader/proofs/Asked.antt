@@ -5,7 +5,9 @@ use mathlib.Core.Logic.{◌⊎◌, ◌↔◌}
 use mathlib.Core.Bool.{true, false}
 use Rattle.program.specs.declared.Row.{Row}
 use Rattle.loader.specs.declared.deeds.Entry.{Entry}
-use Rattle.loader.specs.declared.deeds.Entry.TheVariants.{Nothing, Refuse as NoEntry, Register as Enter}
+use Rattle.loader.specs.declared.deeds.Entry.TheVariants.{Nothing, Register as Enter}
+use Rattle.std.specs.Prelude.{Result, Ok, Err}
+use Rattle.loader.specs.declared.error.ElfError.{ElfError}
 use Rattle.loader.specs.Trace.{Trace, done, stop, register, forget}
 
 -- this row is among those that it registers
@@ -23,8 +25,8 @@ Keeps (register row t) = Keeps t
 Keeps (forget key t) = ⊥
 
 -- where nothing stops it, the rows that it registers are those of P
-abbrev pub AsksFor : Entry → (Row → Type 0) → Type 0
-AsksFor Nothing P = (row : Row) → P row → ⊥
-AsksFor (NoEntry r) P = Unit {0}
-AsksFor (Enter r false) P = (row : Row) → P row ↔ (row ≡ r)
-AsksFor (Enter r true) P = Unit {0}
+abbrev pub AsksFor : Result Entry ElfError → (Row → Type 0) → Type 0
+AsksFor (Ok Nothing) P = (row : Row) → P row → ⊥
+AsksFor (Err r) P = Unit {0}
+AsksFor (Ok (Enter r false)) P = (row : Row) → P row ↔ (row ≡ r)
+AsksFor (Ok (Enter r true)) P = Unit {0}

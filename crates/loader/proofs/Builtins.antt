@@ -6,15 +6,15 @@ use mathlib.Core.List.{List, [], ◌∷◌}
 use mathlib.Core.Path.{◌≡◌, refl, sym as flip}
 use lib.Dec.{ltb}
 use borrow.Author.Tests.{leb-false}
+use Rattle.std.specs.Prelude.{Ok, Err}
 use Rattle.ebpf.specs.Choice.{◌if◌else◌, not_first, row_rest}
 use Rattle.program.specs.Search.{is_among, member, Rising}
 use Rattle.program.specs.HashedLegacy.{is_taken}
 use Rattle.program.proofs.Searches.{among_member, over_below}
 use Rattle.loader.specs.declared.error.ElfError.TheVariants.{UnresolvedSymbol, ValueOutOfBounds}
-use Rattle.loader.specs.declared.deeds.Deed.TheVariants.{Refuse, Key}
+use Rattle.loader.specs.declared.deeds.Deed.TheVariants.{Key}
 use Rattle.loader.specs.declared.validate.Config.{Config}
 use Rattle.loader.specs.declared.validate.Job.{Job}
-use Rattle.loader.specs.declared.validate.Prepared.TheVariants.{Ready}
 use Rattle.loader.specs.Relocations.{builtin_call}
 use Rattle.loader.specs.Validate.{ascends, prepared}
 use Rattle.loader.proofs.Readied.{readied}
@@ -30,7 +30,7 @@ ascends_rising (x ∷ y ∷ s) e =
     ((below, over_below x y s (omega arith) up.0), up)
 
 -- of a file that passed the checks
-module _ (file builtins : List ℕ) (c : Config) (n m : ℕ) (j : Job) (ready : prepared file builtins c n m ≡ Ready j) where
+module _ (file builtins : List ℕ) (c : Config) (n m : ℕ) (j : Job) (ready : prepared file builtins c n m ≡ Ok j) where
   pub builtins_rise : Rising builtins
   builtins_rise = ascends_rising builtins (readied file builtins c n m j ready).3
 
@@ -45,8 +45,8 @@ module _ (file builtins : List ℕ) (c : Config) (n m : ℕ) (j : Job) (ready : 
 
   pub unresolved_member : (reject-broken : Bool) (len at r start k hash : ℕ)
       → builtin_call builtins reject-broken len at r start k hash
-      ≡ (Refuse (UnresolvedSymbol start k r) if reject-broken && not (member hash builtins) else
-      Refuse ValueOutOfBounds if ltb len (at + 4) else
-      Key at hash)
+      ≡ (Err (UnresolvedSymbol start k r) if reject-broken && not (member hash builtins) else
+      Err ValueOutOfBounds if ltb len (at + 4) else
+      Ok (Key at hash))
   unfolding builtin_call
   unresolved_member reject-broken len at r start k hash = rw (builtin_member hash) refl

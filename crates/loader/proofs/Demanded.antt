@@ -4,21 +4,19 @@ use mathlib.Core.Path.{◌≡◌, refl, sym, subst, fun_ext}
 use mathlib.Core.Logic.{◌⊎◌, ◌↔◌}
 use mathlib.Core.List.{List, [], ◌++◌, map}
 use lib.ListN.{length, replicate}
-use Rattle.std.specs.Prelude.{Option}
+use Rattle.std.specs.Prelude.{Option, Result, Ok, Err}
 use Rattle.ebpf.specs.LittleEndian.{le}
 use Rattle.program.specs.declared.Row.{Row}
 use Rattle.program.specs.Rows.{find}
 use Rattle.program.specs.Table.{Slices, capacity, lay, lookup_in, Ready as IsTable}
 use Rattle.program.proofs.Tables.{ready_lay, lookup_lay}
-use Rattle.loader.specs.declared.answer.Load.{Load}
-use Rattle.loader.specs.declared.answer.Load.TheVariants.{Accepted as Accepts, Refused as Refuses}
-use Rattle.loader.specs.declared.error.ElfError.TheVariants.{SymbolHashCollision, TableFull}
+use Rattle.loader.specs.declared.read_only.Placing.TheVariants.{Borrowed, Owned}
 use Rattle.loader.specs.declared.read_only.Placing.{Placing}
-use Rattle.loader.specs.declared.read_only.Placing.TheVariants.{Borrowed, Owned, Refused as NotPlaced}
+use Rattle.loader.specs.declared.error.ElfError.{ElfError}
+use Rattle.loader.specs.declared.answer.Accepted.{Accepted}
+use Rattle.loader.specs.declared.error.ElfError.TheVariants.{SymbolHashCollision, TableFull}
 use Rattle.loader.specs.declared.validate.Config.{Config}
 use Rattle.loader.specs.declared.validate.Job.{Job}
-use Rattle.loader.specs.declared.validate.Prepared.{Prepared}
-use Rattle.loader.specs.declared.validate.Prepared.TheVariants.{Ready, Refused as NotReady}
 use Rattle.loader.specs.Calls.{immediate}
 use Rattle.loader.specs.InnerContracts.{InFile}
 use Rattle.loader.specs.Demand.{Calls, Keys, Entry, Others, Bytes, IsNameKey, Finds, key_of, OnAccepted, reached_in, reached_early, Clash, distinct, Demand3}
@@ -39,7 +37,7 @@ pub record Held (file builtins : List ℕ) (c : Config) (im ro : List ℕ) (t : 
   pub image : List ℕ
   pub rows : List Row
   pub moves : ℕ
-  pub ready : prepared file builtins c (length im) (length ro) ≡ Ready j
+  pub ready : prepared file builtins c (length im) (length ro) ≡ Ok j
   pub settles : settle (capacity t) (job_trace file builtins j file) [] 0 ≡ accepted image rows moves
   pub image_is : im' ≡ image ++ replicate (length im - length image) 0
   pub table_is : t' ≡ lay t rows
@@ -48,33 +46,33 @@ pub record Held (file builtins : List ℕ) (c : Config) (im ro : List ℕ) (t : 
 module _ (file builtins : List ℕ) (c : Config) (im ro : List ℕ) (t : Slices) (im' ro' : List ℕ) (t' : Slices) where
   module _ (P : Job → ℕ → Type 0) (all : (j : Job) (used : ℕ) → Held file builtins c im ro t im' t' j used → P j used) where
     -- by the placing
-    placed : (j : Job) (a : Load) (image : List ℕ) (rows : List Row) (moves : ℕ)
-        → prepared file builtins c (length im) (length ro) ≡ Ready j
+    placed : (j : Job) (a : Result Accepted ElfError) (image : List ℕ) (rows : List Row) (moves : ℕ)
+        → prepared file builtins c (length im) (length ro) ≡ Ok j
         → settle (capacity t) (job_trace file builtins j file) [] 0 ≡ accepted image rows moves
-        → (p : Placing)
+        → (p : Result Placing ElfError)
         → Loaded (held_by file j (length ro) p image rows moves) im ro t im' ro' t' a
-        → OnAccepted a (Ready j) P
-    placed j a image rows moves e s (Borrowed offset start n) did =
-        subst (λ (b : Load). OnAccepted b (Ready j) P) (sym did.answers)
+        → OnAccepted a (Ok j) P
+    placed j a image rows moves e s (Ok (Borrowed offset start n)) did =
+        subst (λ (b : Result Accepted ElfError). OnAccepted b (Ok j) P) (sym did.answers)
         (all j (length rows) (record { image = image; rows = rows; moves = moves; ready = e; settles = s; image_is = did.demand_1.image; table_is = did.demand_1.table; used_is = refl }))
-    placed j a image rows moves e s (Owned offset lowest n) did =
-        subst (λ (b : Load). OnAccepted b (Ready j) P) (sym did.answers)
+    placed j a image rows moves e s (Ok (Owned offset lowest n)) did =
+        subst (λ (b : Result Accepted ElfError). OnAccepted b (Ok j) P) (sym did.answers)
         (all j (length rows) (record { image = image; rows = rows; moves = moves; ready = e; settles = s; image_is = did.demand_1.image; table_is = did.demand_1.table; used_is = refl }))
-    placed j a image rows moves e s (NotPlaced r) did = subst (λ (b : Load). OnAccepted b (Ready j) P) (sym did.answers) tt
+    placed j a image rows moves e s (Err r) did = subst (λ (b : Result Accepted ElfError). OnAccepted b (Ok j) P) (sym did.answers) tt
 
-    settled : (j : Job) (a : Load) → prepared file builtins c (length im) (length ro) ≡ Ready j
+    settled : (j : Job) (a : Result Accepted ElfError) → prepared file builtins c (length im) (length ro) ≡ Ok j
         → (s : Settled)
         → settle (capacity t) (job_trace file builtins j file) [] 0 ≡ s
         → Loaded (on_trace file j (length ro) s) im ro t im' ro' t' a
-        → OnAccepted a (Ready j) P
+        → OnAccepted a (Ok j) P
     settled j a e (accepted image rows moves) s did = placed j a image rows moves e s j.placing did
-    settled j a e (refused r) s did = subst (λ (b : Load). OnAccepted b (Ready j) P) (sym did.answers) tt
+    settled j a e (refused r) s did = subst (λ (b : Result Accepted ElfError). OnAccepted b (Ok j) P) (sym did.answers) tt
 
-    passed : (a : Load) (p : Prepared) → prepared file builtins c (length im) (length ro) ≡ p → Loaded (on_prepared file builtins (length ro) (capacity t) p) im ro t im' ro' t' a → OnAccepted a p P
-    passed a (Ready j) e did = settled j a e (settle (capacity t) (job_trace file builtins j file) [] 0) refl did
-    passed a (NotReady r) e did = subst (λ (b : Load). OnAccepted b (NotReady r) P) (sym did.answers) tt
+    passed : (a : Result Accepted ElfError) (p : Result Job ElfError) → prepared file builtins c (length im) (length ro) ≡ p → Loaded (on_prepared file builtins (length ro) (capacity t) p) im ro t im' ro' t' a → OnAccepted a p P
+    passed a (Ok j) e did = settled j a e (settle (capacity t) (job_trace file builtins j file) [] 0) refl did
+    passed a (Err r) e did = subst (λ (b : Result Accepted ElfError). OnAccepted b (Err r) P) (sym did.answers) tt
 
-    on_accepted : (a : Load) → Loaded (load_of file builtins c (length im) (length ro) (capacity t)) im ro t im' ro' t' a → OnAccepted a (prepared file builtins c (length im) (length ro)) P
+    on_accepted : (a : Result Accepted ElfError) → Loaded (load_of file builtins c (length im) (length ro) (capacity t)) im ro t im' ro' t' a → OnAccepted a (prepared file builtins c (length im) (length ro)) P
     unfolding load_of
     on_accepted a did = passed a (prepared file builtins c (length im) (length ro)) refl did
 
@@ -113,7 +111,7 @@ module _ (file builtins : List ℕ) (c : Config) (im ro : List ℕ) (t : Slices)
         let room = rows_room file builtins j (capacity t) h.image h.rows h.moves h.settles in
         rw (h.table_is, h.used_is) (ready_lay t h.rows room (rows_ascend file builtins j (capacity t) h.image h.rows h.moves h.settles))
 
-  module _ (a : Load) (did : Loaded (load_of file builtins c (length im) (length ro) (capacity t)) im ro t im' ro' t' a) where
+  module _ (a : Result Accepted ElfError) (did : Loaded (load_of file builtins c (length im) (length ro) (capacity t)) im ro t im' ro' t' a) where
     has_calls : OnAccepted a (prepared file builtins c (length im) (length ro)) (λ j used. Calls file j im' (lookup_in t' used))
     has_calls = on_accepted (λ j used. Calls file j im' (lookup_in t' used)) held_calls a did
 
@@ -133,10 +131,10 @@ module _ (file builtins : List ℕ) (c : Config) (im ro : List ℕ) (t : Slices)
     pub ascended : OnUsed a (IsTable t')
     ascended = used_of a (prepared file builtins c (length im) (length ro)) (on_accepted (λ j used. IsTable t' used) held_table a did)
       where
-        used_of : (a : Load) (p : Prepared) → OnAccepted a p (λ j used. IsTable t' used) → OnUsed a (IsTable t')
-        used_of (Accepts x) (Ready j) h = h
-        used_of (Accepts x) (NotReady r) h = absurd h
-        used_of (Refuses r) p h = tt
+        used_of : (a : Result Accepted ElfError) (p : Result Job ElfError) → OnAccepted a p (λ j used. IsTable t' used) → OnUsed a (IsTable t')
+        used_of (Ok x) (Ok j) h = h
+        used_of (Ok x) (Err r) h = absurd h
+        used_of (Err r) p h = tt
 
     -- all of it
     pub demanded : Demand3 file builtins c (length im) (length ro) t im' t' a
@@ -147,6 +145,6 @@ module _ (file builtins : List ℕ) (c : Config) (im ro : List ℕ) (t : Slices)
       others = has_others;
       bytes = has_bytes;
       injective = injective_keys;
-      collision = λ off. subst (λ (b : Load). ((key : ℕ) × (b ≡ Refuses (SymbolHashCollision key))) ↔ Clash (reached_early file builtins (capacity t) (prepared file builtins c (length im) (length ro)))) (sym did.answers) (collides file builtins c (length im) (length ro) (capacity t) off);
-      full = λ off. subst (λ (b : Load). ((rows : ℕ) × (b ≡ Refuses (TableFull rows))) ↔ (capacity t < distinct (map (λ r. r.key) (reached_in file builtins (capacity t) (prepared file builtins c (length im) (length ro)))))) (sym did.answers) (fills file builtins c (length im) (length ro) (capacity t) off);
+      collision = λ off. subst (λ (b : Result Accepted ElfError). ((key : ℕ) × (b ≡ Err (SymbolHashCollision key))) ↔ Clash (reached_early file builtins (capacity t) (prepared file builtins c (length im) (length ro)))) (sym did.answers) (collides file builtins c (length im) (length ro) (capacity t) off);
+      full = λ off. subst (λ (b : Result Accepted ElfError). ((rows : ℕ) × (b ≡ Err (TableFull rows))) ↔ (capacity t < distinct (map (λ r. r.key) (reached_in file builtins (capacity t) (prepared file builtins c (length im) (length ro)))))) (sym did.answers) (fills file builtins c (length im) (length ro) (capacity t) off);
     }

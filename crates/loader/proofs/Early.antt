@@ -10,7 +10,7 @@ use mathlib.Core.List.{List, []}
 use lib.ListN.{length, take, drop, length-take}
 use lib.Dec.{ltb, leb}
 use borrow.Author.Tests.{ltb-true, not-false}
-use Rattle.std.specs.Prelude.{Ok}
+use Rattle.std.specs.Prelude.{Ok, Option, Some, None, Result, Err}
 use Rattle.ebpf.specs.Choice.{◌if◌else◌, and_right}
 use Rattle.ebpf.specs.IndexKeys.{index_key, key_in}
 use Rattle.ebpf.proofs.Table.{key_in_none}
@@ -30,15 +30,11 @@ use Rattle.program.specs.declared.Row.{Row}
 use Rattle.program.specs.HashedLegacy.{LegacyResult, is_entrypoint, legacy_key, kept_name, is_taken, row_of, legacy_row}
 use Rattle.program.specs.HashedLegacy as legacy
 use Rattle.program.proofs.Cases.{by_test}
-use Rattle.loader.specs.declared.calls.Call.{Call}
-use Rattle.loader.specs.declared.calls.Call.TheVariants.{None, To, Outside}
 use Rattle.loader.specs.declared.deeds.Deed.{Deed}
-use Rattle.loader.specs.declared.deeds.Deed.TheVariants.{Skip, Refuse, Halves, Word, Key, Register, RegisterOnly, RegisterOutside}
+use Rattle.loader.specs.declared.deeds.Deed.TheVariants.{Skip, Halves, Word, Key, Register, RegisterOnly, RegisterOutside}
 use Rattle.loader.specs.declared.relocations.Relocation.{Relocation}
-use Rattle.loader.specs.declared.relocations.Addend.{Addend}
-use Rattle.loader.specs.declared.relocations.Mapped.{Mapped}
-use Rattle.loader.specs.declared.relocations.Mapped.TheVariants.{At as Placed, Refused as Unmapped}
 use Rattle.loader.specs.declared.validate.Job.{Job}
+use Rattle.loader.specs.declared.error.ElfError.{ElfError}
 use Rattle.loader.specs.Addresses.{sum_up_to}
 use Rattle.loader.specs.Functions.{row_for, symbol_function, in_text, index_of}
 use Rattle.loader.specs.Deeds.{deed_trace}
@@ -48,7 +44,7 @@ use Rattle.loader.specs.Labels.{label_row, named_label, label_of, label_by, labe
 use Rattle.loader.specs.Parts.{writing_trace}
 use Rattle.loader.specs.InnerContracts.{InFile}
 use Rattle.loader.specs.Demand.{name_key, key_of, early_trace}
-use Rattle.loader.proofs.Targets.{to_slot}
+use Rattle.loader.proofs.Targets.{to_slot, outside_is}
 use Rattle.loader.proofs.Plain.{Plain, picks}
 use Rattle.loader.proofs.Reaching.{Steady, steady_then, steady_each}
 
@@ -84,44 +80,44 @@ good_key false name index name' l = (
 
 -- ---- a deed
 
-abbrev SteadyDeed : (Row → Type 0) → Deed → Type 0
-SteadyDeed P Skip = Unit {0}
-SteadyDeed P (Refuse r) = Plain r
-SteadyDeed P (Halves low high v) = Unit {0}
-SteadyDeed P (Word at v) = Unit {0}
-SteadyDeed P (Key at k) = Unit {0}
-SteadyDeed P (Register row at) = P row
-SteadyDeed P (RegisterOnly row) = P row
-SteadyDeed P (RegisterOutside row) = P row
+abbrev SteadyDeed : (Row → Type 0) → Result Deed ElfError → Type 0
+SteadyDeed P (Ok Skip) = Unit {0}
+SteadyDeed P (Err r) = Plain r
+SteadyDeed P (Ok (Halves low high v)) = Unit {0}
+SteadyDeed P (Ok (Word at v)) = Unit {0}
+SteadyDeed P (Ok (Key at k)) = Unit {0}
+SteadyDeed P (Ok (Register row at)) = P row
+SteadyDeed P (Ok (RegisterOnly row)) = P row
+SteadyDeed P (Ok (RegisterOutside row)) = P row
 
-deed_steady : (P : Row → Type 0) (d : Deed) (im : List ℕ) → SteadyDeed P d → Steady P (deed_trace d im)
+deed_steady : (P : Row → Type 0) (d : Result Deed ElfError) (im : List ℕ) → SteadyDeed P d → Steady P (deed_trace d im)
 unfolding deed_trace
-deed_steady P Skip im s = tt
-deed_steady P (Refuse r) im s = s
-deed_steady P (Halves low high v) im s = tt
-deed_steady P (Word at v) im s = tt
-deed_steady P (Key at k) im s = tt
-deed_steady P (Register row at) im s = (s, tt)
-deed_steady P (RegisterOnly row) im s = (s, tt)
-deed_steady P (RegisterOutside row) im s = (s, refl)
+deed_steady P (Ok Skip) im s = tt
+deed_steady P (Err r) im s = s
+deed_steady P (Ok (Halves low high v)) im s = tt
+deed_steady P (Ok (Word at v)) im s = tt
+deed_steady P (Ok (Key at k)) im s = tt
+deed_steady P (Ok (Register row at)) im s = (s, tt)
+deed_steady P (Ok (RegisterOnly row)) im s = (s, tt)
+deed_steady P (Ok (RegisterOutside row)) im s = (s, refl)
 
-refuse_or : (P : Row → Type 0) (b : Bool) (d e : Deed) → SteadyDeed P d → SteadyDeed P e → SteadyDeed P (d if b else e)
+refuse_or : (P : Row → Type 0) (b : Bool) (d e : Result Deed ElfError) → SteadyDeed P d → SteadyDeed P e → SteadyDeed P (d if b else e)
 refuse_or P b d e p q = picks (SteadyDeed P) b d e (λ _. p) (λ _. q)
 
 -- ---- the target of a call
 
-abbrev Within : ℕ → Call → Type 0
-Within count None = Unit {0}
-Within count Outside = Unit {0}
-Within count (To t) = t < count
+abbrev Within : ℕ → Result (Option ℕ) ElfError → Type 0
+Within count (Ok None) = Unit {0}
+Within count (Err r) = Plain r
+Within count (Ok (Some t)) = t < count
 
 at_in : (text : List ℕ) (version2 : Bool) (i : ℕ) → Within (length text / 8) (call_at text version2 i)
 at_in text version2 i = go (call_at text version2 i) refl
   where
-    go : (c : Call) → call_at text version2 i ≡ c → Within (length text / 8) c
-    go None e = tt
-    go Outside e = tt
-    go (To to) e = to_slot text version2 i to e
+    go : (c : Result (Option ℕ) ElfError) → call_at text version2 i ≡ c → Within (length text / 8) c
+    go (Ok None) e = tt
+    go (Err r) e = rw (← outside_is text version2 i r e) refl
+    go (Ok (Some to)) e = to_slot text version2 i to e
 
 -- ---- an address of the text
 
@@ -141,14 +137,14 @@ module _ (file builtins : List ℕ) (j : Job) (off : j.check_collision ≡ false
   good_row name index l = good_key j.version2 name index (kept_name j.labels name) l
 
   -- what is made of a row, where it is steady with any good one
-  by_row : (f : LegacyResult → Deed) (name : FunctionName) (index : ℕ) → index < 2 ^ 32 → ((row : Row) → G row → SteadyDeed G (f (Ok row))) → SteadyDeed G (f (row_for builtins j name index))
+  by_row : (f : LegacyResult → Result Deed ElfError) (name : FunctionName) (index : ℕ) → index < 2 ^ 32 → ((row : Row) → G row → SteadyDeed G (f (Ok row))) → SteadyDeed G (f (row_for builtins j name index))
   by_row f name index l s = rw (free_row builtins j name index off) (s (row_of_function j name index) (good_row name index l))
 
   -- calls
-  call_steady : (i : ℕ) (c : Call) → Within (length (text_of file j) / 8) c → SteadyDeed G (call_by builtins j i c)
-  call_steady i None h = tt
-  call_steady i Outside h = refl
-  call_steady i (To index) h =
+  call_steady : (i : ℕ) (c : Result (Option ℕ) ElfError) → Within (length (text_of file j) / 8) c → SteadyDeed G (call_by builtins j i c)
+  call_steady i (Ok None) h = tt
+  call_steady i (Err r) h = h
+  call_steady i (Ok (Some index)) h =
       by_row (call_row (immediate j i)) OfIndex index
       (omega (arith, h, length-take j.length (drop j.start file), within.text, within.short))
       (λ row g. g)
@@ -177,7 +173,7 @@ module _ (file builtins : List ℕ) (j : Job) (off : j.check_collision ≡ false
   symbol_steady len split at addend number (Symbol y) = address_steady len split at _
   symbol_steady len split at addend number (NoSym e) = refl
 
-  steady6464 : (im : List ℕ) (l : Layout) (split : Bool) (r number : ℕ) (addend : Addend) → SteadyDeed G (plan6464 file im l split r number addend)
+  steady6464 : (im : List ℕ) (l : Layout) (split : Bool) (r number : ℕ) (addend : Option ℕ) → SteadyDeed G (plan6464 file im l split r number addend)
   unfolding plan6464
   steady6464 im l split r number addend = refuse_or G _ _ _ refl (symbol_steady (length im) split _ _ number (dynamic_symbol_of file l number))
 
@@ -185,7 +181,7 @@ module _ (file builtins : List ℕ) (j : Job) (off : j.check_collision ≡ false
   unfolding relative_text
   text_steady len low high address = refuse_or G _ _ _ refl (refuse_or G _ _ _ refl (refuse_or G _ _ _ refl tt))
 
-  relative_steady : (im : List ℕ) (version2 in_text_lem : Bool) (r : ℕ) (addend : Addend) → SteadyDeed G (plan_relative im version2 in_text_lem r addend)
+  relative_steady : (im : List ℕ) (version2 in_text_lem : Bool) (r : ℕ) (addend : Option ℕ) → SteadyDeed G (plan_relative im version2 in_text_lem r addend)
   unfolding plan_relative
   relative_steady im version2 in_text_lem r addend = refuse_or G _ _ _ (text_steady (length im) _ _ _) (word_steady (length im) r _)
 
@@ -193,7 +189,7 @@ module _ (file builtins : List ℕ) (j : Job) (off : j.check_collision ≡ false
   unfolding function_call
   function_steady len at name value = picks (SteadyDeed G) _ _ _ (λ _. refl) (λ e.
       by_row (register_deed len at) name (index_of j value) (index_in j value within.size (not-false (in_text j value) e))
-      (λ row g. refuse_or G (ltb len (at + 4)) (RegisterOutside row) (Register row at) g g))
+      (λ row g. refuse_or G (ltb len (at + 4)) (Ok (RegisterOutside row)) (Ok (Register row at)) g g))
 
   builtin_steady : (reject-broken : Bool) (len at r start n hash : ℕ) → SteadyDeed G (builtin_call builtins reject-broken len at r start n hash)
   unfolding builtin_call
@@ -215,14 +211,14 @@ module _ (file builtins : List ℕ) (j : Job) (off : j.check_collision ≡ false
   unfolding plan6432
   steady6432 len r number = called_steady len r number (dynamic_symbol_of file j.layout number)
 
-  plan_steady : (im : List ℕ) (p : Mapped) (info : ℕ) (addend : Addend) → SteadyDeed G (plan_of file im builtins j p info addend)
+  plan_steady : (im : List ℕ) (p : Option ℕ) (info : ℕ) (addend : Option ℕ) → SteadyDeed G (plan_of file im builtins j p info addend)
   unfolding plan_at
-  plan_steady im (Placed r) info addend =
+  plan_steady im (Some r) info addend =
       refuse_or G _ _ _ refl
       (refuse_or G _ _ _ (steady6464 im j.layout _ r _ addend)
       (refuse_or G _ _ _ (relative_steady im j.version2 _ r addend)
       (refuse_or G _ _ _ (steady6432 (length im) r _) refl)))
-  plan_steady im Unmapped info addend = refl
+  plan_steady im None info addend = refl
 
   relocation_steady : (i : ℕ) (im : List ℕ) → Steady G (relocation_trace file builtins j i im)
   unfolding relocation_trace

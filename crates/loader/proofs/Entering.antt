@@ -20,8 +20,9 @@ use Rattle.program.proofs.Laws.{kept_rows, more_rows}
 use Rattle.program.proofs.Tables.{ready_after, rows_after_lem}
 use Rattle.loader.specs.declared.error.ElfError.{ElfError}
 use Rattle.loader.specs.declared.error.ElfError.TheVariants.{SymbolHashCollision, TableFull}
-use Rattle.loader.specs.declared.deeds.Outcome.{Outcome}
-use Rattle.loader.specs.declared.deeds.Outcome.TheVariants.{Holds, Refused}
+use Rattle.loader.specs.declared.deeds.Held.{Held}
+use Rattle.std.specs.Prelude.{Result, Ok, Err}
+use Rattle.loader.specs.Deeds.{holding}
 use Rattle.loader.specs.Trace.{Settled, refused, on_registered, settle}
 use Rattle.loader.specs.InnerContracts.{entered_by, Begins, Enters}
 
@@ -32,14 +33,14 @@ pub moves_fit : (a : RegisterResult) (n moves : ℕ) → a ≡ Ok (Inserted n) �
 moves_fit a n moves e h = record { fits = rw e at h }
 
 -- a registration that is held: the rest goes on with its moves
-held_on : (a : RegisterResult) (used moves key rows used' moves' : ℕ) (k : ℕ → Settled) → entered_by a used moves key rows ≡ Holds used' moves' → on_registered a rows key moves k ≡ k moves'
-held_on (Ok (Inserted n)) used moves key rows used' moves' k e = let m : moves + n ≡ moves' = cc in ap k m
-held_on (Ok Repeat) used moves key rows used' moves' k e = let m : moves ≡ moves' = cc in ap k m
-held_on (Err Collision) used moves key rows used' moves' k e = absurd (zero_one (cc))
-held_on (Err Full) used moves key rows used' moves' k e = absurd (zero_one (cc))
+held_on : (a : RegisterResult) (used moves key rows : ℕ) (held : Held) (k : ℕ → Settled) → entered_by a used moves key rows ≡ Ok held → on_registered a rows key moves k ≡ k held.moves
+held_on (Ok (Inserted n)) used moves key rows held k e = let m : moves + n ≡ held.moves = cc in ap k m
+held_on (Ok Repeat) used moves key rows held k e = let m : moves ≡ held.moves = cc in ap k m
+held_on (Err Collision) used moves key rows held k e = absurd (zero_one (cc))
+held_on (Err Full) used moves key rows held k e = absurd (zero_one (cc))
 
 -- one that is refused: the rest does not matter
-held_not : (a : RegisterResult) (used moves key rows : ℕ) (r : ElfError) (k : ℕ → Settled) → entered_by a used moves key rows ≡ Refused r → on_registered a rows key moves k ≡ refused r
+held_not : (a : RegisterResult) (used moves key rows : ℕ) (r : ElfError) (k : ℕ → Settled) → entered_by a used moves key rows ≡ Err r → on_registered a rows key moves k ≡ refused r
 held_not (Ok (Inserted n)) used moves key rows r k e = absurd (zero_one (cc))
 held_not (Ok Repeat) used moves key rows r k e = absurd (zero_one (cc))
 held_not (Err Collision) used moves key rows r k e = let m : SymbolHashCollision key ≡ r = cc in ap refused m
@@ -51,19 +52,19 @@ pub record Grown (cap : ℕ) (r : Row) (rs : List Row) (moves used' moves' : ℕ
   pub one_more : used' ≤ length rs + 1
   pub few_moved : moves' ≤ moves + length rs
 
-grown : (a : RegisterResult) (cap : ℕ) (r : Row) (rs : List Row) (moves key rows used' moves' : ℕ) → a ≡ register cap r rs → entered_by a (length rs) moves key rows ≡ Holds used' moves' → Grown cap r rs moves used' moves'
-grown (Ok (Inserted n)) cap r rs moves key rows used' moves' is e =
-    let u : length rs + 1 ≡ used' = cc in
-    let m : moves + n ≡ moves' = cc in
+grown : (a : RegisterResult) (cap : ℕ) (r : Row) (rs : List Row) (moves key rows : ℕ) (held : Held) → a ≡ register cap r rs → entered_by a (length rs) moves key rows ≡ Ok held → Grown cap r rs moves held.used held.moves
+grown (Ok (Inserted n)) cap r rs moves key rows held is e =
+    let u : length rs + 1 ≡ held.used = cc in
+    let m : moves + n ≡ held.moves = cc in
     let both = more_rows cap r rs n (sym is) in
     record { rows_now = omega (arith, both.0); one_more = omega arith; few_moved = omega (arith, both.1) }
-grown (Ok Repeat) cap r rs moves key rows used' moves' is e =
-    let u : length rs ≡ used' = cc in
-    let m : moves ≡ moves' = cc in
+grown (Ok Repeat) cap r rs moves key rows held is e =
+    let u : length rs ≡ held.used = cc in
+    let m : moves ≡ held.moves = cc in
     let same = kept_rows cap r rs (λ n h. zero_one (cc)) in
     record { rows_now = ap length same ∙ u; one_more = omega arith; few_moved = omega arith }
-grown (Err Collision) cap r rs moves key rows used' moves' is e = absurd (zero_one (cc))
-grown (Err Full) cap r rs moves key rows used' moves' is e = absurd (zero_one (cc))
+grown (Err Collision) cap r rs moves key rows held is e = absurd (zero_one (cc))
+grown (Err Full) cap r rs moves key rows held is e = absurd (zero_one (cc))
 
 moved_at_most : (a : RegisterResult) (cap : ℕ) (r : Row) (rs : List Row) → a ≡ register cap r rs → moves_of a ≤ length rs
 moved_at_most (Ok (Inserted n)) cap r rs is = (more_rows cap r rs n (sym is)).1
@@ -79,21 +80,21 @@ module _ (t u : Slices) (rows used moves : ℕ) (row : Row) (a : RegisterResult)
       let m : moves_of a ≤ used = rw (length_rows t used) at (moved_at_most a (capacity t) row (rows_of t used) did.answers) in
       (omega (arith, begins.room.few), omega (arith, begins.room.few, begins.room.moved))
 
-  entering : (key : ℕ) → key ≡ row.key → (b : Outcome) → entered_by a used moves key rows ≡ b → Enters row t u used moves b
+  entering : (key : ℕ) → key ≡ row.key → (b : Result Held ElfError) → entered_by a used moves key rows ≡ b → Enters row t u used moves b
   unfolding settle
-  entering key k (Holds used' moves') e im =
-      let e' : entered_by a used moves row.key (capacity t) ≡ Holds used' moves' = rw (← begins.rows_are, ← k) e in
-      let g = grown a (capacity t) row (rows_of t used) moves key rows used' moves' did.answers (rw (length_rows t used) e) in
+  entering key k (Ok held) e im =
+      let e' : entered_by a used moves row.key (capacity t) ≡ Ok held = rw (← begins.rows_are, ← k) e in
+      let g = grown a (capacity t) row (rows_of t used) moves key rows held did.answers (rw (length_rows t used) e) in
       let l = length_rows t used in
-      let rs : rows_of u used' ≡ registered (capacity t) row (rows_of t used) = rw g.rows_now at (rows_after_lem t u used row a begins.ready did) in
+      let rs : rows_of u held.used ≡ registered (capacity t) row (rows_of t used) = rw g.rows_now at (rows_after_lem t u used row a begins.ready did) in
       record {
-        answers = rw (rs, ← did.answers) (sym (held_on a used moves row.key (capacity t) used' moves' _ e'));
+        answers = rw (rs, ← did.answers) (sym (held_on a used moves row.key (capacity t) held _ e'));
         sound = rw g.rows_now at (ready_after t u used row a begins.ready did);
         near = (omega (arith, g.one_more, l), omega (arith, g.few_moved, l, begins.room.few));
       }
-  entering key k (Refused r) e im =
-      let e' : entered_by a used moves row.key (capacity t) ≡ Refused r = rw (← begins.rows_are, ← k) e in
+  entering key k (Err r) e im =
+      let e' : entered_by a used moves row.key (capacity t) ≡ Err r = rw (← begins.rows_are, ← k) e in
       record { answers = rw (← did.answers) (sym (held_not a used moves row.key (capacity t) r _ e')); sound = tt; near = tt }
 
-  pub enters : (b : Outcome) → b ≡ entered_by a used moves row.key rows → Enters row t u used moves b
+  pub enters : (b : Result Held ElfError) → b ≡ entered_by a used moves row.key rows → Enters row t u used moves b
   enters b e = entering row.key refl b (sym e)

@@ -15,8 +15,10 @@ use Rattle.program.proofs.Rows.{remove_missing}
 use Rattle.program.proofs.Laws.{absent_iff}
 use Rattle.program.proofs.Keys.{entrypoint_key}
 use Rattle.program.proofs.Tables.{unregisters_ready, after_gone, after_absent}
-use Rattle.loader.specs.declared.deeds.Outcome.{Outcome}
-use Rattle.loader.specs.declared.deeds.Outcome.TheVariants.{Holds}
+use Rattle.loader.specs.declared.deeds.Held.{Held}
+use Rattle.loader.specs.declared.error.ElfError.{ElfError}
+use Rattle.std.specs.Prelude.{Result}
+use Rattle.loader.specs.Deeds.{holding}
 use Rattle.loader.specs.Trace.{done, forget, accepted, settle}
 use Rattle.loader.specs.Entry.{forgotten_by}
 use Rattle.loader.specs.InnerContracts.{Begins, Forgets, Settles}
@@ -28,7 +30,7 @@ pub gone_fit : (a : Option ℕ) (n moves : ℕ) → a ≡ Some n → moves + mov
 gone_fit a n moves e h = record { fits = rw e at h }
 
 -- version 2 forgets nothing
-pub forgets_nothing : (t : Slices) (rows used moves : ℕ) → Begins 1 t rows used moves → Forgets true t t used moves (Holds used moves)
+pub forgets_nothing : (t : Slices) (rows used moves : ℕ) → Begins 1 t rows used moves → Forgets true t t used moves (holding used moves)
 unfolding settle
 forgets_nothing t rows used moves b im = record { answers = refl; sound = b.ready; near = (omega arith, omega arith) }
 
@@ -65,6 +67,6 @@ module _ (t u : Slices) (rows used moves : ℕ) (begins : Begins 1 t rows used m
         near = (omega arith, omega arith);
       }
 
-  pub forgets : (a : Option ℕ) (b : Outcome) → Unregisters t u used 0x71e3cf81 a → b ≡ forgotten_by a used moves → Forgets false t u used moves b
+  pub forgets : (a : Option ℕ) (b : Result Held ElfError) → Unregisters t u used 0x71e3cf81 a → b ≡ forgotten_by a used moves → Forgets false t u used moves b
   forgets a b did e im =
       rw (e, entrypoint_key) (forgets_by 0x71e3cf81 a (unregisters_ready t used begins.ready u 0x71e3cf81 a did) im)

@@ -1,4 +1,6 @@
 -- The copied read-only bytes fill the front of their buffer and touch nothing behind it. Assumes nothing.
+use Rattle.std.specs.Prelude.{Ok}
+use Rattle.loader.specs.declared.read_only.Placing.TheVariants.{Owned}
 use Prim.Native.Nat.{ℕ, zero, suc, ◌+◌, ◌-◌, ◌≤◌, ◌<◌, ◌^◌}
 use native.Mathlib.Omega.{arith}
 use mathlib.Core.Path.{◌≡◌, refl, sym, ap, ◌∙◌}
@@ -11,7 +13,6 @@ use Rattle.elf_parser.specs.declared.layout.Layout.{Layout}
 use Rattle.elf_parser.specs.declared.parts.Place.{Place}
 use Rattle.elf_parser.specs.declared.parts.Place.TheVariants.{At, Refused as NoPlace}
 use Rattle.elf_parser.specs.Records.{file_range_of}
-use Rattle.loader.specs.declared.read_only.Placing.TheVariants.{Owned}
 use Rattle.loader.specs.Sections.{section_at, name_of}
 use Rattle.loader.specs.ReadOnly.{read_only, placing, copy_step, copied_from}
 use Rattle.loader.specs.Placed.{step_length, owned_fits, owned_room, copy_is_paste}
@@ -23,7 +24,7 @@ paste_front ro rest s at k h =
     ∙ sym (append_assoc (take at ro ++ take k s) (drop (at + k) ro) rest)
 
 module _ (image s : List ℕ) (l : Layout) (count : ℕ) (version2 reject-broken optimize : Bool) (offset lowest n : ℕ)
-    (short : length s ≤ 2 ^ 24) (long : length s ≤ length image) (owned : placing s l count version2 reject-broken optimize ≡ Owned offset lowest n) where
+    (short : length s ≤ 2 ^ 24) (long : length s ≤ length image) (owned : placing s l count version2 reject-broken optimize ≡ Ok (Owned offset lowest n)) where
   -- one section
   front_step : (i : ℕ) → i < count → (ro rest : List ℕ) → length ro ≡ n → copy_step image s l lowest i (ro ++ rest) ≡ copy_step image s l lowest i ro ++ rest
   unfolding copy_step ◌if◌else◌

@@ -11,6 +11,7 @@ use mathlib.Core.List.{List}
 use lib.ListN.{length}
 use lib.Dec.{eqb}
 use borrow.Author.Tests.{ltb-false, eqb-true, le-leb, not-false, not-true}
+use Rattle.std.specs.Prelude.{Result, Ok, Err}
 use Rattle.ebpf.specs.Choice.{◌if◌else◌, not_first, row_rest, and_left, and_right, or_false, yes, and_false, row_cases}
 use Rattle.elf_parser.specs.declared.layout.Layout.{Layout}
 use Rattle.elf_parser.specs.declared.parts.Place.{Place}
@@ -22,15 +23,14 @@ use Rattle.elf_parser.specs.Loops.{Turn, goes, ends, ◌into◌, over, not_ends}
 use Rattle.elf_parser.specs.Parts.{no_place}
 use Rattle.elf_parser.specs.Records.{range_by, section_header_of, file_range_of, range_lies}
 use Rattle.program.proofs.Cases.{by_test}
+use Rattle.loader.specs.declared.read_only.Placing.TheVariants.{Borrowed, Owned}
 use Rattle.loader.specs.declared.error.ElfError.{ElfError}
 use Rattle.loader.specs.declared.read_only.Extent.{Extent}
-use Rattle.loader.specs.declared.read_only.Gathering.{Gathering}
-use Rattle.loader.specs.declared.read_only.Gathering.TheVariants.{Next, Refused as Stop}
-use Rattle.loader.specs.declared.read_only.Placing.TheVariants.{Borrowed, Owned, Refused}
+use Rattle.loader.specs.Results.{not_ok}
 use Rattle.loader.specs.Addresses.{MM_PROGRAM_START, MM_STACK_START}
 use Rattle.loader.specs.Sections.{header_or, section_at, name_of}
 use Rattle.loader.specs.ReadOnly.{read_only, gives, invalid_by, end_of, grown, taken, taken_at, gather_step, nothing, gather_turn, gather_by, gathered, from_start, can_borrow, borrowed, owned, placed, placing_by, placing}
-use Rattle.loader.specs.Placed.{Inside, no_owned, not_borrowed, no_next, end_ahead}
+use Rattle.loader.specs.Placed.{Inside, not_borrowed, end_ahead}
 use Rattle.loader.proofs.Readied.{Lies}
 
 -- ---- rows and tests
@@ -140,12 +140,12 @@ module _ (version2 : Bool) (i : ℕ) (h : Elf64Shdr) (n : ℕ) (x : Extent) wher
       let b = p.below in
       record { above = omega (arith, a); below = omega (arith, b); ahead = p.ahead }
 
-  taken_grows : (reject-broken : Bool) (z : Extent) → taken version2 reject-broken i h n x ≡ Next z → (h.sh_addr ≤ MM_STACK_START) × (grown version2 i h.sh_addr h.sh_offset n x ≡ z)
+  taken_grows : (reject-broken : Bool) (z : Extent) → taken version2 reject-broken i h n x ≡ Ok z → (h.sh_addr ≤ MM_STACK_START) × (grown version2 i h.sh_addr h.sh_offset n x ≡ z)
   unfolding taken
   taken_grows reject-broken z e =
-      let e1 = row_rest _ _ _ _ (no_next _ _) e in
-      let e2 : Next (grown version2 i h.sh_addr h.sh_offset n x) ≡ Next z = row_rest _ _ _ _ (no_next _ _) e1 in
-      let f = ltb-false MM_STACK_START (end_of version2 h.sh_addr h.sh_size) (not_first _ _ _ _ (no_next _ _) e1) in
+      let e1 = row_rest _ _ _ _ (not_ok _ _) e in
+      let e2 : Ok (grown version2 i h.sh_addr h.sh_offset n x) ≡ Ok z = row_rest _ _ _ _ (not_ok _ _) e1 in
+      let f = ltb-false MM_STACK_START (end_of version2 h.sh_addr h.sh_size) (not_first _ _ _ _ (not_ok _ _) e1) in
       (end_ahead version2 h.sh_addr h.sh_size _ refl f, cc)
 
 -- ---- all sections, with one of them: the text's
@@ -159,7 +159,7 @@ module _ (s : List ℕ) (l : Layout) (version2 reject-broken : Bool) (count t st
   place_spans : (i : ℕ) (x z : Extent) → i < count
       → (p : Place)
       → file_range_of s l i ≡ p
-      → taken_at version2 reject-broken i (section_at s l i) x p ≡ Next z
+      → taken_at version2 reject-broken i (section_at s l i) x p ≡ Ok z
       → Spans s l version2 t k i x
       → Spans s l version2 t k (i + 1) z
   unfolding section_at
@@ -184,16 +184,16 @@ module _ (s : List ℕ) (l : Layout) (version2 reject-broken : Bool) (count t st
           let q : At start k ≡ At a b = sym stands ∙ ap (file_range_of s l) same ∙ at in
           let r : k ≡ b = cc in
           rw (same, r) (grown_inside version2 i (section_at s l i) b x ahead)
-  place_spans i x z below (NoPlace r) at e g = absurd (no_next _ _ e)
+  place_spans i x z below (NoPlace r) at e g = absurd (not_ok _ _ e)
 
-  step_spans : (i : ℕ) (x z : Extent) → i < count → gather_step s l version2 reject-broken i x ≡ Next z → Spans s l version2 t k i x → Spans s l version2 t k (i + 1) z
+  step_spans : (i : ℕ) (x z : Extent) → i < count → gather_step s l version2 reject-broken i x ≡ Ok z → Spans s l version2 t k i x → Spans s l version2 t k (i + 1) z
   unfolding gather_step
   step_spans i x z below e g = row_cases _ _ _ _ _ (λ b q. passed b q) (λ b q. place_spans i x z below (file_range_of s l i) refl q g) e
     where
       at_most : t < i + 1 → t ≤ i
       at_most lt = omega (arith, lt)
 
-      passed : not (read_only (name_of s l (section_at s l i))) ≡ true → Next x ≡ Next z → Spans s l version2 t k (i + 1) z
+      passed : not (read_only (name_of s l (section_at s l i))) ≡ true → ◌≡◌ {A = Result Extent ElfError} (Ok x) (Ok z) → Spans s l version2 t k (i + 1) z
       passed b q =
           let p : x ≡ z = cc in
           subst (Spans s l version2 t k (i + 1)) p
@@ -213,13 +213,13 @@ module _ (s : List ℕ) (l : Layout) (version2 reject-broken : Bool) (count t st
       subst (λ (u : ℕ). Spans s l version2 t k u y) q (subst (Spans s l version2 t k i) p g)
   all_span (suc n) i x y all e g = go (gather_step s l version2 reject-broken i x) refl e (λ z q. all_span n (i + 1) z y (omega (arith, all)) q)
     where
-      go : (next : Gathering)
+      go : (next : Result Extent ElfError)
           → gather_step s l version2 reject-broken i x ≡ next
           → (gather_turn next into over (λ j z. gather_turn (gather_step s l version2 reject-broken j z)) 1 n (i + 1)) ≡ goes y
           → ((z : Extent) → over (λ j w. gather_turn (gather_step s l version2 reject-broken j w)) 1 n (i + 1) z ≡ goes y → Spans s l version2 t k (i + 1) z → Spans s l version2 t k count y)
           → Spans s l version2 t k count y
-      go (Next z) h q rec = rec z q (step_spans i x z (omega (arith, all)) h g)
-      go (Stop r) h q rec = absurd (not_ends r y q)
+      go (Ok z) h q rec = rec z q (step_spans i x z (omega (arith, all)) h g)
+      go (Err r) h q rec = absurd (not_ends r y q)
 
   pub spans : (y : Extent) → over (λ j z. gather_turn (gather_step s l version2 reject-broken j z)) 1 count 0 nothing ≡ goes y → Spans s l version2 t k count y
   spans y e = all_span count 0 nothing y (omega arith) e (record {
@@ -229,29 +229,26 @@ module _ (s : List ℕ) (l : Layout) (version2 reject-broken : Bool) (count t st
 
 -- ---- what a placing says
 
-no_borrowed : (r : ElfError) (a b n : ℕ) → Refused r ≡ Borrowed a b n → ⊥
-no_borrowed r a b n e = let z : ◌≡◌ {A = ℕ} 0 1 = cc in omega arith
-
-not_owned : (len : ℕ) (optimize : Bool) (x : Extent) (a b n : ℕ) → owned len optimize x ≡ Borrowed a b n → ⊥
+not_owned : (len : ℕ) (optimize : Bool) (x : Extent) (a b n : ℕ) → owned len optimize x ≡ Ok (Borrowed a b n) → ⊥
 unfolding owned
-not_owned len optimize x a b n e = row_cases _ _ _ _ _ (λ t q. no_borrowed _ _ _ _ q) (λ t q. let z : ◌≡◌ {A = ℕ} 0 1 = cc in omega arith) e
+not_owned len optimize x a b n e = row_cases _ _ _ _ _ (λ t q. not_ok _ _ q) (λ t q. let z : ◌≡◌ {A = ℕ} 0 1 = cc in omega arith) e
 
 -- the offset of copied sections is their lowest address's
-owned_offset : (len : ℕ) (optimize : Bool) (x : Extent) (offset lowest n : ℕ) → owned len optimize x ≡ Owned offset lowest n → offset ≡ from_start lowest
+owned_offset : (len : ℕ) (optimize : Bool) (x : Extent) (offset lowest n : ℕ) → owned len optimize x ≡ Ok (Owned offset lowest n) → offset ≡ from_start lowest
 unfolding owned
 owned_offset len optimize x offset lowest n e =
     let lo : ℕ = x.lowest if optimize else 0 in
-    let e1 : Owned (from_start lo) lo (x.highest - lo) ≡ Owned offset lowest n = row_rest _ _ _ _ (no_owned _ _ _ _) e in
+    let e1 : Ok (Owned (from_start lo) lo (x.highest - lo)) ≡ Ok (Owned offset lowest n) = row_rest _ _ _ _ (not_ok _ _) e in
     let p : lo ≡ lowest = cc in
     let q : from_start lo ≡ offset = cc in
     sym q ∙ ap from_start p
 
 -- copied sections go from the lowest address on, or from 0 on where this is not optimized
-owned_lowest : (len : ℕ) (optimize : Bool) (x : Extent) (offset lowest n : ℕ) → owned len optimize x ≡ Owned offset lowest n → lowest ≡ (x.lowest if optimize else 0)
+owned_lowest : (len : ℕ) (optimize : Bool) (x : Extent) (offset lowest n : ℕ) → owned len optimize x ≡ Ok (Owned offset lowest n) → lowest ≡ (x.lowest if optimize else 0)
 unfolding owned
 owned_lowest len optimize x offset lowest n e =
     let lo : ℕ = x.lowest if optimize else 0 in
-    let e1 : Owned (from_start lo) lo (x.highest - lo) ≡ Owned offset lowest n = row_rest _ _ _ _ (no_owned _ _ _ _) e in
+    let e1 : Ok (Owned (from_start lo) lo (x.highest - lo)) ≡ Ok (Owned offset lowest n) = row_rest _ _ _ _ (not_ok _ _) e in
     let p : lo ≡ lowest = cc in
     sym p
 
@@ -262,12 +259,12 @@ never_copied true optimize true a b h = absurd (true≢false (sym (rw (h refl) r
 never_copied true optimize false a b h = absurd (true≢false a)
 
 module _ (len : ℕ) (version2 reject-broken optimize : Bool) (x : Extent) (offset at n : ℕ) where
-  placed_owned : placed len version2 reject-broken optimize x ≡ Owned offset at n → (version2 ≡ true → optimize ≡ true) → (version2 ≡ false) × (offset ≡ from_start at)
+  placed_owned : placed len version2 reject-broken optimize x ≡ Ok (Owned offset at n) → (version2 ≡ true → optimize ≡ true) → (version2 ≡ false) × (offset ≡ from_start at)
   unfolding placed
   placed_owned e on =
-      let e1 = row_rest _ _ _ _ (no_owned _ _ _ _) e in
-      let e2 = row_rest _ _ _ _ (no_owned _ _ _ _) e1 in
-      let a = not_first _ _ _ _ (no_owned _ _ _ _) e1 in
+      let e1 = row_rest _ _ _ _ (not_ok _ _) e in
+      let e2 = row_rest _ _ _ _ (not_ok _ _) e1 in
+      let a = not_first _ _ _ _ (not_ok _ _) e1 in
       let b = not_first _ _ _ _ (not_borrowed version2 x offset at n) e2 in
       let e3 = row_rest _ _ _ _ (not_borrowed version2 x offset at n) e2 in
       (never_copied version2 optimize (can_borrow x) a b on, owned_offset len optimize x offset at n e3)
@@ -284,11 +281,11 @@ can_valid : (x : Extent) → can_borrow x ≡ true → x.invalid ≡ false
 unfolding can_borrow
 can_valid x e = not-true _ (and_left _ _ e)
 
-borrowed_stays : (version2 : Bool) (x : Extent) (offset start n : ℕ) → x.invalid ≡ false → borrowed version2 x ≡ Borrowed offset start n → Stays version2 x offset start n
+borrowed_stays : (version2 : Bool) (x : Extent) (offset start n : ℕ) → x.invalid ≡ false → borrowed version2 x ≡ Ok (Borrowed offset start n) → Stays version2 x offset start n
 unfolding borrowed
 borrowed_stays version2 x offset start n v e =
-    let e1 : Borrowed (from_start x.lowest) (x.lowest - x.shift) ((x.highest - x.shift) - (x.lowest - x.shift)) ≡ Borrowed offset start n = row_rest _ _ _ _ (no_borrowed _ _ _ _) e in
-    let f = not_first _ _ _ _ (no_borrowed _ _ _ _) e in
+    let e1 : Ok (Borrowed (from_start x.lowest) (x.lowest - x.shift) ((x.highest - x.shift) - (x.lowest - x.shift))) ≡ Ok (Borrowed offset start n) = row_rest _ _ _ _ (not_ok _ _) e in
+    let f = not_first _ _ _ _ (not_ok _ _) e in
     record {
       valid = v;
       above = λ on. ltb-false _ _ (and_false version2 _ f on);
@@ -297,45 +294,45 @@ borrowed_stays version2 x offset start n v e =
       length_is = cc;
     }
 
-placed_stays : (len : ℕ) (version2 reject-broken optimize : Bool) (x : Extent) (offset start n : ℕ) → placed len version2 reject-broken optimize x ≡ Borrowed offset start n → Stays version2 x offset start n
+placed_stays : (len : ℕ) (version2 reject-broken optimize : Bool) (x : Extent) (offset start n : ℕ) → placed len version2 reject-broken optimize x ≡ Ok (Borrowed offset start n) → Stays version2 x offset start n
 unfolding placed
 placed_stays len version2 reject-broken optimize x offset start n e =
-    let e1 = row_rest _ _ _ _ (no_borrowed _ _ _ _) e in
-    let e2 = row_rest _ _ _ _ (no_borrowed _ _ _ _) e1 in
+    let e1 = row_rest _ _ _ _ (not_ok _ _) e in
+    let e2 = row_rest _ _ _ _ (not_ok _ _) e1 in
     row_cases _ _ _ _ _ (λ b q. borrowed_stays version2 x offset start n (can_valid x (and_right optimize _ b)) q) (λ b q. absurd (not_owned len optimize x offset start n q)) e2
 
 module _ (s : List ℕ) (l : Layout) (count : ℕ) (version2 reject-broken optimize : Bool) (offset at n : ℕ) where
   -- where they are copied, the file is of version 1
-  pub copied_offset : (version2 ≡ true → optimize ≡ true) → placing s l count version2 reject-broken optimize ≡ Owned offset at n → (version2 ≡ false) × (offset ≡ from_start at)
+  pub copied_offset : (version2 ≡ true → optimize ≡ true) → placing s l count version2 reject-broken optimize ≡ Ok (Owned offset at n) → (version2 ≡ false) × (offset ≡ from_start at)
   unfolding placing
   copied_offset on e = go (gathered s l count version2 reject-broken) e
     where
-      go : (g : Gathering) → placing_by (length s) version2 reject-broken optimize g ≡ Owned offset at n → (version2 ≡ false) × (offset ≡ from_start at)
-      go (Next x) q = placed_owned (length s) version2 reject-broken optimize x offset at n q on
-      go (Stop r) q = absurd (no_owned _ _ _ _ q)
+      go : (g : Result Extent ElfError) → placing_by (length s) version2 reject-broken optimize g ≡ Ok (Owned offset at n) → (version2 ≡ false) × (offset ≡ from_start at)
+      go (Ok x) q = placed_owned (length s) version2 reject-broken optimize x offset at n q on
+      go (Err r) q = absurd (not_ok _ _ q)
 
   -- where they stay in the image, they are all those that were gathered
-  pub stays : placing s l count version2 reject-broken optimize ≡ Borrowed offset at n
+  pub stays : placing s l count version2 reject-broken optimize ≡ Ok (Borrowed offset at n)
       → (x : Extent) × (over (λ j y. gather_turn (gather_step s l version2 reject-broken j y)) 1 count 0 nothing ≡ goes x) × Stays version2 x offset at n
   unfolding placing
   stays e = go (over (λ j y. gather_turn (gather_step s l version2 reject-broken j y)) 1 count 0 nothing) refl e
     where
       go : (t : Turn ElfError Extent)
           → over (λ j y. gather_turn (gather_step s l version2 reject-broken j y)) 1 count 0 nothing ≡ t
-          → placing_by (length s) version2 reject-broken optimize (gather_by t) ≡ Borrowed offset at n
+          → placing_by (length s) version2 reject-broken optimize (gather_by t) ≡ Ok (Borrowed offset at n)
           → (x : Extent) × (over (λ j y. gather_turn (gather_step s l version2 reject-broken j y)) 1 count 0 nothing ≡ goes x) × Stays version2 x offset at n
       go (goes x) h q = (x, h, placed_stays (length s) version2 reject-broken optimize x offset at n q)
-      go (ends r) h q = absurd (no_borrowed _ _ _ _ q)
+      go (ends r) h q = absurd (not_ok _ _ q)
 
   -- where they are copied, it is from their lowest address on, or from 0 on where this is not optimized
-  pub copied_lowest : placing s l count version2 reject-broken optimize ≡ Owned offset at n → (x : Extent) × (gathered s l count version2 reject-broken ≡ Next x) × (at ≡ (x.lowest if optimize else 0))
+  pub copied_lowest : placing s l count version2 reject-broken optimize ≡ Ok (Owned offset at n) → (x : Extent) × (gathered s l count version2 reject-broken ≡ Ok x) × (at ≡ (x.lowest if optimize else 0))
   unfolding placing placed
   copied_lowest e = go (gathered s l count version2 reject-broken) refl e
     where
-      go : (g : Gathering) → gathered s l count version2 reject-broken ≡ g → placing_by (length s) version2 reject-broken optimize g ≡ Owned offset at n
-          → (x : Extent) × (gathered s l count version2 reject-broken ≡ Next x) × (at ≡ (x.lowest if optimize else 0))
-      go (Next x) h q =
-          let e1 = row_rest _ _ _ _ (no_owned _ _ _ _) q in
-          let e2 = row_rest _ _ _ _ (no_owned _ _ _ _) e1 in
+      go : (g : Result Extent ElfError) → gathered s l count version2 reject-broken ≡ g → placing_by (length s) version2 reject-broken optimize g ≡ Ok (Owned offset at n)
+          → (x : Extent) × (gathered s l count version2 reject-broken ≡ Ok x) × (at ≡ (x.lowest if optimize else 0))
+      go (Ok x) h q =
+          let e1 = row_rest _ _ _ _ (not_ok _ _) q in
+          let e2 = row_rest _ _ _ _ (not_ok _ _) e1 in
           (x, h, owned_lowest (length s) optimize x offset at n (row_rest _ _ _ _ (not_borrowed version2 x offset at n) e2))
-      go (Stop r) h q = absurd (no_owned _ _ _ _ q)
+      go (Err r) h q = absurd (not_ok _ _ q)

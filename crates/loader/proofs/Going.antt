@@ -8,8 +8,9 @@ use lib.ListN.{length}
 use Rattle.program.specs.Table.{Slices, capacity, rows_of, Ready}
 use Rattle.program.proofs.Tables.{SameLens, same_trans, capacity_same}
 use Rattle.loader.specs.declared.error.ElfError.{ElfError}
-use Rattle.loader.specs.declared.deeds.Outcome.{Outcome}
-use Rattle.loader.specs.declared.deeds.Outcome.TheVariants.{Holds, Refused}
+use Rattle.loader.specs.declared.deeds.Held.{Held}
+use Rattle.std.specs.Prelude.{Result, Ok, Err}
+use Rattle.loader.specs.Deeds.{holding}
 use Rattle.loader.specs.Trace.{Trace, and_then, each, refused, settle, settle_and_then}
 use Rattle.loader.specs.CallLoop.{Leads}
 use Rattle.loader.specs.InnerContracts.{Near, Begins, Settles}
@@ -19,29 +20,29 @@ same_refl t = record { keys_as = refl; indices_as = refl; kinds_as = refl; start
 
 -- a part that was held, and then another
 then_on : (T : Trace) (K : List ℕ → Trace) (im : List ℕ) (t u : Slices) (n used moves used' moves' : ℕ) → SameLens t u
-    → Settles T im t u n used moves (Holds used' moves')
+    → Settles T im t u n used moves (holding used' moves')
     → settle (capacity t) (and_then T K) (rows_of t used) moves ≡ settle (capacity u) (K im) (rows_of u used') moves'
 then_on T K im t u n used moves used' moves' lens did = settle_and_then (capacity t) T K (rows_of t used) moves ∙ rw (← did.answers, capacity_same t u lens) refl
 
 -- a part that was refused
 then_not : (T : Trace) (K : List ℕ → Trace) (im : List ℕ) (t u : Slices) (n used moves : ℕ) (r : ElfError)
-    → Settles T im t u n used moves (Refused r)
+    → Settles T im t u n used moves (Err r)
     → settle (capacity t) (and_then T K) (rows_of t used) moves ≡ refused r
 then_not T K im t u n used moves r did = settle_and_then (capacity t) T K (rows_of t used) moves ∙ rw (← did.answers) refl
 
 -- two parts
 pub settles_stop : (T : Trace) (K : List ℕ → Trace) (im im' : List ℕ) (t u v : Slices) (n m used moves : ℕ) (r : ElfError)
-    → Settles T im t u n used moves (Refused r) → Settles (and_then T K) im' t v m used moves (Refused r)
+    → Settles T im t u n used moves (Err r) → Settles (and_then T K) im' t v m used moves (Err r)
 settles_stop T K im im' t u v n m used moves r did = record { answers = sym (then_not T K im t u n used moves r did); sound = tt; near = tt }
 
 pub begins_fewer : (n m : ℕ) (t : Slices) (rows used moves : ℕ) → Begins (n + m) t rows used moves → Begins n t rows used moves
 begins_fewer n m t rows used moves b = record { rows_are = b.rows_are; ready = b.ready; room = record { few = omega (arith, b.room.few); moved = omega (arith, b.room.moved) } }
 
-near_add : (n m used moves used' moves' : ℕ) (a : Outcome) → used' ≤ used + n → moves' ≤ moves + n * 2 ^ 26 → Near m used' moves' a → Near (n + m) used moves a
-near_add n m used moves used' moves' (Holds used'' moves'') p q h = (omega (arith, h.0), omega (arith, h.1))
-near_add n m used moves used' moves' (Refused r) p q h = tt
+near_add : (n m used moves used' moves' : ℕ) (a : Result Held ElfError) → used' ≤ used + n → moves' ≤ moves + n * 2 ^ 26 → Near m used' moves' a → Near (n + m) used moves a
+near_add n m used moves used' moves' (Ok held) p q h = (omega (arith, h.0), omega (arith, h.1))
+near_add n m used moves used' moves' (Err r) p q h = tt
 
-module _ (T : Trace) (K : List ℕ → Trace) (im im' : List ℕ) (t u v : Slices) (n m used moves used' moves' : ℕ) (lens : SameLens t u) (did : Settles T im t u n used moves (Holds used' moves')) where
+module _ (T : Trace) (K : List ℕ → Trace) (im im' : List ℕ) (t u v : Slices) (n m used moves used' moves' : ℕ) (lens : SameLens t u) (did : Settles T im t u n used moves (holding used' moves')) where
   -- room is left for the second part
   pub begins_then : (rows : ℕ) → Begins (n + m) t rows used moves → Begins m u rows used' moves'
   begins_then rows b = record {
@@ -50,7 +51,7 @@ module _ (T : Trace) (K : List ℕ → Trace) (im im' : List ℕ) (t u v : Slice
     room = record { few = omega (arith, b.room.few, did.near.0); moved = omega (arith, b.room.moved, did.near.1) };
   }
 
-  pub settles_then : (a : Outcome) → Settles (K im) im' u v m used' moves' a → Settles (and_then T K) im' t v (n + m) used moves a
+  pub settles_then : (a : Result Held ElfError) → Settles (K im) im' u v m used' moves' a → Settles (and_then T K) im' t v (n + m) used moves a
   settles_then a next = record {
     answers = next.answers ∙ sym (then_on T K im t u n used moves used' moves' lens did);
     sound = next.sound;
@@ -83,7 +84,7 @@ module _ (step : ℕ → List ℕ → Trace) (n o k : ℕ) (within : k ≤ n) wh
   }
 
   module _ (im₀ im : List ℕ) (t₀ t : Slices) (rows used₀ moves₀ used moves i : ℕ) (begins : Begins (k - o) t₀ rows used₀ moves₀) (going : GoingIn step n o k im₀ im t₀ t used₀ moves₀ used moves i) where
-    pub in_done : k ≤ i → Leads step n o k im₀ im t₀ t used₀ moves₀ (Holds used moves)
+    pub in_done : k ≤ i → Leads step n o k im₀ im t₀ t used₀ moves₀ (holding used moves)
     in_done l =
         let j : i ≡ k = omega (arith, going.passed) in
         record { answers = rw j at (sym going.onward); sound = going.ready; near = (omega (arith, going.few), omega (arith, going.moved)) }
@@ -101,10 +102,10 @@ module _ (step : ℕ → List ℕ → Trace) (n o k : ℕ) (within : k ≤ n) wh
       unfolding each
       unrolled = let e : n - i ≡ suc (n - (i + 1)) = omega arith in rw e at going.onward
 
-      pub in_stop : (r : ElfError) (im'' : List ℕ) → Settles (step i im) im' t u 1 used moves (Refused r) → Leads step n o k im₀ im'' t₀ u used₀ moves₀ (Refused r)
+      pub in_stop : (r : ElfError) (im'' : List ℕ) → Settles (step i im) im' t u 1 used moves (Err r) → Leads step n o k im₀ im'' t₀ u used₀ moves₀ (Err r)
       in_stop r im'' did = record { answers = sym unrolled ∙ then_not (step i im) _ im' t u 1 used moves r did; sound = tt; near = tt }
 
-      pub in_on : (used' moves' : ℕ) → SameLens t u → length im' ≡ length im → Settles (step i im) im' t u 1 used moves (Holds used' moves') → GoingIn step n o k im₀ im' t₀ u used₀ moves₀ used' moves' (i + 1)
+      pub in_on : (used' moves' : ℕ) → SameLens t u → length im' ≡ length im → Settles (step i im) im' t u 1 used moves (holding used' moves') → GoingIn step n o k im₀ im' t₀ u used₀ moves₀ used' moves' (i + 1)
       in_on used' moves' lens len did = record {
         same = same_trans t₀ t u going.same lens;
         image_as = len ∙ going.image_as;
@@ -138,7 +139,7 @@ module _ (step : ℕ → List ℕ → Trace) (n o k : ℕ) (within : k ≤ n) wh
         room = record { few = omega (arith, begins.room.few, going.few, going.begun); moved = omega (arith, begins.room.moved, going.moved, going.begun) };
       }
 
-      pub in_run : (used' moves' : ℕ) → SameLens t u → length im' ≡ length im → Leads step n i j im im' t u used moves (Holds used' moves') → GoingIn step n o k im₀ im' t₀ u used₀ moves₀ used' moves' j
+      pub in_run : (used' moves' : ℕ) → SameLens t u → length im' ≡ length im → Leads step n i j im im' t u used moves (holding used' moves') → GoingIn step n o k im₀ im' t₀ u used₀ moves₀ used' moves' j
       in_run used' moves' lens len did = record {
         same = same_trans t₀ t u going.same lens;
         image_as = len ∙ going.image_as;
@@ -150,20 +151,20 @@ module _ (step : ℕ → List ℕ → Trace) (n o k : ℕ) (within : k ≤ n) wh
         onward = sym did.answers ∙ going.onward;
       }
 
-      pub in_run_stop : (r : ElfError) (im'' : List ℕ) → Leads step n i j im im' t u used moves (Refused r) → Leads step n o k im₀ im'' t₀ u used₀ moves₀ (Refused r)
+      pub in_run_stop : (r : ElfError) (im'' : List ℕ) → Leads step n i j im im' t u used moves (Err r) → Leads step n o k im₀ im'' t₀ u used₀ moves₀ (Err r)
       in_run_stop r im'' did = record { answers = sym going.onward ∙ did.answers; sound = tt; near = tt }
 
 -- ---- all n parts
 
 -- what all lead to is what they settle to
-pub all_lead : (step : ℕ → List ℕ → Trace) (n : ℕ) (im₀ im : List ℕ) (t₀ t : Slices) (used moves : ℕ) (a : Outcome)
+pub all_lead : (step : ℕ → List ℕ → Trace) (n : ℕ) (im₀ im : List ℕ) (t₀ t : Slices) (used moves : ℕ) (a : Result Held ElfError)
     → Leads step n 0 n im₀ im t₀ t used moves a → Settles (each step n 0 im₀) im t₀ t n used moves a
 unfolding each settle
-all_lead step n im₀ im t₀ t used moves (Holds used' moves') did =
+all_lead step n im₀ im t₀ t used moves (Ok held) did =
     let z : n - 0 ≡ n = omega arith in
     let e : n - n ≡ 0 = omega arith in
     record { answers = sym (rw (z, e) at did.answers); sound = did.sound; near = rw z at did.near }
-all_lead step n im₀ im t₀ t used moves (Refused r) did =
+all_lead step n im₀ im t₀ t used moves (Err r) did =
     let z : n - 0 ≡ n = omega arith in
     record { answers = sym (rw z at did.answers); sound = tt; near = tt }
 
@@ -181,15 +182,15 @@ module _ (step : ℕ → List ℕ → Trace) (n : ℕ) where
     all : Begins (n - 0) t₀ rows used₀ moves₀
     all = all_begin n t₀ rows used₀ moves₀ begins
 
-    pub going_done : n ≤ i → Settles (each step n 0 im₀) im t₀ t n used₀ moves₀ (Holds used moves)
-    going_done l = all_lead step n im₀ im t₀ t used₀ moves₀ (Holds used moves) (in_done step n 0 n (omega arith) im₀ im t₀ t rows used₀ moves₀ used moves i all going l)
+    pub going_done : n ≤ i → Settles (each step n 0 im₀) im t₀ t n used₀ moves₀ (holding used moves)
+    going_done l = all_lead step n im₀ im t₀ t used₀ moves₀ (holding used moves) (in_done step n 0 n (omega arith) im₀ im t₀ t rows used₀ moves₀ used moves i all going l)
 
     pub going_begins : i < n → Begins 1 t rows used moves
     going_begins = in_begins step n 0 n (omega arith) im₀ im t₀ t rows used₀ moves₀ used moves i all going
 
     module _ (more : i < n) (im' : List ℕ) (u : Slices) where
-      pub going_stop : (r : ElfError) → Settles (step i im) im' t u 1 used moves (Refused r) → Settles (each step n 0 im₀) im' t₀ u n used₀ moves₀ (Refused r)
-      going_stop r did = all_lead step n im₀ im' t₀ u used₀ moves₀ (Refused r) (in_stop step n 0 n (omega arith) im₀ im t₀ t rows used₀ moves₀ used moves i all going more im' u r im' did)
+      pub going_stop : (r : ElfError) → Settles (step i im) im' t u 1 used moves (Err r) → Settles (each step n 0 im₀) im' t₀ u n used₀ moves₀ (Err r)
+      going_stop r did = all_lead step n im₀ im' t₀ u used₀ moves₀ (Err r) (in_stop step n 0 n (omega arith) im₀ im t₀ t rows used₀ moves₀ used moves i all going more im' u r im' did)
 
-      pub going_on : (used' moves' : ℕ) → SameLens t u → length im' ≡ length im → Settles (step i im) im' t u 1 used moves (Holds used' moves') → Going step n im₀ im' t₀ u used₀ moves₀ used' moves' (i + 1)
+      pub going_on : (used' moves' : ℕ) → SameLens t u → length im' ≡ length im → Settles (step i im) im' t u 1 used moves (holding used' moves') → Going step n im₀ im' t₀ u used₀ moves₀ used' moves' (i + 1)
       going_on = in_on step n 0 n (omega arith) im₀ im t₀ t rows used₀ moves₀ used moves i all going more im' u

@@ -8,7 +8,7 @@ use mathlib.Core.Logic.{inl}
 use mathlib.Core.List.{List, [], ◌∷◌, ◌++◌}
 use lib.ListN.{length, get_or, take, drop, replicate}
 use Rattle.program.specs.HashedLegacy.{LegacyResult}
-use Rattle.std.specs.Prelude.{Ok, Err}
+use Rattle.std.specs.Prelude.{Ok, Err, Result, Option, Some, None}
 use Rattle.ebpf.specs.Choice.{◌if◌else◌}
 use Rattle.ebpf.specs.LittleEndian.{le}
 use Rattle.elf_parser.specs.declared.types.Elf64Sym.{Elf64Sym}
@@ -20,11 +20,10 @@ use Rattle.elf_parser.specs.declared.records.Sym.TheVariants.{Symbol, Refused as
 use Rattle.elf_parser.specs.Names.{symbol_name}
 use Rattle.elf_parser.specs.Records.{sym_of}
 use Rattle.program.specs.declared.FunctionName.TheVariants.{OfIndex, Entrypoint}
-use Rattle.loader.specs.declared.calls.Call.{Call}
-use Rattle.loader.specs.declared.calls.Call.TheVariants.{None, To, Outside}
-use Rattle.loader.specs.declared.deeds.Deed.{Deed}
+use Rattle.loader.specs.declared.read_only.Placing.TheVariants.{Borrowed, Owned}
 use Rattle.loader.specs.declared.read_only.Placing.{Placing}
-use Rattle.loader.specs.declared.read_only.Placing.TheVariants.{Borrowed, Owned, Refused}
+use Rattle.loader.specs.declared.error.ElfError.{ElfError}
+use Rattle.loader.specs.declared.deeds.Deed.{Deed}
 use Rattle.loader.specs.declared.validate.Job.{Job}
 use Rattle.loader.specs.Functions.{row_for, symbol_function, index_of}
 use Rattle.loader.specs.Deeds.{written, is_in, writes, deed_trace}
@@ -47,7 +46,7 @@ row_nothing (Ok row) im = refl
 row_nothing (Err taken) im = refl
 
 -- a choice between deeds that write nothing
-choice_nothing : (b : Bool) (x y : Deed) (im : List ℕ) → written x im ≡ im → written y im ≡ im → written (x if b else y) im ≡ im
+choice_nothing : (b : Bool) (x y : Result Deed ElfError) (im : List ℕ) → written x im ≡ im → written y im ≡ im → written (x if b else y) im ≡ im
 unfolding ◌if◌else◌
 choice_nothing true x y im p q = p
 choice_nothing false x y im p q = q
@@ -77,10 +76,10 @@ forget_ends : (version2 : Bool) (im l : List ℕ) → Ends (forget_trace version
 forget_ends true im l e = sym e
 forget_ends false im l e = sym e
 
-placed_ends : (p : Placing) (im l : List ℕ) → Ends (placed_trace p im) l → l ≡ im
-placed_ends (Borrowed offset start n) im l e = sym e
-placed_ends (Owned offset lowest n) im l e = sym e
-placed_ends (Refused r) im l e = absurd e
+placed_ends : (p : Result Placing ElfError) (im l : List ℕ) → Ends (placed_trace p im) l → l ≡ im
+placed_ends (Ok (Borrowed offset start n)) im l e = sym e
+placed_ends (Ok (Owned offset lowest n)) im l e = sym e
+placed_ends (Err r) im l e = absurd e
 
 module _ (s builtins : List ℕ) (j : Job) (im l : List ℕ) where
   label_is : (i : ℕ) (im : List ℕ) → label_trace s builtins j i im ≡ deed_trace (label_deed s builtins j (label_symbols s j) i) im
@@ -117,14 +116,14 @@ row_clear at b (Ok row) h = h
 row_clear at b (Err taken) h = refl
 
 module _ (file builtins : List ℕ) (j : Job) where
-  abbrev pub call : ℕ → List ℕ → Deed
+  abbrev pub call : ℕ → List ℕ → Result Deed ElfError
   call i im = call_deed file builtins j i
 
   pub slot_is : (i : ℕ) (im : List ℕ) → slot_trace file builtins j i im ≡ deed_trace (call i im) im
   unfolding slot_trace
   slot_is i im = refl
 
-  abbrev pub relocation : ℕ → List ℕ → Deed
+  abbrev pub relocation : ℕ → List ℕ → Result Deed ElfError
   relocation i im = relocation_deed file builtins j i im
 
   pub relocation_is : (i : ℕ) (im : List ℕ) → relocation_trace file builtins j i im ≡ deed_trace (relocation i im) im
@@ -136,10 +135,10 @@ module _ (file builtins : List ℕ) (j : Job) where
   unfolding call_deed
   call_clear i b im l h = go (call_at (text_of file j) j.version2 i) refl
     where
-      go : (c : Call) → call_at (text_of file j) j.version2 i ≡ c → writes (call_by builtins j i c) b ≡ false
-      go None e = refl
-      go Outside e = refl
-      go (To to) e = row_clear (immediate j i) b (row_for builtins j OfIndex to) (h to (l, e))
+      go : (c : Result (Option ℕ) ElfError) → call_at (text_of file j) j.version2 i ≡ c → writes (call_by builtins j i c) b ≡ false
+      go (Ok None) e = refl
+      go (Err r) e = refl
+      go (Ok (Some to)) e = row_clear (immediate j i) b (row_for builtins j OfIndex to) (h to (l, e))
 
   calls_length : (im l : List ℕ) → Ends (calls_trace file builtins j im) l → length l ≡ length im
   calls_length im l e = deeds_length (slot_trace file builtins j) call (slot_count j) slot_is im l e

@@ -14,7 +14,9 @@ use Rattle.ebpf.specs.Choice.{or_false}
 use Rattle.ebpf.specs.LittleEndian.{le}
 use Rattle.program.proofs.Cases.{by_le, by_lt, zero_one}
 use Rattle.loader.specs.declared.deeds.Deed.{Deed}
-use Rattle.loader.specs.declared.deeds.Deed.TheVariants.{Skip, Refuse, Halves, Word, Key, Register, RegisterOnly, RegisterOutside}
+use Rattle.loader.specs.declared.deeds.Deed.TheVariants.{Skip, Halves, Word, Key, Register, RegisterOnly, RegisterOutside}
+use Rattle.std.specs.Prelude.{Result, Ok, Err}
+use Rattle.loader.specs.declared.error.ElfError.{ElfError}
 use Rattle.loader.specs.Bytes.{put}
 use Rattle.loader.specs.Trace.{Trace, each}
 use Rattle.loader.specs.Deeds.{written, is_in, writes, deed_trace, length_written}
@@ -61,37 +63,37 @@ le_same (suc k) s l at h = ap₂ (λ (a b : ℕ). a + 256 * b) (h at (omega arit
 
 -- ---- one deed
 
-pub written_other : (d : Deed) (im : List ℕ) (b : ℕ) → writes d b ≡ false → get_or (written d im) b 0 ≡ get_or im b 0
-written_other Skip im b h = refl
-written_other (Refuse r) im b h = refl
-written_other (Halves low high v) im b h =
+pub written_other : (d : Result Deed ElfError) (im : List ℕ) (b : ℕ) → writes d b ≡ false → get_or (written d im) b 0 ≡ get_or im b 0
+written_other (Ok Skip) im b h = refl
+written_other (Err r) im b h = refl
+written_other (Ok (Halves low high v)) im b h =
     let e = or_false (is_in low 4 b) (is_in high 4 b) h in
     put_other 4 _ high (v / 2 ^ 32) b (apart high 4 b e.1) ∙ put_other 4 im low (v % 2 ^ 32) b (apart low 4 b e.0)
-written_other (Word at v) im b h = word (apart at 8 b h)
+written_other (Ok (Word at v)) im b h = word (apart at 8 b h)
   where
-    word : (b < at) ⊎ (at + 8 ≤ b) → get_or (written (Word at v) im) b 0 ≡ get_or im b 0
+    word : (b < at) ⊎ (at + 8 ≤ b) → get_or (written (Ok (Word at v)) im) b 0 ≡ get_or im b 0
     word (inl l) = put_other 4 _ (at + 4) (v / 2 ^ 32) b (inl (omega arith)) ∙ put_other 4 im at (v % 2 ^ 32) b (inl l)
     word (inr l) = put_other 4 _ (at + 4) (v / 2 ^ 32) b (inr (omega arith)) ∙ put_other 4 im at (v % 2 ^ 32) b (inr (omega arith))
-written_other (Key at k) im b h = put_other 4 im at k b (apart at 4 b h)
-written_other (Register row at) im b h = put_other 4 im at row.key b (apart at 4 b h)
-written_other (RegisterOnly row) im b h = refl
-written_other (RegisterOutside row) im b h = refl
+written_other (Ok (Key at k)) im b h = put_other 4 im at k b (apart at 4 b h)
+written_other (Ok (Register row at)) im b h = put_other 4 im at row.key b (apart at 4 b h)
+written_other (Ok (RegisterOnly row)) im b h = refl
+written_other (Ok (RegisterOutside row)) im b h = refl
 
 -- the image that a deed ends with
-pub deed_ends : (d : Deed) (im l : List ℕ) → Ends (deed_trace d im) l → l ≡ written d im
+pub deed_ends : (d : Result Deed ElfError) (im l : List ℕ) → Ends (deed_trace d im) l → l ≡ written d im
 unfolding deed_trace
-deed_ends Skip im l e = sym e
-deed_ends (Refuse r) im l e = absurd e
-deed_ends (Halves low high v) im l e = sym e
-deed_ends (Word at v) im l e = sym e
-deed_ends (Key at k) im l e = sym e
-deed_ends (Register row at) im l e = sym e
-deed_ends (RegisterOnly row) im l e = sym e
-deed_ends (RegisterOutside row) im l e = absurd e
+deed_ends (Ok Skip) im l e = sym e
+deed_ends (Err r) im l e = absurd e
+deed_ends (Ok (Halves low high v)) im l e = sym e
+deed_ends (Ok (Word at v)) im l e = sym e
+deed_ends (Ok (Key at k)) im l e = sym e
+deed_ends (Ok (Register row at)) im l e = sym e
+deed_ends (Ok (RegisterOnly row)) im l e = sym e
+deed_ends (Ok (RegisterOutside row)) im l e = absurd e
 
 -- ---- n deeds, each made of its number and the image up to there
 
-module _ (step : ℕ → List ℕ → Trace) (deed : ℕ → List ℕ → Deed) (n : ℕ) (is : (i : ℕ) (im : List ℕ) → step i im ≡ deed_trace (deed i im) im) where
+module _ (step : ℕ → List ℕ → Trace) (deed : ℕ → List ℕ → Result Deed ElfError) (n : ℕ) (is : (i : ℕ) (im : List ℕ) → step i im ≡ deed_trace (deed i im) im) where
   pub step_ends : (i : ℕ) (im l : List ℕ) → Ends (step i im) l → l ≡ written (deed i im) im
   step_ends i im l e = deed_ends (deed i im) im l (rw is at e)
 

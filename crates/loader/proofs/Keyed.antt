@@ -8,7 +8,7 @@ use mathlib.Core.Logic.{◌⊎◌, inl, inr, ◌↔◌}
 use mathlib.Core.Bool.{Bool, true, false}
 use mathlib.Core.List.{List, []}
 use lib.ListN.{length}
-use Rattle.std.specs.Prelude.{Some}
+use Rattle.std.specs.Prelude.{Some, Result, Ok, Err}
 use Rattle.ebpf.specs.Choice.{◌if◌else◌}
 use Rattle.program.specs.declared.Row.{Row}
 use Rattle.program.specs.declared.FunctionName.TheVariants.{OfIndex, Entrypoint}
@@ -19,12 +19,13 @@ use Rattle.program.specs.Runs.{moves_gone}
 use Rattle.program.proofs.Cases.{zero_one}
 use Rattle.program.proofs.Laws.{find_remove_other, keys_removed}
 use Rattle.program.proofs.Moves.{triangle_mono, triangle_twice, removal_moves, registration_moves}
+use Rattle.loader.specs.declared.read_only.Placing.TheVariants.{Borrowed, Owned}
 use Rattle.loader.specs.declared.read_only.Placing.{Placing}
-use Rattle.loader.specs.declared.read_only.Placing.TheVariants.{Borrowed, Owned, Refused}
+use Rattle.loader.specs.declared.error.ElfError.{ElfError}
 use Rattle.loader.specs.declared.validate.Job.{Job}
 use Rattle.loader.specs.Trace.{Trace, and_then, accepted, settle}
 use Rattle.loader.specs.declared.deeds.Entry.{Entry as EntryOf}
-use Rattle.loader.specs.declared.deeds.Entry.TheVariants.{Nothing, Refuse as NoEntry, Register as Enter}
+use Rattle.loader.specs.declared.deeds.Entry.TheVariants.{Nothing, Register as Enter}
 use Rattle.loader.specs.Deeds.{entry_of, deed_trace}
 use Rattle.loader.specs.Deeds as deeds
 use Rattle.loader.specs.Labels.{labels_trace}
@@ -77,11 +78,11 @@ module _ (file builtins : List ℕ) (j : Job) (cap : ℕ) (im' : List ℕ) (rows
     pub entry : settle cap (deed_trace (entry_deed builtins j) image) (forgotten j.version2 held) entry_moves ≡ accepted im' rows moves
 
   -- the placing leaves the rows
-  placed_same : (p : Placing) (im : List ℕ) (rs : List Row) (m : ℕ) → settle cap (placed_trace p im) rs m ≡ accepted im' rows moves → accepted im rs m ≡ accepted im' rows moves
+  placed_same : (p : Result Placing ElfError) (im : List ℕ) (rs : List Row) (m : ℕ) → settle cap (placed_trace p im) rs m ≡ accepted im' rows moves → accepted im rs m ≡ accepted im' rows moves
   unfolding settle
-  placed_same (Borrowed offset start n) im rs m e = e
-  placed_same (Owned offset lowest n) im rs m e = e
-  placed_same (Refused r) im rs m e = absurd (zero_one (cc))
+  placed_same (Ok (Borrowed offset start n)) im rs m e = e
+  placed_same (Ok (Owned offset lowest n)) im rs m e = e
+  placed_same (Err r) im rs m e = absurd (zero_one (cc))
 
   entered : (version2 : Bool) (im : List ℕ) (rs : List Row) (m : ℕ)
       → settle cap (and_then (forget_trace version2 im) (λ (im' : List ℕ). deed_trace (entry_deed builtins j) im')) rs m ≡ accepted im' rows moves
@@ -218,15 +219,15 @@ module _ (file builtins : List ℕ) (j : Job) (cap : ℕ) (im' : List ℕ) (rows
   -- ---- the moves
 
   -- the entry's own registration moves at most all rows but one
-  entry_moves : (a : EntryOf) (im : List ℕ) (rs : List Row) (m : ℕ) → settle cap (deeds.entry_trace a im) rs m ≡ accepted im' rows moves → moves ≤ m + (cap - 1)
+  entry_moves : (a : Result EntryOf ElfError) (im : List ℕ) (rs : List Row) (m : ℕ) → settle cap (deeds.entry_trace a im) rs m ≡ accepted im' rows moves → moves ≤ m + (cap - 1)
   unfolding settle
-  entry_moves Nothing im rs m e = let n : m ≡ moves = cc in omega (arith, n)
-  entry_moves (NoEntry r) im rs m e = absurd (zero_one (cc))
-  entry_moves (Enter row false) im rs m e =
+  entry_moves (Ok Nothing) im rs m e = let n : m ≡ moves = cc in omega (arith, n)
+  entry_moves (Err r) im rs m e = absurd (zero_one (cc))
+  entry_moves (Ok (Enter row false)) im rs m e =
       let w = went (table.register cap row rs) cap row.key m _ im' rows moves e in
       let n : w.moves ≡ moves = let d = w.on in cc in
       omega (arith, w.more, n, registration_moves cap row rs)
-  entry_moves (Enter row true) im rs m e =
+  entry_moves (Ok (Enter row true)) im rs m e =
       let w = went (table.register cap row rs) cap row.key m _ im' rows moves e in
       absurd (let d = w.on in zero_one (cc))
 

@@ -9,19 +9,16 @@ use lib.Seq.{drop_at, drop-length, length-take-le}
 use borrow.Rule.Slice.PartMut.{mid_of, post_of, put_mid, same_len_mid, mid_len, Post-is}
 use Rattle.program.specs.Table.{Slices, capacity, lay, rows_of}
 use Rattle.program.proofs.Laying.{length_rows}
+use Rattle.std.specs.Prelude.{Result, Ok, Err}
 use Rattle.program.proofs.Tables.{SameLens, capacity_same, lay_same, ready_none}
-use Rattle.loader.specs.declared.answer.Accepted.{Accepted}
-use Rattle.loader.specs.declared.answer.Load.{Load}
-use Rattle.loader.specs.declared.answer.Load.TheVariants.{Accepted as Accepts, Refused as Refuses}
-use Rattle.loader.specs.declared.validate.Config.{Config}
-use Rattle.loader.specs.declared.validate.Prepared.{Prepared}
-use Rattle.loader.specs.declared.validate.Prepared.TheVariants.{Ready, Refused as NotReady}
+use Rattle.loader.specs.declared.read_only.Placing.TheVariants.{Borrowed, Owned}
 use Rattle.loader.specs.declared.read_only.Placing.{Placing}
-use Rattle.loader.specs.declared.read_only.Placing.TheVariants.{Borrowed, Owned, Refused as NotPlaced}
+use Rattle.loader.specs.declared.answer.Accepted.{Accepted}
+use Rattle.loader.specs.declared.validate.Config.{Config}
 use Rattle.loader.specs.declared.validate.Job.{Job}
 use Rattle.loader.specs.declared.error.ElfError.{ElfError}
-use Rattle.loader.specs.declared.deeds.Outcome.{Outcome}
-use Rattle.loader.specs.declared.deeds.Outcome.TheVariants.{Holds, Refused}
+use Rattle.loader.specs.declared.deeds.Held.{Held}
+use Rattle.loader.specs.Deeds.{holding}
 use Rattle.loader.specs.Trace.{Trace, and_then, settle, settle_and_then}
 use Rattle.loader.specs.Labels.{few_symbols}
 use Rattle.loader.specs.Parts.{writing_trace, naming_trace, placed_trace, job_trace}
@@ -36,38 +33,38 @@ use Rattle.loader.proofs.Front.{copied_front}
 -- ---- the placing's refusal
 
 module _ (T : Trace) (im : List ℕ) (t u : Slices) (n used moves : ℕ) where
-  held_placed : (p : Placing) (used' moves' : ℕ) → Settles T im t u n used moves (Holds used' moves') → Settles (and_then T (placed_trace p)) im t u n used moves (placed_by p used' moves')
+  held_placed : (p : Result Placing ElfError) (used' moves' : ℕ) → Settles T im t u n used moves (holding used' moves') → Settles (and_then T (placed_trace p)) im t u n used moves (placed_by p used' moves')
   unfolding settle
-  held_placed (Borrowed offset start k) used' moves' did = record {
-    answers = sym (settle_and_then (capacity t) T (placed_trace (Borrowed offset start k)) (rows_of t used) moves ∙ rw (← did.answers) refl);
+  held_placed (Ok (Borrowed offset start k)) used' moves' did = record {
+    answers = sym (settle_and_then (capacity t) T (placed_trace (Ok (Borrowed offset start k))) (rows_of t used) moves ∙ rw (← did.answers) refl);
     sound = did.sound;
     near = did.near;
   }
-  held_placed (Owned offset lowest k) used' moves' did = record {
-    answers = sym (settle_and_then (capacity t) T (placed_trace (Owned offset lowest k)) (rows_of t used) moves ∙ rw (← did.answers) refl);
+  held_placed (Ok (Owned offset lowest k)) used' moves' did = record {
+    answers = sym (settle_and_then (capacity t) T (placed_trace (Ok (Owned offset lowest k))) (rows_of t used) moves ∙ rw (← did.answers) refl);
     sound = did.sound;
     near = did.near;
   }
-  held_placed (NotPlaced r) used' moves' did = record {
-    answers = sym (settle_and_then (capacity t) T (placed_trace (NotPlaced r)) (rows_of t used) moves ∙ rw (← did.answers) refl);
+  held_placed (Err r) used' moves' did = record {
+    answers = sym (settle_and_then (capacity t) T (placed_trace (Err r)) (rows_of t used) moves ∙ rw (← did.answers) refl);
     sound = tt;
     near = tt;
   }
 
-  settles_placed : (p : Placing) (a : Outcome) → Settles T im t u n used moves a → Settles (and_then T (placed_trace p)) im t u n used moves (after_placing a p)
-  settles_placed p (Holds used' moves') did = held_placed p used' moves' did
-  settles_placed p (Refused r) did = settles_stop T (placed_trace p) im im t u u n n used moves r did
+  settles_placed : (p : Result Placing ElfError) (a : Result Held ElfError) → Settles T im t u n used moves a → Settles (and_then T (placed_trace p)) im t u n used moves (after_placing a p)
+  settles_placed p (Ok held) did = held_placed p held.used held.moves did
+  settles_placed p (Err r) did = settles_stop T (placed_trace p) im im t u u n n used moves r did
 
 -- ---- all parts
 
 module _ (file builtins : List ℕ) (j : Job) (im im₁ : List ℕ) (t u : Slices) (n m used moves : ℕ) where
-  pub parts_stop : (r : ElfError) → Settles (writing_trace file builtins j im) im₁ t u n used moves (Refused r) → Settles (job_trace file builtins j im) im₁ t u (n + m) used moves (Refused r)
+  pub parts_stop : (r : ElfError) → Settles (writing_trace file builtins j im) im₁ t u n used moves (Err r) → Settles (job_trace file builtins j im) im₁ t u (n + m) used moves (Err r)
   unfolding job_trace
   parts_stop r did = settles_stop (writing_trace file builtins j im) (λ (im₁ : List ℕ). and_then (naming_trace file builtins j im₁) (placed_trace j.placing)) im₁ im₁ t u u n (n + m) used moves r did
 
-  pub parts_all : (im₂ : List ℕ) (v : Slices) (used' moves' : ℕ) (a b : Outcome)
+  pub parts_all : (im₂ : List ℕ) (v : Slices) (used' moves' : ℕ) (a b : Result Held ElfError)
       → SameLens t u
-      → Settles (writing_trace file builtins j im) im₁ t u n used moves (Holds used' moves')
+      → Settles (writing_trace file builtins j im) im₁ t u n used moves (holding used' moves')
       → Settles (naming_trace file builtins j im₁) im₂ u v m used' moves' a
       → b ≡ after_placing a j.placing
       → Settles (job_trace file builtins j im) im₂ t v (n + m) used moves b
@@ -134,15 +131,15 @@ module _ (file builtins : List ℕ) (c : Config) (im ro : List ℕ) (t : Slices)
   abbrev whole : Loading
   whole = load_of file builtins c (length im) (length ro) (capacity t)
 
-  module _ (p : Prepared) (is : p ≡ prepared file builtins c (length im) (length ro)) where
-    prepared_as : (q : Prepared) → p ≡ q → whole ≡ on_prepared file builtins (length ro) (capacity t) q
+  module _ (p : Result Job ElfError) (is : p ≡ prepared file builtins c (length im) (length ro)) where
+    prepared_as : (q : Result Job ElfError) → p ≡ q → whole ≡ on_prepared file builtins (length ro) (capacity t) q
     unfolding load_of
     prepared_as q e = ap (on_prepared file builtins (length ro) (capacity t)) (sym is ∙ e)
 
-    pub load_stops : (r : ElfError) → p ≡ NotReady r → whole ≡ refuses r
-    load_stops r e = prepared_as (NotReady r) e
+    pub load_stops : (r : ElfError) → p ≡ Err r → whole ≡ refuses r
+    load_stops r e = prepared_as (Err r) e
 
-    module _ (j : Job) (ready : p ≡ Ready j) where
+    module _ (j : Job) (ready : p ≡ Ok j) where
       pub job_in_file : InFile file j
       job_in_file = (readied file builtins c (length im) (length ro) j (sym is ∙ ready)).0
 
@@ -154,19 +151,19 @@ module _ (file builtins : List ℕ) (c : Config) (im ro : List ℕ) (t : Slices)
 
       -- the slices cleared but for the image's front: ro₁ and t₁, and zeros behind the front; then filled: q the front, ro₂ and t₂
       module _ (ro₁ : List ℕ) (t₁ : Slices) (ro-zeros : ro₁ ≡ replicate (length ro) 0) (lens : SameLens t t₁) (rest : List ℕ) (zeros : rest ≡ replicate (length im - length file) 0) (q ro₂ : List ℕ) (t₂ : Slices) (len : length q ≡ length file) (lens₂ : SameLens t₁ t₂) where
-        settled : (n : ℕ) (a : Outcome) → Settles (job_trace file builtins j file) q t₁ t₂ n 0 0 a → whole ≡ on_trace file j (length ro) (outcome a q t₂)
+        settled : (n : ℕ) (a : Result Held ElfError) → Settles (job_trace file builtins j file) q t₁ t₂ n 0 0 a → whole ≡ on_trace file j (length ro) (outcome a q t₂)
         settled n a did =
             let e : outcome a q t₂ ≡ settle (capacity t) (job_trace file builtins j file) [] 0 = did.answers ∙ rw (rows_none t₁, capacity_same t t₁ lens) refl in
-            prepared_as (Ready j) ready ∙ ap (on_trace file j (length ro)) (sym e)
+            prepared_as (Ok j) ready ∙ ap (on_trace file j (length ro)) (sym e)
 
-        held : (used moves : ℕ) (pl : Placing)
+        held : (used moves : ℕ) (pl : Result Placing ElfError)
             → t₂ ≡ lay t₂ (rows_of t₂ used)
             → whole ≡ held_by file j (length ro) pl q (rows_of t₂ used) moves
             → ro₂ ≡ placed_bytes file j.layout pl q ro₁
             → pl ≡ j.placing
             → Tried whole im ro t (q ++ rest) ro₂ t₂ (answer_by j pl used moves)
-        held used moves (NotPlaced r) l w b at_place = w
-        held used moves (Borrowed offset start n) l w b at_place = record {
+        held used moves (Err r) l w b at_place = w
+        held used moves (Ok (Borrowed offset start n)) l w b at_place = record {
           answers = rw (w, length_rows t₂ used) refl;
           demand_1 = record {
             image = rw w (ap (λ (z : List ℕ). q ++ z) (zeros ∙ rw len refl));
@@ -174,7 +171,7 @@ module _ (file builtins : List ℕ) (c : Config) (im ro : List ℕ) (t : Slices)
             table = rw w (l ∙ lay_same t₁ t₂ (rows_of t₂ used) lens₂ ∙ lay_same t t₁ (rows_of t₂ used) lens);
           };
         }
-        held used moves (Owned offset lowest n) l w b at_place = record {
+        held used moves (Ok (Owned offset lowest n)) l w b at_place = record {
           answers = rw (w, length_rows t₂ used) refl;
           demand_1 = record {
             image = rw w (ap (λ (z : List ℕ). q ++ z) (zeros ∙ rw len refl));
@@ -183,25 +180,25 @@ module _ (file builtins : List ℕ) (c : Config) (im ro : List ℕ) (t : Slices)
           };
         }
 
-        tried_as : (n : ℕ) (a : Outcome) → Settles (job_trace file builtins j file) q t₁ t₂ n 0 0 a → HeldBytes a ro₂ (placed_bytes file j.layout j.placing q ro₁) → Tried whole im ro t (q ++ rest) ro₂ t₂ (answer_for a j)
-        tried_as n (Refused r) did b = settled n (Refused r) did
-        tried_as n (Holds used moves) did b = held used moves j.placing did.sound.laid (settled n (Holds used moves) did) b refl
+        tried_as : (n : ℕ) (a : Result Held ElfError) → Settles (job_trace file builtins j file) q t₁ t₂ n 0 0 a → HeldBytes a ro₂ (placed_bytes file j.layout j.placing q ro₁) → Tried whole im ro t (q ++ rest) ro₂ t₂ (answer_for a j)
+        tried_as n (Err r) did b = settled n (Err r) did
+        tried_as n (Ok kept) did b = held kept.used kept.moves j.placing did.sound.laid (settled n (holding kept.used kept.moves) did) b refl
 
-        pub tried : (n : ℕ) (a : Outcome) (b : Load) → Settles (job_trace file builtins j file) q t₁ t₂ n 0 0 a × HeldBytes a ro₂ (placed_bytes file j.layout j.placing q ro₁) → b ≡ answer_for a j → Tried whole im ro t (q ++ rest) ro₂ t₂ b
+        pub tried : (n : ℕ) (a : Result Held ElfError) (b : Result Accepted ElfError) → Settles (job_trace file builtins j file) q t₁ t₂ n 0 0 a × HeldBytes a ro₂ (placed_bytes file j.layout j.placing q ro₁) → b ≡ answer_for a j → Tried whole im ro t (q ++ rest) ro₂ t₂ b
         tried n a b did e = subst (Tried whole im ro t (q ++ rest) ro₂ t₂) (sym e) (tried_as n a did.0 did.1)
 
 -- ---- the end: an attempt that is held, and one that is refused and cleared
 
-module _ (x : Loading) (im ro : List ℕ) (t : Slices) (im₁ ro₁ : List ℕ) (t₁ : Slices) (a : Load) (did : Tried x im ro t im₁ ro₁ t₁ a) where
-  pub load_held : (y : Accepted) → a ≡ Accepts y → Loaded x im ro t im₁ ro₁ t₁ (Accepts y)
+module _ (x : Loading) (im ro : List ℕ) (t : Slices) (im₁ ro₁ : List ℕ) (t₁ : Slices) (a : Result Accepted ElfError) (did : Tried x im ro t im₁ ro₁ t₁ a) where
+  pub load_held : (y : Accepted) → a ≡ Ok y → Loaded x im ro t im₁ ro₁ t₁ (Ok y)
   load_held y e = subst (Tried x im ro t im₁ ro₁ t₁) e did
 
-  pub load_refused : (im₂ ro₂ : List ℕ) (t₂ : Slices) (r : ElfError) → a ≡ Refuses r
+  pub load_refused : (im₂ ro₂ : List ℕ) (t₂ : Slices) (r : ElfError) → a ≡ Err r
       → length im₁ ≡ length im
       → length ro₁ ≡ length ro
       → SameLens t t₁
       → Cleared im₁ ro₁ t₁ im₂ ro₂ t₂
-      → Loaded x im ro t im₂ ro₂ t₂ (Refuses r)
+      → Loaded x im ro t im₂ ro₂ t₂ (Err r)
   load_refused im₂ ro₂ t₂ r e li lr lens clear =
       let w : x ≡ refuses r = subst (Tried x im ro t im₁ ro₁ t₁) e did in
       record {

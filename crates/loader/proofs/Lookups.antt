@@ -3,30 +3,27 @@ use Prim.Native.Nat.{ℕ}
 use mathlib.Core.List.{List}
 use mathlib.Core.Path.{◌≡◌, sym, ap, subst, fun_ext, ◌∙◌}
 use Rattle.program.specs.declared.Row.{Row}
-use Rattle.std.specs.Prelude.{Option}
+use Rattle.std.specs.Prelude.{Option, Result, Ok, Err}
 use Rattle.program.specs.Table.{Slices, Lent, Shared, table_after, lookup_in, lookup_ascending_in, row_ascending_in, row_of_found, index_ascending_in, index_of_found, Ready as IsTable}
 use Rattle.program.proofs.Tables.{lookups_agree, row_agrees, index_agrees}
+use Rattle.loader.specs.declared.error.ElfError.{ElfError}
 use Rattle.loader.specs.declared.answer.Accepted.{Accepted}
-use Rattle.loader.specs.declared.answer.Load.{Load}
-use Rattle.loader.specs.declared.answer.Load.TheVariants.{Accepted as Accepts, Refused as Refuses}
 use Rattle.loader.specs.declared.validate.Config.{Config}
 use Rattle.loader.specs.declared.validate.Job.{Job}
-use Rattle.loader.specs.declared.validate.Prepared.{Prepared}
-use Rattle.loader.specs.declared.validate.Prepared.TheVariants.{Ready, Refused as NotReady}
 use Rattle.loader.specs.Demand.{Calls, Keys, Entry, Others, OnAccepted, Demand3By, Demand3}
 use Rattle.loader.specs.Loads.{Loads, OnUsed}
 use Rattle.loader.specs.Validate.{prepared}
 
 -- THE LOOKUPS AGREE, for every key, on the table and the used rows that an accepted load leaves
 pub agree_after : (file builtins : Shared) (c : Config) (image ro keys indices kinds starts lengths : Lent) (x : Accepted)
-    → Loads file builtins c image ro keys indices kinds starts lengths (Accepts x)
+    → Loads file builtins c image ro keys indices kinds starts lengths (Ok x)
     → (key : ℕ)
     → lookup_ascending_in (table_after keys indices kinds starts lengths) x.used key ≡ lookup_in (table_after keys indices kinds starts lengths) x.used key
 agree_after file builtins c image ro keys indices kinds starts lengths x l key = lookups_agree (table_after keys indices kinds starts lengths) x.used l.ascending key
 
 -- and the number of the row alone, by the column of keys, is that of the same row
 pub row_after : (file builtins : Shared) (c : Config) (image ro keys indices kinds starts lengths : Lent) (x : Accepted)
-    → Loads file builtins c image ro keys indices kinds starts lengths (Accepts x)
+    → Loads file builtins c image ro keys indices kinds starts lengths (Ok x)
     → (key : ℕ)
     → lookup_in (table_after keys indices kinds starts lengths) x.used key ≡ row_of_found (table_after keys indices kinds starts lengths) (row_ascending_in keys.exit.now x.used key)
 row_after file builtins c image ro keys indices kinds starts lengths x l key =
@@ -35,7 +32,7 @@ row_after file builtins c image ro keys indices kinds starts lengths x l key =
 
 -- and the index alone, by the columns of keys and indices, is that of the row
 pub index_after : (file builtins : Shared) (c : Config) (image ro keys indices kinds starts lengths : Lent) (x : Accepted)
-    → Loads file builtins c image ro keys indices kinds starts lengths (Accepts x)
+    → Loads file builtins c image ro keys indices kinds starts lengths (Ok x)
     → (key : ℕ)
     → index_ascending_in keys.exit.now indices.exit.now x.used key ≡ index_of_found (lookup_in (table_after keys indices kinds starts lengths) x.used key)
 index_after file builtins c image ro keys indices kinds starts lengths x l key =
@@ -43,15 +40,15 @@ index_after file builtins c image ro keys indices kinds starts lengths x l key =
     ∙ ap index_of_found (agree_after file builtins c image ro keys indices kinds starts lengths x l key)
 
 -- so a statement by one lookup is a statement by the other
-by_search : (t' : Slices) (P : Job → (ℕ → Option Row) → Type 0) (a : Load) (p : Prepared) → OnUsed a (IsTable t')
+by_search : (t' : Slices) (P : Job → (ℕ → Option Row) → Type 0) (a : Result Accepted ElfError) (p : Result Job ElfError) → OnUsed a (IsTable t')
     → OnAccepted a p (λ j used. P j (lookup_in t' used))
     → OnAccepted a p (λ j used. P j (lookup_ascending_in t' used))
-by_search t' P (Accepts x) (Ready j) r h = subst (P j) (fun_ext (λ key. sym (lookups_agree t' x.used r key))) h
-by_search t' P (Accepts x) (NotReady e) r h = h
-by_search t' P (Refuses e) p r h = tt
+by_search t' P (Ok x) (Ok j) r h = subst (P j) (fun_ext (λ key. sym (lookups_agree t' x.used r key))) h
+by_search t' P (Ok x) (Err e) r h = h
+by_search t' P (Err e) p r h = tt
 
 -- DEMAND 3 BY THE BINARY SEARCH
-pub demanded_by_search : (file builtins : List ℕ) (c : Config) (n m : ℕ) (t : Slices) (im' : List ℕ) (t' : Slices) (a : Load)
+pub demanded_by_search : (file builtins : List ℕ) (c : Config) (n m : ℕ) (t : Slices) (im' : List ℕ) (t' : Slices) (a : Result Accepted ElfError)
     → OnUsed a (IsTable t')
     → Demand3 file builtins c n m t im' t' a
     → Demand3By lookup_ascending_in file builtins c n m t im' t' a

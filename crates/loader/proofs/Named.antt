@@ -10,7 +10,7 @@ use lib.ListN.{length, take, drop}
 use lib.Dec.{ltb, eqb}
 use borrow.Author.Tests.{ltb-false}
 use Rattle.program.specs.HashedLegacy.{LegacyResult}
-use Rattle.std.specs.Prelude.{Ok, Err}
+use Rattle.std.specs.Prelude.{Ok, Err, Option, Some, None, Result}
 use Rattle.ebpf.specs.Choice.{◌if◌else◌}
 use Rattle.elf_parser.specs.declared.types.Elf64Sym.{Elf64Sym}
 use Rattle.elf_parser.specs.declared.layout.Layout.{Layout}
@@ -23,11 +23,9 @@ use Rattle.elf_parser.specs.Records.{dynamic_symbol_of}
 use Rattle.program.specs.declared.FunctionName.{FunctionName}
 use Rattle.program.proofs.Cases.{zero_one}
 use Rattle.loader.specs.declared.deeds.Deed.{Deed}
-use Rattle.loader.specs.declared.deeds.Deed.TheVariants.{Skip, Refuse, Halves, Word, Key, Register, RegisterOnly, RegisterOutside}
-use Rattle.loader.specs.declared.relocations.Addend.{Addend}
-use Rattle.loader.specs.declared.relocations.Mapped.{Mapped}
-use Rattle.loader.specs.declared.relocations.Mapped.TheVariants.{At, Refused as Unmapped}
+use Rattle.loader.specs.declared.deeds.Deed.TheVariants.{Skip, Halves, Word, Key, Register, RegisterOnly, RegisterOutside}
 use Rattle.loader.specs.declared.validate.Job.{Job}
+use Rattle.loader.specs.declared.error.ElfError.{ElfError}
 use Rattle.loader.specs.Addresses.{sum_up_to}
 use Rattle.loader.specs.Functions.{row_for, index_of}
 use Rattle.loader.specs.Relocations.{immediate_at, halves_deed, word_deed, address_deed, symbol_deed, plan6464, relative_text, plan_relative, register_deed, function_call, builtin_call, call_by_name, named_call, symbol_call, plan6432, plan_at, plan_of, text_holds}
@@ -35,31 +33,31 @@ use Rattle.loader.specs.Deeds.{is_in, writes}
 use Rattle.loader.specs.Demand.{in_halves, named_by, named_at}
 
 -- the load stops at it
-abbrev pub stops : Deed → Bool
-stops Skip = false
-stops (Refuse r) = true
-stops (Halves low high v) = false
-stops (Word at v) = false
-stops (Key at k) = false
-stops (Register row at) = false
-stops (RegisterOnly row) = false
-stops (RegisterOutside row) = true
+abbrev pub stops : Result Deed ElfError → Bool
+stops (Ok Skip) = false
+stops (Err r) = true
+stops (Ok (Halves low high v)) = false
+stops (Ok (Word at v)) = false
+stops (Ok (Key at k)) = false
+stops (Ok (Register row at)) = false
+stops (Ok (RegisterOnly row)) = false
+stops (Ok (RegisterOutside row)) = true
 
 -- of the byte b: a deed that does not stop the load writes it exactly where it is named
 module _ (b : ℕ) where
-  abbrev Clear : Bool → Deed → Type 0
+  abbrev Clear : Bool → Result Deed ElfError → Type 0
   Clear named d = stops d ≡ false → named ≡ writes d b
 
   never : {A : Type 0} → ◌≡◌ {A = Bool} true false → A
   never e = absurd (zero_one (cc))
 
   -- a choice, and one that the names make too
-  one : (p t : Bool) (x y : Deed) → Clear p x → (t ≡ false → Clear p y) → Clear p (x if t else y)
+  one : (p t : Bool) (x y : Result Deed ElfError) → Clear p x → (t ≡ false → Clear p y) → Clear p (x if t else y)
   unfolding ◌if◌else◌
   one p true x y f g = f
   one p false x y f g = g refl
 
-  both : (p q t : Bool) (x y : Deed) → Clear p x → Clear q y → Clear (p if t else q) (x if t else y)
+  both : (p q t : Bool) (x y : Result Deed ElfError) → Clear p x → Clear q y → Clear (p if t else q) (x if t else y)
   unfolding ◌if◌else◌
   both p q true x y f g = f
   both p q false x y f g = g
@@ -145,15 +143,15 @@ module _ (b : ℕ) where
     symbol_clear split addend number (NoSym e) = never
 
   module _ (s im : List ℕ) (short : length im ≤ 2 ^ 24) (r : ℕ) where
-    clear6464 : (l : Layout) (split : Bool) (number : ℕ) (addend : Addend) → Clear (in_halves r b if split else is_in r 8 b) (plan6464 s im l split r number addend)
+    clear6464 : (l : Layout) (split : Bool) (number : ℕ) (addend : Option ℕ) → Clear (in_halves r b if split else is_in r 8 b) (plan6464 s im l split r number addend)
     unfolding plan6464
     clear6464 l split number addend = one _ _ _ _ never (λ e. symbol_clear (length im) short r split _ number (dynamic_symbol_of s l number))
 
-    relative_clear : (version2 in_text_lem : Bool) (addend : Addend) → Clear (in_halves r b if in_text_lem else is_in r 8 b) (plan_relative im version2 in_text_lem r addend)
+    relative_clear : (version2 in_text_lem : Bool) (addend : Option ℕ) → Clear (in_halves r b if in_text_lem else is_in r 8 b) (plan_relative im version2 in_text_lem r addend)
     unfolding plan_relative
     relative_clear version2 in_text_lem addend = both _ _ in_text_lem _ _ (text_clear (length im) short r _) (word_clear (length im) short r _)
 
-    at_clear : (builtins : List ℕ) (j : Job) (info : ℕ) (addend : Addend) → Clear (named_by j.version2 (text_holds j r) (info % 2 ^ 32) r b) (plan_at s im builtins j r info addend)
+    at_clear : (builtins : List ℕ) (j : Job) (info : ℕ) (addend : Option ℕ) → Clear (named_by j.version2 (text_holds j r) (info % 2 ^ 32) r b) (plan_at s im builtins j r info addend)
     unfolding plan_at named_by
     at_clear builtins j info addend =
         one _ _ _ _ never
@@ -162,24 +160,24 @@ module _ (b : ℕ) where
         (both _ _ (eqb (info % 2 ^ 32) 10) _ _ (clear6432 (length im) short r s builtins j (info / 2 ^ 32)) never)))
 
 -- THE NAMED BYTES are those that a relocation writes, where it does not stop the load
-pub named_exactly : (b : ℕ) (s im builtins : List ℕ) (j : Job) (p : Mapped) (info : ℕ) (addend : Addend) → length im ≤ 2 ^ 24
+pub named_exactly : (b : ℕ) (s im builtins : List ℕ) (j : Job) (p : Option ℕ) (info : ℕ) (addend : Option ℕ) → length im ≤ 2 ^ 24
     → stops (plan_of s im builtins j p info addend) ≡ false
     → named_at j p (info % 2 ^ 32) b ≡ writes (plan_of s im builtins j p info addend) b
-named_exactly b s im builtins j (At r) info addend short h = at_clear b s im short r builtins j info addend h
-named_exactly b s im builtins j Unmapped info addend short h = never b h
+named_exactly b s im builtins j (Some r) info addend short h = at_clear b s im short r builtins j info addend h
+named_exactly b s im builtins j None info addend short h = never b h
 
-stopped : (b : ℕ) (d : Deed) → stops d ≡ true → writes d b ≡ false
-stopped b (Refuse r) e = refl
-stopped b (RegisterOutside row) e = refl
-stopped b Skip e = refl
-stopped b (RegisterOnly row) e = refl
-stopped b (Halves low high v) e = never b (sym e)
-stopped b (Word at v) e = never b (sym e)
-stopped b (Key at k) e = never b (sym e)
-stopped b (Register row at) e = never b (sym e)
+stopped : (b : ℕ) (d : Result Deed ElfError) → stops d ≡ true → writes d b ≡ false
+stopped b (Err r) e = refl
+stopped b (Ok (RegisterOutside row)) e = refl
+stopped b (Ok Skip) e = refl
+stopped b (Ok (RegisterOnly row)) e = refl
+stopped b (Ok (Halves low high v)) e = never b (sym e)
+stopped b (Ok (Word at v)) e = never b (sym e)
+stopped b (Ok (Key at k)) e = never b (sym e)
+stopped b (Ok (Register row at)) e = never b (sym e)
 
 -- so a byte that a relocation does not name is not written by it
-pub unnamed_clear : (b : ℕ) (s im builtins : List ℕ) (j : Job) (p : Mapped) (info : ℕ) (addend : Addend) → length im ≤ 2 ^ 24
+pub unnamed_clear : (b : ℕ) (s im builtins : List ℕ) (j : Job) (p : Option ℕ) (info : ℕ) (addend : Option ℕ) → length im ≤ 2 ^ 24
     → named_at j p (info % 2 ^ 32) b ≡ false
     → writes (plan_of s im builtins j p info addend) b ≡ false
 unnamed_clear b s im builtins j p info addend short h = go (stops (plan_of s im builtins j p info addend)) refl

@@ -16,11 +16,14 @@ use Rattle.loader.specs.declared.error.ElfError.{ElfError}
 use Rattle.loader.specs.declared.error.ElfError.TheVariants.{ValueOutOfBounds}
 use Rattle.loader.specs.declared.deeds.Deed.{Deed}
 use Rattle.loader.specs.declared.deeds.Entry.{Entry}
-use Rattle.loader.specs.declared.deeds.Entry.TheVariants.{Nothing, Refuse, Register}
-use Rattle.loader.specs.declared.deeds.Outcome.{Outcome}
-use Rattle.loader.specs.declared.deeds.Outcome.TheVariants.{Holds, Refused}
-use Rattle.loader.specs.Trace.{Trace, done, stop, register, accepted, refused, on_registered, settle}
-use Rattle.loader.specs.Deeds.{written, entry_of, behind, entry_trace, deed_trace}
+use Rattle.loader.specs.declared.deeds.Entry.TheVariants.{Nothing, Register}
+use Rattle.loader.specs.declared.deeds.Held.{Held}
+use Rattle.std.specs.Prelude.{Result, Ok, Err}
+use Rattle.loader.specs.declared.validate.Job.{Job}
+use Rattle.loader.specs.Entry.{entry_deed, forget_trace}
+use Rattle.loader.specs.Entry as part
+use Rattle.loader.specs.Trace.{Trace, done, stop, register, accepted, refused, on_registered, settle, and_then}
+use Rattle.loader.specs.Deeds.{written, entry_of, behind, entry_trace, deed_trace, holding}
 use Rattle.loader.specs.InnerContracts.{finished_by, Settles, Enters}
 
 -- a registration that is held, and then refused
@@ -41,19 +44,19 @@ refused_stop (Ok Repeat) rows key m im rs q r e = absurd (zero_one (cc))
 refused_stop (Err Collision) rows key m im rs q r e = e
 refused_stop (Err Full) rows key m im rs q r e = e
 
-outside_row : (row : Row) (im : List ℕ) (t u : Slices) (used moves : ℕ) (a : Outcome)
+outside_row : (row : Row) (im : List ℕ) (t u : Slices) (used moves : ℕ) (a : Result Held ElfError)
     → Settles (register row (done im)) im t u 1 used moves a
     → Settles (register row (stop ValueOutOfBounds)) im t u 1 used moves (finished_by a true)
 unfolding settle
-outside_row row im t u used moves (Holds used' moves') did =
+outside_row row im t u used moves (Ok held) did =
     record {
       answers =
-          held_stop (table.register (capacity t) row (rows_of t used)) (capacity t) row.key moves im (registered (capacity t) row (rows_of t used)) (rows_of u used') moves' ValueOutOfBounds
+          held_stop (table.register (capacity t) row (rows_of t used)) (capacity t) row.key moves im (registered (capacity t) row (rows_of t used)) (rows_of u held.used) held.moves ValueOutOfBounds
           did.answers;
       sound = tt;
       near = tt;
     }
-outside_row row im t u used moves (Refused r) did =
+outside_row row im t u used moves (Err r) did =
     record {
       answers =
           refused_stop (table.register (capacity t) row (rows_of t used)) (capacity t) row.key moves im (registered (capacity t) row (rows_of t used)) r ValueOutOfBounds did.answers;
@@ -61,32 +64,46 @@ outside_row row im t u used moves (Refused r) did =
       near = tt;
     }
 
-finished_row : (row : Row) (outside : Bool) (im : List ℕ) (t u : Slices) (used moves : ℕ) (a : Outcome)
+finished_row : (row : Row) (outside : Bool) (im : List ℕ) (t u : Slices) (used moves : ℕ) (a : Result Held ElfError)
     → Settles (register row (done im)) im t u 1 used moves a
     → Settles (register row (behind outside im)) im t u 1 used moves (finished_by a outside)
-finished_row row false im t u used moves (Holds used' moves') did = did
-finished_row row false im t u used moves (Refused r) did = did
+finished_row row false im t u used moves (Ok held) did = did
+finished_row row false im t u used moves (Err r) did = did
 finished_row row true im t u used moves a did = outside_row row im t u used moves a did
 
-module _ (d : Deed) (im im' : List ℕ) (t : Slices) (used moves : ℕ) (e : Entry) (is : e ≡ entry_of d) (w : im' ≡ written d im) where
-  trace_is : (x : Entry) → e ≡ x → entry_trace x im' ≡ deed_trace d im
+-- a refusal, whatever the table
+pub refuses : (r : ElfError) (im im' : List ℕ) (t u : Slices) (n used moves : ℕ) → Settles (deed_trace (Err r) im) im' t u n used moves (Err r)
+unfolding settle deed_trace
+refuses r im im' t u n used moves = record { answers = refl; sound = tt; near = tt }
+
+-- the entry's refusal counts whether or not a row was removed before
+pub entry_refused : (builtins : List ℕ) (j : Job) (im : List ℕ) (t : Slices) (used moves : ℕ) (r : ElfError) → entry_deed builtins j ≡ Err r → Settles (part.entry_trace builtins j im) im t t 2 used moves (Err r)
+unfolding settle and_then deed_trace
+entry_refused builtins j im t used moves r e = record {
+  answers = subst (λ (d : Result Deed ElfError). refused r ≡ settle (capacity t) (and_then (forget_trace j.version2 im) (λ (im' : List ℕ). deed_trace d im')) (rows_of t used) moves) (sym e) (go j.version2);
+  sound = tt;
+  near = tt;
+}
+  where
+    go : (v : Bool) → refused r ≡ settle (capacity t) (and_then (forget_trace v im) (λ (im' : List ℕ). deed_trace (Err r) im')) (rows_of t used) moves
+    go true = refl
+    go false = refl
+
+module _ (d : Result Deed ElfError) (im im' : List ℕ) (t : Slices) (used moves : ℕ) (e : Result Entry ElfError) (is : e ≡ entry_of d) (w : im' ≡ written d im) where
+  trace_is : (x : Result Entry ElfError) → e ≡ x → entry_trace x im' ≡ deed_trace d im
   unfolding deed_trace
   trace_is x p = ap₂ entry_trace (sym p ∙ is) w
 
-  trace_as : (x : Entry) → e ≡ x → (u : Slices) (a : Outcome) → Settles (entry_trace x im') im' t u 1 used moves a → Settles (deed_trace d im) im' t u 1 used moves a
+  trace_as : (x : Result Entry ElfError) → e ≡ x → (u : Slices) (a : Result Held ElfError) → Settles (entry_trace x im') im' t u 1 used moves a → Settles (deed_trace d im) im' t u 1 used moves a
   trace_as x p u a did = subst (λ (T : Trace). Settles T im' t u 1 used moves a) (trace_is x p) did
 
-  pub performs_nothing : e ≡ Nothing → Ready t used → Settles (deed_trace d im) im' t t 1 used moves (Holds used moves)
+  pub performs_nothing : e ≡ Ok Nothing → Ready t used → Settles (deed_trace d im) im' t t 1 used moves (holding used moves)
   unfolding settle
-  performs_nothing p ready = trace_as Nothing p t (Holds used moves) (record { answers = refl; sound = ready; near = (omega arith, omega arith) })
+  performs_nothing p ready = trace_as (Ok Nothing) p t (holding used moves) (record { answers = refl; sound = ready; near = (omega arith, omega arith) })
 
-  pub performs_refuse : (r : ElfError) → e ≡ Refuse r → Settles (deed_trace d im) im' t t 1 used moves (Refused r)
-  unfolding settle
-  performs_refuse r p = trace_as (Refuse r) p t (Refused r) (record { answers = refl; sound = tt; near = tt })
-
-  pub performs_row : (row : Row) (outside : Bool) (u : Slices) (a b : Outcome)
-      → e ≡ Register row outside
+  pub performs_row : (row : Row) (outside : Bool) (u : Slices) (a b : Result Held ElfError)
+      → e ≡ Ok (Register row outside)
       → Enters row t u used moves a
       → b ≡ finished_by a outside
       → Settles (deed_trace d im) im' t u 1 used moves b
-  performs_row row outside u a b p did f = trace_as (Register row outside) p u b (rw f (finished_row row outside im' t u used moves a (did im')))
+  performs_row row outside u a b p did f = trace_as (Ok (Register row outside)) p u b (rw f (finished_row row outside im' t u used moves a (did im')))

@@ -1,6 +1,6 @@
 -- What each field of `Loads` and of `Demand3` says of a small file: a call's key, the table's keys, an untouched byte, a refusal. Each law uses its
 -- field alone, so that a field that says less does not prove it. Assumes nothing.
-use Rattle.std.specs.Prelude.{Option, Ok}
+use Rattle.std.specs.Prelude.{Option, Ok, Result, Err, Some, None}
 use Rattle.ebpf.specs.Choice.{◌if◌else◌}
 use Rattle.ebpf.specs.IndexKeys.{index_key, key_in}
 use Rattle.ebpf.specs.Instructions.{slot_at, insn_at}
@@ -22,6 +22,7 @@ use Rattle.elf_parser.specs.Types.{file_header, program_header, section_header, 
 use Rattle.program.specs.HashedLegacy.{legacy_key, kept_symbol, is_taken, legacy_row}
 use Rattle.program.specs.Rows.{rank, register, registered, unregister}
 use Rattle.program.specs.Search.{narrowed, binary_search, is_among}
+use Rattle.loader.specs.Results.{◌then◌}
 use Rattle.loader.specs.Addresses.{machine_addr}
 use Rattle.loader.specs.Bytes.{put}
 use Rattle.loader.specs.Calls.{inside, target, is_local_call, call_of, call_at, call_deed, slot_trace}
@@ -35,7 +36,7 @@ use Rattle.loader.specs.ReadOnly.{read_only, gives as loader-gives, invalid_by, 
 use Rattle.loader.specs.Relocations.{relocation_at, header_at, first_from, used_header, used_before, place_of, within, program_address, immediate_at, halves_deed, word_deed, address_deed, plan6464, relative_text, relative_value, plan_relative, function_call, builtin_call, call_by_name, plan6432, plan_at, relocation_trace}
 use Rattle.loader.specs.Sections.{section_at, starts_with, unsupported, outside_file, survey_step, survey_from}
 use Rattle.loader.specs.Trace.{and_then, each, settle}
-use Rattle.loader.specs.Validate.{size_check, ascends, header_check as loader-headerCheck, sections_check, text_check, job_of, ◌then◌, validated, prepared}
+use Rattle.loader.specs.Validate.{size_check, ascends, header_check as loader-headerCheck, sections_check, text_check, job_of, validated, prepared}
 use Prim.Native.Nat.{ℕ, zero, suc, ◌-◌, ◌<◌}
 use native.Mathlib.Omega.{arith}
 use mathlib.Core.Bool.{Bool, true, false, true≢false}
@@ -48,15 +49,11 @@ use Rattle.program.specs.declared.FunctionName.TheVariants.{OfIndex, Entrypoint}
 use Rattle.program.specs.declared.Row.{Row}
 use Rattle.program.specs.Table.{Slices, Lent, Shared, table_before, table_after, capacity, lay, rows_of, lookup_in, Ready as IsTable}
 use Rattle.program.proofs.Cases.{zero_one}
-use Rattle.loader.specs.declared.answer.Accepted.{Accepted}
-use Rattle.loader.specs.declared.answer.Load.{Load}
-use Rattle.loader.specs.declared.answer.Load.TheVariants.{Accepted as Accepts, Refused as Refuses}
-use Rattle.loader.specs.declared.calls.Call.TheVariants.{None, To}
-use Rattle.loader.specs.declared.error.ElfError.TheVariants.{SymbolHashCollision, TableFull}
 use Rattle.loader.specs.declared.read_only.Placing.TheVariants.{Borrowed}
+use Rattle.loader.specs.declared.error.ElfError.{ElfError}
+use Rattle.loader.specs.declared.answer.Accepted.{Accepted}
+use Rattle.loader.specs.declared.error.ElfError.TheVariants.{SymbolHashCollision, TableFull}
 use Rattle.loader.specs.declared.validate.Job.{Job}
-use Rattle.loader.specs.declared.validate.Prepared.{Prepared}
-use Rattle.loader.specs.declared.validate.Prepared.TheVariants.{Ready}
 use Rattle.loader.specs.Calls.{local_call_in, text_of, immediate}
 use Rattle.loader.specs.Demand.{CallsTo, Unnamed, Registers, name_key, key_of, Finds, Has, IsNameKey, Calls, Keys, Entry, Others, Bytes, OnAccepted, reached, reached_in, reached_early, Clash, distinct, Demand3}
 use Rattle.loader.specs.Loads.{Loads, OnUsed}
@@ -95,7 +92,7 @@ job_with version2 check l addr machine size offset =
       start = 64;
       length = size;
       addr = machine;
-      placing = Borrowed offset 64 size;
+      placing = Ok (Borrowed offset 64 size);
     }
 
 abbrev job_2 : Bool → Job
@@ -138,23 +135,23 @@ answer_2 =
 
 -- by computation
 record Computed : Type 0 where
-  ready_2 : prepared version_2 [] all_on 304 304 ≡ Ready (job_2 true)
-  ready_2_unchecked : prepared version_2 [] unchecked 304 304 ≡ Ready (job_2 false)
-  ready_1 : prepared version_1 [] all_on 304 304 ≡ Ready job_1
-  ready_labels : prepared two_labels [] unchecked 528 528 ≡ Ready job_labels
+  ready_2 : prepared version_2 [] all_on 304 304 ≡ Ok (job_2 true)
+  ready_2_unchecked : prepared version_2 [] unchecked 304 304 ≡ Ok (job_2 false)
+  ready_1 : prepared version_1 [] all_on 304 304 ≡ Ok job_1
+  ready_labels : prepared two_labels [] unchecked 528 528 ≡ Ok job_labels
   whole : load_of version_2 [] all_on 304 304 4 ≡ holds answer_2 (put 4 version_2 68 2) (replicate 304 0) (first ∷ third ∷ [])
   image_whole : put 4 version_2 68 2 ++ replicate (304 - length (put 4 version_2 68 2)) 0 ≡ put 4 version_2 68 2
   local_0 : local_call_in true (insn_at (text_of version_2 (job_2 true)) 0) ≡ true
-  call_0 : call_at (text_of version_2 (job_2 true)) true 0 ≡ To 2
-  call_1 : call_at (text_of version_2 (job_2 true)) true 1 ≡ None
-  call_2 : call_at (text_of version_2 (job_2 true)) true 2 ≡ None
+  call_0 : call_at (text_of version_2 (job_2 true)) true 0 ≡ Ok (Some 2)
+  call_1 : call_at (text_of version_2 (job_2 true)) true 1 ≡ Ok None
+  call_2 : call_at (text_of version_2 (job_2 true)) true 2 ≡ Ok None
   row_call : row_for [] (job_2 true) OfIndex 2 ≡ Ok third
   row_entry : row_for [] (job_2 true) Entrypoint 0 ≡ Ok first
   no_labels : (label_symbols version_2 (job_2 true)).count ≡ 0
-  reached_2 : reached_in version_2 [] 1 (Ready (job_2 false)) ≡ third ∷ first ∷ []
-  reached_all : reached_in version_2 [] 4 (Ready (job_2 false)) ≡ third ∷ first ∷ []
-  early_2 : reached_early version_2 [] 4 (Ready (job_2 false)) ≡ third ∷ []
-  early_labels : reached_early two_labels [] 4 (Ready job_labels) ≡ label 0 ∷ label 1 ∷ []
+  reached_2 : reached_in version_2 [] 1 (Ok (job_2 false)) ≡ third ∷ first ∷ []
+  reached_all : reached_in version_2 [] 4 (Ok (job_2 false)) ≡ third ∷ first ∷ []
+  early_2 : reached_early version_2 [] 4 (Ok (job_2 false)) ≡ third ∷ []
+  early_labels : reached_early two_labels [] 4 (Ok job_labels) ≡ label 0 ∷ label 1 ∷ []
   name_key_lem : name_key ≡ 0x71e3_cf81
 
 computed : Computed
@@ -187,20 +184,20 @@ computed =
 no_relocations : (file : List ℕ) (check : Bool) (b : ℕ) → Unnamed file (job_2 check) b
 no_relocations file check b i l = absurd (omega (arith, l))
 
-module _ (t : Slices) (im' : List ℕ) (t' : Slices) (x : Accepted) (d : Demand3 version_2 [] all_on 304 304 t im' t' (Accepts x)) where
+module _ (t : Slices) (im' : List ℕ) (t' : Slices) (x : Accepted) (d : Demand3 version_2 [] all_on 304 304 t im' t' (Ok x)) where
   abbrev look : ℕ → Option Row
   look = lookup_in t' x.used
 
   -- of this file, where a field holds of whatever passed the checks
-  of_file : (P : Job → ℕ → Type 0) → OnAccepted (Accepts x) (prepared version_2 [] all_on 304 304) P → P (job_2 true) x.used
-  of_file P h = subst (λ (p : Prepared). OnAccepted (Accepts x) p P) computed.ready_2 h
+  of_file : (P : Job → ℕ → Type 0) → OnAccepted (Ok x) (prepared version_2 [] all_on 304 304) P → P (job_2 true) x.used
+  of_file P h = subst (λ (p : Result Job ElfError). OnAccepted (Ok x) p P) computed.ready_2 h
 
   -- the call of the third slot holds a key that finds it
   pub calls_say : Finds look (le 4 im' 68) 2
   calls_say = found (of_file (λ j used. Calls version_2 j im' (lookup_in t' used)) d.calls 0 (omega arith, computed.local_0) (λ b h. no_relocations version_2 true b))
     where
       found : (to : ℕ) × CallsTo version_2 (job_2 true) 0 to × (to < 3) × (IsNameKey (job_2 true) (le 4 im' 68) ⊎ Finds look (le 4 im' 68) to) → Finds look (le 4 im' 68) 2
-      found r = let same : To 2 ≡ To r.0 = flip computed.call_0 ∙ r.1.1 in let is : 2 ≡ r.0 = cc in by is r.3
+      found r = let same : Ok (Some 2) ≡ Ok (Some r.0) = flip computed.call_0 ∙ r.1.1 in let is : 2 ≡ r.0 = cc in by is r.3
         where
           by : 2 ≡ r.0 → IsNameKey (job_2 true) (le 4 im' 68) ⊎ Finds look (le 4 im' 68) r.0 → Finds look (le 4 im' 68) 2
           by is (inl n) = absurd (true≢false n.0)
@@ -220,15 +217,15 @@ module _ (t : Slices) (im' : List ℕ) (t' : Slices) (x : Accepted) (d : Demand3
     λ h. no_other ((all_keys 1).0 h),
   )
     where
-      no_slot : (i to : ℕ) (row : Row) → i < 3 → call_at (text_of version_2 (job_2 true)) true i ≡ To to → row_for [] (job_2 true) OfIndex to ≡ Ok row → row.key ≡ 1 → ⊥
+      no_slot : (i to : ℕ) (row : Row) → i < 3 → call_at (text_of version_2 (job_2 true)) true i ≡ Ok (Some to) → row_for [] (job_2 true) OfIndex to ≡ Ok row → row.key ≡ 1 → ⊥
       no_slot zero to row l c r k =
-          let same : To 2 ≡ To to = flip computed.call_0 ∙ c in
+          let same : Ok (Some 2) ≡ Ok (Some to) = flip computed.call_0 ∙ c in
           let is : 2 ≡ to = cc in
           let free : Ok third ≡ Ok row = flip computed.row_call ∙ ap (row_for [] (job_2 true) OfIndex) is ∙ r in
           let key : third.key ≡ row.key = cc in
           zero_one (omega (arith, key, k))
-      no_slot (suc zero) to row l c r k = let n : None ≡ To to = flip computed.call_1 ∙ c in zero_one (cc)
-      no_slot (suc (suc zero)) to row l c r k = let n : None ≡ To to = flip computed.call_2 ∙ c in zero_one (cc)
+      no_slot (suc zero) to row l c r k = let n : Ok None ≡ Ok (Some to) = flip computed.call_1 ∙ c in zero_one (cc)
+      no_slot (suc (suc zero)) to row l c r k = let n : Ok None ≡ Ok (Some to) = flip computed.call_2 ∙ c in zero_one (cc)
       no_slot (suc (suc (suc i))) to row l c r k = absurd (omega (arith, l))
 
       no_other : (row : Row) × Registers version_2 [] (job_2 true) row × (row.key ≡ 1) → ⊥
@@ -257,17 +254,17 @@ module _ (t : Slices) (im' : List ℕ) (t' : Slices) (x : Accepted) (d : Demand3
   injective_says e = zero_one (d.injective false 0 1 (omega arith) (omega arith) e)
 
 -- in version 1 the name's key finds the entry's index
-pub entry_says : (t : Slices) (im' : List ℕ) (t' : Slices) (x : Accepted) → Demand3 version_1 [] all_on 304 304 t im' t' (Accepts x) → Finds (lookup_in t' x.used) name_key 0
-entry_says t im' t' x d = subst (λ (p : Prepared). OnAccepted (Accepts x) p (λ j used. Entry j (lookup_in t' used))) computed.ready_1 d.entry refl
+pub entry_says : (t : Slices) (im' : List ℕ) (t' : Slices) (x : Accepted) → Demand3 version_1 [] all_on 304 304 t im' t' (Ok x) → Finds (lookup_in t' x.used) name_key 0
+entry_says t im' t' x d = subst (λ (p : Result Job ElfError). OnAccepted (Ok x) p (λ j used. Entry j (lookup_in t' used))) computed.ready_1 d.entry refl
 
 -- two labels named entrypoint are refused 24; one call is not
-module _ (t : Slices) (im' : List ℕ) (t' : Slices) (a : Load) (rows : capacity t ≡ 4) where
-  pub collision_says : Demand3 two_labels [] unchecked 528 528 t im' t' a → (key : ℕ) × (a ≡ Refuses (SymbolHashCollision key))
+module _ (t : Slices) (im' : List ℕ) (t' : Slices) (a : Result Accepted ElfError) (rows : capacity t ≡ 4) where
+  pub collision_says : Demand3 two_labels [] unchecked 528 528 t im' t' a → (key : ℕ) × (a ≡ Err (SymbolHashCollision key))
   collision_says d =
       (d.collision refl).1
       (rw (rows, computed.ready_labels, computed.early_labels) (label 0, label 1, inl refl, inr (inl refl), refl, refl, zero_one))
 
-  pub no_collision_says : Demand3 version_2 [] unchecked 304 304 t im' t' a → (key : ℕ) → a ≡ Refuses (SymbolHashCollision key) → ⊥
+  pub no_collision_says : Demand3 version_2 [] unchecked 304 304 t im' t' a → (key : ℕ) → a ≡ Err (SymbolHashCollision key) → ⊥
   no_collision_says d key e = none (rw (rows, computed.ready_2_unchecked, computed.early_2) at ((d.collision refl).0 (key, e)))
     where
       none : Clash (third ∷ []) → ⊥
@@ -275,20 +272,20 @@ module _ (t : Slices) (im' : List ℕ) (t' : Slices) (a : Load) (rows : capacity
       none (x, y, inr p, m, k, l, n) = p
 
 -- one row is too few for its two keys, and four are not
-module _ (t : Slices) (im' : List ℕ) (t' : Slices) (a : Load) (d : Demand3 version_2 [] unchecked 304 304 t im' t' a) where
+module _ (t : Slices) (im' : List ℕ) (t' : Slices) (a : Result Accepted ElfError) (d : Demand3 version_2 [] unchecked 304 304 t im' t' a) where
   are_two : distinct (map (λ (r : Row). r.key) (third ∷ first ∷ [])) ≡ 2
   unfolding distinct ◌if◌else◌
   are_two = refl
 
-  pub full_says : capacity t ≡ 1 → (rows : ℕ) × (a ≡ Refuses (TableFull rows))
+  pub full_says : capacity t ≡ 1 → (rows : ℕ) × (a ≡ Err (TableFull rows))
   full_says one = (d.full refl).1 (rw (one, computed.ready_2_unchecked, computed.reached_2, are_two) (omega arith))
 
-  pub room_says : capacity t ≡ 4 → (rows : ℕ) → a ≡ Refuses (TableFull rows) → ⊥
+  pub room_says : capacity t ≡ 4 → (rows : ℕ) → a ≡ Err (TableFull rows) → ⊥
   room_says four rows e = let h : 4 < 2 = rw (four, computed.ready_2_unchecked, computed.reached_all, are_two) at ((d.full refl).0 (rows, e)) in zero_one (omega (arith, h))
 
 -- ---- `load`, field by field
 
-module _ (file builtins : Shared) (image ro keys indices kinds starts lengths : Lent) (a : Load)
+module _ (file builtins : Shared) (image ro keys indices kinds starts lengths : Lent) (a : Result Accepted ElfError)
     (is : file.entry.now ≡ version_2) (none : builtins.entry.now ≡ []) (long : length image.entry.now ≡ 304) (wide : length ro.entry.now ≡ 304)
     (rows : capacity (table_before keys indices kinds starts lengths) ≡ 4)
     (l : Loads file builtins all_on image ro keys indices kinds starts lengths a) where
@@ -302,7 +299,7 @@ module _ (file builtins : Shared) (image ro keys indices kinds starts lengths : 
   loaded = rw (is, none, long, wide, rows, computed.whole) at l.loaded
 
   -- the answer, the image with the call's key, an empty read-only buffer, and two rows
-  pub loaded_says : (a ≡ Accepts answer_2) × (image.exit.now ≡ put 4 version_2 68 2) × (ro.exit.now ≡ replicate 304 0) × (t' ≡ lay t (first ∷ third ∷ []))
+  pub loaded_says : (a ≡ Ok answer_2) × (image.exit.now ≡ put 4 version_2 68 2) × (ro.exit.now ≡ replicate 304 0) × (t' ≡ lay t (first ∷ third ∷ []))
   loaded_says = (
     loaded.answers,
     (rw long at loaded.demand_1.image) ∙ computed.image_whole,
@@ -314,9 +311,9 @@ module _ (file builtins : Shared) (image ro keys indices kinds starts lengths : 
   pub keyed_says : Finds (lookup_in t' 2) (le 4 image.exit.now 68) 2
   keyed_says =
       let d : Demand3 version_2 [] all_on 304 304 t image.exit.now t' a = rw (is, none, long, wide) at l.keyed in
-      calls_say t image.exit.now t' answer_2 (subst (λ (b : Load). Demand3 version_2 [] all_on 304 304 t image.exit.now t' b) loaded.answers d)
+      calls_say t image.exit.now t' answer_2 (subst (λ (b : Result Accepted ElfError). Demand3 version_2 [] all_on 304 304 t image.exit.now t' b) loaded.answers d)
 
   -- the first key is below the second
   pub ascending_says : get_or keys.exit.now 0 0 < get_or keys.exit.now 1 0
   unfolding rows_of rank
-  ascending_says = (subst (λ (b : Load). OnUsed b (IsTable t')) loaded.answers l.ascending).rising.0.0
+  ascending_says = (subst (λ (b : Result Accepted ElfError). OnUsed b (IsTable t')) loaded.answers l.ascending).rising.0.0

@@ -5,6 +5,7 @@ use mathlib.Core.Path.{◌≡◌, refl}
 use mathlib.Core.Bool.{Bool, true, false, not}
 use mathlib.Core.List.{List}
 use lib.ListN.{length}
+use Rattle.std.specs.Prelude.{Result, Ok, Err}
 use Rattle.ebpf.specs.Choice.{◌if◌else◌}
 use Rattle.elf_parser.specs.declared.error.ElfParserError.{ElfParserError}
 use Rattle.elf_parser.specs.declared.error.ElfParserError.TheVariants.{InvalidFileHeader, InvalidProgramHeader, InvalidSectionHeader, StringTooLong, OutOfBounds, InvalidSize, Overlap, SectionNotInOrder, NoSectionNameStringTable, InvalidDynamicSectionTable, InvalidAlignment, NoStringTable, NoDynamicStringTable, NoSuchIndex, NotASection, StringUnterminated}
@@ -20,24 +21,19 @@ use Rattle.elf_parser.specs.Names.{section_name}
 use Rattle.elf_parser.specs.Parse.{parsed}
 use Rattle.elf_parser.specs.Records.{file_range_of}
 use Rattle.elf_parser.specs.Types.{file_header}
+use Rattle.loader.specs.declared.read_only.Placing.TheVariants.{Borrowed, Owned}
+use Rattle.loader.specs.declared.read_only.Placing.{Placing}
 use Rattle.loader.specs.declared.error.ElfError.{ElfError}
 use Rattle.loader.specs.declared.error.ElfError.TheVariants.{FailedToParse, EntrypointOutOfBounds, InvalidEntrypoint, UnresolvedSymbol, RelativeJumpOutOfBounds, SymbolHashCollision, WrongAbi, WrongMachine, NotOneTextSection, WritableSectionNotSupported, InvalidVirtualAddress, UnknownRelocation, WrongType, UnknownSymbol, ValueOutOfBounds, UnsupportedSBPFVersion, FileTooLong, BufferShort, BuiltinsNotAscending, TableFull, TextOutsideReadOnly, AddendNegative}
 use Rattle.loader.specs.declared.sections.Survey.{Survey}
 use Rattle.loader.specs.declared.read_only.Extent.{Extent}
-use Rattle.loader.specs.declared.read_only.Gathering.{Gathering}
-use Rattle.loader.specs.declared.read_only.Gathering.TheVariants.{Next, Refused as Stop}
-use Rattle.loader.specs.declared.read_only.Placing.{Placing}
-use Rattle.loader.specs.declared.read_only.Placing.TheVariants.{Borrowed, Owned, Refused as NotPlaced}
 use Rattle.loader.specs.declared.validate.Config.{Config}
-use Rattle.loader.specs.declared.validate.Verdict.{Verdict}
-use Rattle.loader.specs.declared.validate.Verdict.TheVariants.{Pass, Refused}
 use Rattle.loader.specs.declared.validate.Job.{Job}
-use Rattle.loader.specs.declared.validate.Prepared.{Prepared}
-use Rattle.loader.specs.declared.validate.Prepared.TheVariants.{Ready, Refused as NotReady}
+use Rattle.loader.specs.Results.{◌then◌}
 use Rattle.loader.specs.Errors.{from_parser}
 use Rattle.loader.specs.Sections.{section_at, survey}
 use Rattle.loader.specs.ReadOnly.{taken, taken_at, gather_step, gather_turn, gather_by, nothing, gathered, borrowed, owned, placed, placing_by, placing}
-use Rattle.loader.specs.Validate.{size_check, ascends, header_check, writable_by, sections_check, text_check, job_of, ◌then◌, file_check, ready_by, is_version2, validated, parsed_then, prepared_by, prepared}
+use Rattle.loader.specs.Validate.{size_check, ascends, header_check, writable_by, sections_check, text_check, job_of, file_check, is_version2, validated, parsed_then, prepared}
 
 -- the refusals that a registration gives
 abbrev pub of_table : ElfError → Bool
@@ -75,17 +71,16 @@ picks P false x y p q = q refl
 
 -- ---- the checks
 
-abbrev PlainVerdict : Verdict → Type 0
-PlainVerdict Pass = Unit {0}
-PlainVerdict (Refused r) = Plain r
+abbrev PlainVerdict : Result (Unit {0}) ElfError → Type 0
+PlainVerdict (Ok u) = Unit {0}
+PlainVerdict (Err r) = Plain r
 
-refuse_or : (b : Bool) (r : ElfError) (v : Verdict) → Plain r → PlainVerdict v → PlainVerdict (Refused r if b else v)
-refuse_or b r v p q = picks PlainVerdict b (Refused r) v (λ _. p) (λ _. q)
+refuse_or : (b : Bool) (r : ElfError) (v : Result (Unit {0}) ElfError) → Plain r → PlainVerdict v → PlainVerdict (Err r if b else v)
+refuse_or b r v p q = picks PlainVerdict b (Err r) v (λ _. p) (λ _. q)
 
-then_plain : (v w : Verdict) → PlainVerdict v → PlainVerdict w → PlainVerdict (v then w)
-unfolding ◌then◌
-then_plain Pass w p q = q
-then_plain (Refused r) w p q = p
+then_plain : (v w : Result (Unit {0}) ElfError) → PlainVerdict v → PlainVerdict w → PlainVerdict (v then w)
+then_plain (Ok u) w p q = q
+then_plain (Err r) w p q = p
 
 size_plain : (len image ro : ℕ) → PlainVerdict (size_check len image ro)
 unfolding size_check
@@ -129,14 +124,14 @@ parser_plain (StringUnterminated start n) = refl
 
 -- ---- the placing
 
-abbrev PlainGathering : Gathering → Type 0
-PlainGathering (Next x) = Unit {0}
-PlainGathering (Stop r) = Plain r
+abbrev PlainGathering : Result Extent ElfError → Type 0
+PlainGathering (Ok x) = Unit {0}
+PlainGathering (Err r) = Plain r
 
-abbrev pub PlainPlacing : Placing → Type 0
-PlainPlacing (Borrowed offset start n) = Unit {0}
-PlainPlacing (Owned offset lowest n) = Unit {0}
-PlainPlacing (NotPlaced r) = Plain r
+abbrev pub PlainPlacing : Result Placing ElfError → Type 0
+PlainPlacing (Ok (Borrowed offset start n)) = Unit {0}
+PlainPlacing (Ok (Owned offset lowest n)) = Unit {0}
+PlainPlacing (Err r) = Plain r
 
 abbrev PlainTurn : Turn ElfError Extent → Type 0
 PlainTurn (goes x) = Unit {0}
@@ -152,9 +147,9 @@ unfolding over
 over_plain step p w zero at x = tt
 over_plain step p w (suc n) at x = into_plain (step at x) (over step w n (at + w)) (p at x) (λ y. over_plain step p w n (at + w) y)
 
-turn_plain : (g : Gathering) → PlainGathering g → PlainTurn (gather_turn g)
-turn_plain (Next x) p = tt
-turn_plain (Stop r) p = p
+turn_plain : (g : Result Extent ElfError) → PlainGathering g → PlainTurn (gather_turn g)
+turn_plain (Ok x) p = tt
+turn_plain (Err r) p = p
 
 by_plain : (t : Turn ElfError Extent) → PlainTurn t → PlainGathering (gather_by t)
 by_plain (goes x) p = tt
@@ -184,10 +179,10 @@ owned_plain : (len : ℕ) (optimize : Bool) (x : Extent) → PlainPlacing (owned
 unfolding owned
 owned_plain len optimize x = picks PlainPlacing _ _ _ (λ _. refl) (λ _. tt)
 
-placed_plain : (len : ℕ) (version2 reject-broken optimize : Bool) (g : Gathering) → PlainGathering g → PlainPlacing (placing_by len version2 reject-broken optimize g)
+placed_plain : (len : ℕ) (version2 reject-broken optimize : Bool) (g : Result Extent ElfError) → PlainGathering g → PlainPlacing (placing_by len version2 reject-broken optimize g)
 unfolding placed
-placed_plain len version2 reject-broken optimize (Stop r) p = p
-placed_plain len version2 reject-broken optimize (Next x) p =
+placed_plain len version2 reject-broken optimize (Err r) p = p
+placed_plain len version2 reject-broken optimize (Ok x) p =
     picks PlainPlacing _ _ _ (λ _. refl)
     (λ _. picks PlainPlacing _ _ _ (λ _. refl)
     (λ _. picks PlainPlacing _ _ _ (λ _. borrowed_plain version2 x) (λ _. owned_plain len optimize x)))
@@ -200,27 +195,27 @@ placing_plain s l count version2 reject-broken optimize =
 -- ---- all checks
 
 -- a plain refusal, or a job that checks for collisions with built-ins as the configuration says, and whose placing refuses plainly
-abbrev pub PlainlyPrepared : Config → Prepared → Type 0
-PlainlyPrepared c (NotReady r) = Plain r
-PlainlyPrepared c (Ready j) = (j.check_collision ≡ c.external_internal_function_hash_collision) × PlainPlacing j.placing
+abbrev pub PlainlyPrepared : Config → Result Job ElfError → Type 0
+PlainlyPrepared c (Err r) = Plain r
+PlainlyPrepared c (Ok j) = (j.check_collision ≡ c.external_internal_function_hash_collision) × PlainPlacing j.placing
 
-ready_plain : (c : Config) (v : Verdict) (j : Job) → PlainVerdict v → PlainlyPrepared c (Ready j) → PlainlyPrepared c (ready_by v j)
-ready_plain c Pass j p q = q
-ready_plain c (Refused r) j p q = p
+passed_plain : (c : Config) (v : Result (Unit {0}) ElfError) (p : Result Job ElfError) → PlainVerdict v → PlainlyPrepared c p → PlainlyPrepared c (v then p)
+passed_plain c (Ok u) p v q = q
+passed_plain c (Err r) p v q = v
 
 file_plain : (s : List ℕ) (c : Config) (l : Layout) (h : Elf64Ehdr) (version2 : Bool) (v : Survey) → PlainVerdict (file_check s c l h version2 v)
 file_plain s c l h version2 v =
-    let text : Verdict = text_check version2 c.reject_broken_elfs h.e_entry (section_at s l v.text) in
+    let text : Result (Unit {0}) ElfError = text_check version2 c.reject_broken_elfs h.e_entry (section_at s l v.text) in
     then_plain (header_check h c version2) (sections_check s l v then text) (header_plain h c version2)
     (then_plain (sections_check s l v) text (sections_plain s l v) (text_plain version2 c.reject_broken_elfs h.e_entry (section_at s l v.text)))
 
-job_plain : (c : Config) (version2 : Bool) (l : Layout) (e_entry : ℕ) (h : Elf64Shdr) (p : Placing) → PlainPlacing p → PlainlyPrepared c (Ready (job_of c version2 l e_entry h p))
+job_plain : (c : Config) (version2 : Bool) (l : Layout) (e_entry : ℕ) (h : Elf64Shdr) (p : Result Placing ElfError) → PlainPlacing p → PlainlyPrepared c (Ok (job_of c version2 l e_entry h p))
 unfolding job_of
 job_plain c version2 l e_entry h p q = (refl, q)
 
 validated_plain : (s : List ℕ) (c : Config) (l : Layout) → PlainlyPrepared c (validated s c l)
 unfolding validated
-validated_plain s c l = ready_plain c (file_check s c l h version2 v) (job_of c version2 l h.e_entry text place)
+validated_plain s c l = passed_plain c (file_check s c l h version2 v) (Ok (job_of c version2 l h.e_entry text place))
     (file_plain s c l h version2 v)
     (job_plain c version2 l h.e_entry text place (placing_plain s l h.e_shnum version2 c.reject_broken_elfs c.optimize_rodata))
   where
@@ -236,16 +231,12 @@ validated_plain s c l = ready_plain c (file_check s c l h version2 v) (job_of c 
     text : Elf64Shdr
     text = section_at s l v.text
 
-    place : Placing
+    place : Result Placing ElfError
     place = placing s l h.e_shnum version2 c.reject_broken_elfs c.optimize_rodata
 
 parsed_plain : (s : List ℕ) (c : Config) (p : Parsed) → PlainlyPrepared c (parsed_then s c p)
 parsed_plain s c (NoFile e) = parser_plain e
 parsed_plain s c (File l) = validated_plain s c l
-
-passed_plain : (c : Config) (v : Verdict) (p : Prepared) → PlainVerdict v → PlainlyPrepared c p → PlainlyPrepared c (prepared_by v p)
-passed_plain c Pass p v q = q
-passed_plain c (Refused r) p v q = v
 
 pub prepared_plain : (s builtins : List ℕ) (c : Config) (image ro : ℕ) → PlainlyPrepared c (prepared s builtins c image ro)
 unfolding prepared

@@ -8,6 +8,7 @@ use mathlib.Core.List.{List}
 use lib.ListN.{length}
 use lib.Dec.{eqb}
 use borrow.Author.Tests.{ltb-false, leb-false, eqb-true, eqb-false, not-false}
+use Rattle.std.specs.Prelude.{Result, Ok, Err}
 use Rattle.ebpf.specs.Choice.{◌if◌else◌, not_first, row_rest, or_false}
 use Rattle.elf_parser.specs.declared.types.Elf64Ehdr.{Elf64Ehdr}
 use Rattle.elf_parser.specs.declared.types.Elf64Shdr.{Elf64Shdr}
@@ -17,21 +18,18 @@ use Rattle.elf_parser.specs.declared.layout.Parsed.TheVariants.{File, Refused as
 use Rattle.elf_parser.specs.Types.{file_header, SHT_NOBITS}
 use Rattle.elf_parser.specs.SectionNames.{same_bytes}
 use Rattle.elf_parser.specs.Parse.{parsed}
+use Rattle.loader.specs.declared.read_only.Placing.{Placing}
 use Rattle.loader.specs.declared.error.ElfError.{ElfError}
 use Rattle.loader.specs.declared.error.ElfError.TheVariants.{BuiltinsNotAscending}
 use Rattle.loader.specs.declared.sections.Survey.{Survey}
-use Rattle.loader.specs.declared.read_only.Placing.{Placing}
 use Rattle.loader.specs.declared.validate.Config.{Config}
-use Rattle.loader.specs.declared.validate.Verdict.{Verdict}
-use Rattle.loader.specs.declared.validate.Verdict.TheVariants.{Pass, Refused}
 use Rattle.loader.specs.declared.validate.Job.{Job}
-use Rattle.loader.specs.declared.validate.Prepared.{Prepared}
-use Rattle.loader.specs.declared.validate.Prepared.TheVariants.{Ready, Refused as NotReady}
+use Rattle.loader.specs.Results.{not_ok, ◌then◌, then_both, then_ok}
 use Rattle.loader.specs.Addresses.{sum_up_to}
 use Rattle.loader.specs.Sections.{section_at, name_of, dot_text, outside_file, survey_step, survey_from, no_survey, survey}
 use Rattle.loader.specs.ReadOnly.{placing}
 use Rattle.loader.specs.Relocations.{few_relocations}
-use Rattle.loader.specs.Validate.{size_check, ascends, sections_check, text_check, job_of, ◌then◌, file_check, ready_by, is_version2, validated, parsed_then, prepared_by, prepared}
+use Rattle.loader.specs.Validate.{size_check, ascends, sections_check, text_check, job_of, file_check, is_version2, validated, parsed_then, prepared, header_check}
 use Rattle.loader.specs.InnerContracts.{InFile}
 
 -- ---- the survey
@@ -75,51 +73,27 @@ survey_lies s l n = from_lies s l n 0 no_survey (λ o t. absurd (t refl))
 
 -- ---- the checks
 
-pub not_passed : (r : ElfError) → Refused r ≡ Pass → ⊥
-not_passed r e = let z : ◌≡◌ {A = ℕ} 0 1 = cc in omega arith
-
-pub not_ready : (r : ElfError) (j : Job) → NotReady r ≡ Ready j → ⊥
-not_ready r j e = let z : ◌≡◌ {A = ℕ} 0 1 = cc in omega arith
-
-pub then_first : (v w : Verdict) → (v then w) ≡ Pass → v ≡ Pass
-unfolding ◌then◌
-then_first Pass w e = refl
-then_first (Refused r) w e = absurd (not_passed r e)
-
-pub then_rest : (v w : Verdict) → (v then w) ≡ Pass → w ≡ Pass
-unfolding ◌then◌
-then_rest Pass w e = e
-then_rest (Refused r) w e = absurd (not_passed r e)
-
-pub ready_by_lem : (w : Verdict) (k j : Job) → ready_by w k ≡ Ready j → (w ≡ Pass) × (k ≡ j)
-ready_by_lem Pass k j e = (refl, cc)
-ready_by_lem (Refused r) k j e = absurd (not_ready r j e)
-
-pub prepared_by_lem : (w : Verdict) (p : Prepared) (j : Job) → prepared_by w p ≡ Ready j → (w ≡ Pass) × (p ≡ Ready j)
-prepared_by_lem Pass p j e = (refl, e)
-prepared_by_lem (Refused r) p j e = absurd (not_ready r j e)
-
-size_passes : (len image ro : ℕ) → size_check len image ro ≡ Pass → (len ≤ 2 ^ 24) × (len ≤ image) × (len ≤ ro)
+size_passes : (len image ro : ℕ) → size_check len image ro ≡ Ok tt → (len ≤ 2 ^ 24) × (len ≤ image) × (len ≤ ro)
 unfolding size_check
 size_passes len image ro e =
-    let e2 = row_rest _ _ _ _ (not_passed _) e in
-    let e3 = row_rest _ _ _ _ (not_passed _) e2 in
-    (ltb-false _ _ (not_first _ _ _ _ (not_passed _) e), ltb-false _ _ (not_first _ _ _ _ (not_passed _) e2), ltb-false _ _ (not_first _ _ _ _ (not_passed _) e3))
+    let e2 = row_rest _ _ _ _ (not_ok _ _) e in
+    let e3 = row_rest _ _ _ _ (not_ok _ _) e2 in
+    (ltb-false _ _ (not_first _ _ _ _ (not_ok _ _) e), ltb-false _ _ (not_first _ _ _ _ (not_ok _ _) e2), ltb-false _ _ (not_first _ _ _ _ (not_ok _ _) e3))
 
-pub sections_pass : (s : List ℕ) (l : Layout) (v : Survey) → sections_check s l v ≡ Pass → (v.texts ≡ 1) × (v.outside ≡ false)
+pub sections_pass : (s : List ℕ) (l : Layout) (v : Survey) → sections_check s l v ≡ Ok tt → (v.texts ≡ 1) × (v.outside ≡ false)
 unfolding sections_check
 sections_pass s l v e =
-    let e2 = row_rest _ _ _ _ (not_passed _) e in
-    let e3 = row_rest _ _ _ _ (not_passed _) e2 in
-    (eqb-true _ _ (not-false _ (not_first _ _ _ _ (not_passed _) e)), not_first _ _ _ _ (not_passed _) e3)
+    let e2 = row_rest _ _ _ _ (not_ok _ _) e in
+    let e3 = row_rest _ _ _ _ (not_ok _ _) e2 in
+    (eqb-true _ _ (not-false _ (not_first _ _ _ _ (not_ok _ _) e)), not_first _ _ _ _ (not_ok _ _) e3)
 
 pub text_passes : (version2 reject-broken : Bool) (e_entry : ℕ) (h : Elf64Shdr)
-    → text_check version2 reject-broken e_entry h ≡ Pass
+    → text_check version2 reject-broken e_entry h ≡ Ok tt
     → e_entry < h.sh_addr + h.sh_size
 unfolding text_check
 text_passes version2 reject-broken e_entry h e =
-    let e2 = row_rest _ _ _ _ (not_passed _) e in
-    let below : e_entry < sum_up_to h.sh_addr h.sh_size = leb-false _ _ (not_first _ _ _ _ (not_passed _) e2) in
+    let e2 = row_rest _ _ _ _ (not_ok _ _) e in
+    let below : e_entry < sum_up_to h.sh_addr h.sh_size = leb-false _ _ (not_first _ _ _ _ (not_ok _ _) e2) in
     omega (arith, below)
 
 -- ---- the job
@@ -129,7 +103,7 @@ unfolding ◌if◌else◌
 both true x y n h = omega arith
 both false x y n h = h
 
-job_in : (s : List ℕ) (c : Config) (version2 : Bool) (l : Layout) (e_entry : ℕ) (h : Elf64Shdr) (p : Placing)
+job_in : (s : List ℕ) (c : Config) (version2 : Bool) (l : Layout) (e_entry : ℕ) (h : Elf64Shdr) (p : Result Placing ElfError)
     → parsed s ≡ File l
     → length s ≤ 2 ^ 24
     → h.sh_offset + h.sh_size ≤ length s
@@ -146,7 +120,7 @@ job_in s c version2 l e_entry h p q short lies below =
       entry = omega (arith, lies, short, below);
     }
 
-validated_in : (s : List ℕ) (c : Config) (l : Layout) (j : Job) → parsed s ≡ File l → length s ≤ 2 ^ 24 → validated s c l ≡ Ready j → InFile s j
+validated_in : (s : List ℕ) (c : Config) (l : Layout) (j : Job) → parsed s ≡ File l → length s ≤ 2 ^ 24 → validated s c l ≡ Ok j → InFile s j
 unfolding validated
 validated_in s c l j q short e = subst (InFile s) done.1 (job_in s c version2 l h.e_entry text place q short lies below)
   where
@@ -162,42 +136,42 @@ validated_in s c l j q short e = subst (InFile s) done.1 (job_in s c version2 l 
     text : Elf64Shdr
     text = section_at s l v.text
 
-    place : Placing
+    place : Result Placing ElfError
     place = placing s l h.e_shnum version2 c.reject_broken_elfs c.optimize_rodata
 
-    done : (file_check s c l h version2 v ≡ Pass) × (job_of c version2 l h.e_entry text place ≡ j)
-    done = ready_by_lem (file_check s c l h version2 v) (job_of c version2 l h.e_entry text place) j e
+    done : (file_check s c l h version2 v ≡ Ok tt) × (job_of c version2 l h.e_entry text place ≡ j)
+    done = then_ok (file_check s c l h version2 v) (job_of c version2 l h.e_entry text place) j e
 
-    rest : (sections_check s l v then text_check version2 c.reject_broken_elfs h.e_entry text) ≡ Pass
-    rest = then_rest _ _ done.0
+    rest : (sections_check s l v then text_check version2 c.reject_broken_elfs h.e_entry text) ≡ Ok tt
+    rest = (then_both (header_check h c version2) (sections_check s l v then text_check version2 c.reject_broken_elfs h.e_entry text) tt done.0).1
 
     sections : (v.texts ≡ 1) × (v.outside ≡ false)
-    sections = sections_pass s l v (then_first _ _ rest)
+    sections = sections_pass s l v (then_both (sections_check s l v) (text_check version2 c.reject_broken_elfs h.e_entry text) tt rest).0
 
     lies : text.sh_offset + text.sh_size ≤ length s
     lies = survey_lies s l h.e_shnum sections.1 (λ z. omega (arith, sections.0, z))
 
     below : h.e_entry < text.sh_addr + text.sh_size
-    below = text_passes version2 c.reject_broken_elfs h.e_entry text (then_rest _ _ rest)
+    below = text_passes version2 c.reject_broken_elfs h.e_entry text (then_both (sections_check s l v) (text_check version2 c.reject_broken_elfs h.e_entry text) tt rest).1
 
-parsed_in : (s : List ℕ) (c : Config) (p : Parsed) (j : Job) → parsed s ≡ p → length s ≤ 2 ^ 24 → parsed_then s c p ≡ Ready j → InFile s j
-parsed_in s c (NoFile r) j q short e = absurd (not_ready _ _ e)
+parsed_in : (s : List ℕ) (c : Config) (p : Parsed) (j : Job) → parsed s ≡ p → length s ≤ 2 ^ 24 → parsed_then s c p ≡ Ok j → InFile s j
+parsed_in s c (NoFile r) j q short e = absurd (not_ok _ _ e)
 parsed_in s c (File l) j q short e = validated_in s c l j q short e
 
 pub readied : (s builtins : List ℕ) (c : Config) (image ro : ℕ) (j : Job)
-    → prepared s builtins c image ro ≡ Ready j
+    → prepared s builtins c image ro ≡ Ok j
     → InFile s j × (length s ≤ image) × (length s ≤ ro) × (ascends builtins ≡ true)
 unfolding prepared
 readied s builtins c image ro j e =
-    let w = prepared_by_lem (size_check (length s) image ro) (NotReady BuiltinsNotAscending if not (ascends builtins) else parsed_then s c (parsed s)) j e in
+    let w = then_both (size_check (length s) image ro) (Err BuiltinsNotAscending if not (ascends builtins) else parsed_then s c (parsed s)) j e in
     let sizes = size_passes (length s) image ro w.0 in
-    let up = not-false (ascends builtins) (not_first _ _ _ _ (not_ready _ _) w.1) in
-    let inside = parsed_in s c (parsed s) j refl sizes.0 (row_rest _ _ _ _ (not_ready _ _) w.1) in
+    let up = not-false (ascends builtins) (not_first _ _ _ _ (not_ok _ _) w.1) in
+    let inside = parsed_in s c (parsed s) j refl sizes.0 (row_rest _ _ _ _ (not_ok _ _) w.1) in
     (inside, sizes.1, sizes.2, up)
 
 -- ---- how the job's read-only sections are placed
 
-validated_placed : (s : List ℕ) (c : Config) (l : Layout) (j : Job) → validated s c l ≡ Ready j
+validated_placed : (s : List ℕ) (c : Config) (l : Layout) (j : Job) → validated s c l ≡ Ok j
     → j.placing ≡ placing s j.layout (file_header s).e_shnum (is_version2 (file_header s)) c.reject_broken_elfs c.optimize_rodata
 unfolding validated job_of
 validated_placed s c l j e =
@@ -205,17 +179,17 @@ validated_placed s c l j e =
     let v = survey s l h.e_shnum in
     let text = section_at s l v.text in
     let place = placing s l h.e_shnum (is_version2 h) c.reject_broken_elfs c.optimize_rodata in
-    let is : job_of c (is_version2 h) l h.e_entry text place ≡ j = (ready_by_lem (file_check s c l h (is_version2 h) v) (job_of c (is_version2 h) l h.e_entry text place) j e).1 in
+    let is : job_of c (is_version2 h) l h.e_entry text place ≡ j = (then_ok (file_check s c l h (is_version2 h) v) (job_of c (is_version2 h) l h.e_entry text place) j e).1 in
     rw (← is) refl
 
-parsed_placed : (s : List ℕ) (c : Config) (p : Parsed) (j : Job) → parsed_then s c p ≡ Ready j
+parsed_placed : (s : List ℕ) (c : Config) (p : Parsed) (j : Job) → parsed_then s c p ≡ Ok j
     → j.placing ≡ placing s j.layout (file_header s).e_shnum (is_version2 (file_header s)) c.reject_broken_elfs c.optimize_rodata
-parsed_placed s c (NoFile r) j e = absurd (not_ready _ _ e)
+parsed_placed s c (NoFile r) j e = absurd (not_ok _ _ e)
 parsed_placed s c (File l) j e = validated_placed s c l j e
 
-pub placed_as : (s builtins : List ℕ) (c : Config) (image ro : ℕ) (j : Job) → prepared s builtins c image ro ≡ Ready j
+pub placed_as : (s builtins : List ℕ) (c : Config) (image ro : ℕ) (j : Job) → prepared s builtins c image ro ≡ Ok j
     → j.placing ≡ placing s j.layout (file_header s).e_shnum (is_version2 (file_header s)) c.reject_broken_elfs c.optimize_rodata
 unfolding prepared
 placed_as s builtins c image ro j e =
-    let w = prepared_by_lem (size_check (length s) image ro) (NotReady BuiltinsNotAscending if not (ascends builtins) else parsed_then s c (parsed s)) j e in
-    parsed_placed s c (parsed s) j (row_rest _ _ _ _ (not_ready _ _) w.1)
+    let w = then_both (size_check (length s) image ro) (Err BuiltinsNotAscending if not (ascends builtins) else parsed_then s c (parsed s)) j e in
+    parsed_placed s c (parsed s) j (row_rest _ _ _ _ (not_ok _ _) w.1)

@@ -7,7 +7,7 @@ use mathlib.Core.Logic.{◌⊎◌, inl, inr, ◌↔◌}
 use mathlib.Core.Bool.{Bool, true, false, not}
 use mathlib.Core.List.{List, [], map, append-nil}
 use lib.Dec.{eqb}
-use Rattle.std.specs.Prelude.{Some, None}
+use Rattle.std.specs.Prelude.{Some, None, Err, Result, Ok}
 use Rattle.ebpf.specs.Choice.{◌if◌else◌}
 use Rattle.ebpf.proofs.Injective.{key_injective}
 use Rattle.program.specs.declared.FunctionName.TheVariants.{Entrypoint}
@@ -17,17 +17,14 @@ use Rattle.program.specs.Rows.{rank, Ascending, find, insert, remove, RegisterRe
 use Rattle.program.proofs.Cases.{zero_one}
 use Rattle.program.proofs.Rows.{not_both}
 use Rattle.program.proofs.Laws.{by_registered, find_remove_same}
+use Rattle.loader.specs.declared.read_only.Placing.TheVariants.{Borrowed, Owned}
+use Rattle.loader.specs.declared.read_only.Placing.{Placing}
 use Rattle.loader.specs.declared.error.ElfError.{ElfError}
 use Rattle.loader.specs.declared.error.ElfError.TheVariants.{InvalidEntrypoint, SymbolHashCollision, TableFull}
-use Rattle.loader.specs.declared.answer.Load.TheVariants.{Refused as Refuses}
 use Rattle.loader.specs.declared.deeds.Deed.{Deed}
-use Rattle.loader.specs.declared.deeds.Deed.TheVariants.{Refuse}
-use Rattle.loader.specs.declared.read_only.Placing.{Placing}
-use Rattle.loader.specs.declared.read_only.Placing.TheVariants.{Borrowed, Owned, Refused as NotPlaced}
 use Rattle.loader.specs.declared.validate.Config.{Config}
 use Rattle.loader.specs.declared.validate.Job.{Job}
-use Rattle.loader.specs.declared.validate.Prepared.{Prepared}
-use Rattle.loader.specs.declared.validate.Prepared.TheVariants.{Ready, Refused as NotReady}
+use Rattle.loader.specs.declared.answer.Accepted.{Accepted}
 use Rattle.loader.specs.Functions.{row_for}
 use Rattle.loader.specs.Deeds.{deed_trace}
 use Rattle.loader.specs.Labels.{label_row, labels_trace}
@@ -89,16 +86,16 @@ job_splits file builtins j =
 
 -- ---- the entry and the placing
 
-placed_clear : (cap : ℕ) (p : Placing) → PlainPlacing p → (im : List ℕ) (rows : List Row) (m : ℕ) → Collides (settle cap (placed_trace p im) rows m) → ⊥
+placed_clear : (cap : ℕ) (p : Result Placing ElfError) → PlainPlacing p → (im : List ℕ) (rows : List Row) (m : ℕ) → Collides (settle cap (placed_trace p im) rows m) → ⊥
 unfolding settle
-placed_clear cap (Borrowed offset start n) q im rows m c = let e = c.1 in zero_one (cc)
-placed_clear cap (Owned offset lowest n) q im rows m c = let e = c.1 in zero_one (cc)
-placed_clear cap (NotPlaced r) q im rows m c = no_collision r q c
+placed_clear cap (Ok (Borrowed offset start n)) q im rows m c = let e = c.1 in zero_one (cc)
+placed_clear cap (Ok (Owned offset lowest n)) q im rows m c = let e = c.1 in zero_one (cc)
+placed_clear cap (Err r) q im rows m c = no_collision r q c
 
-placed_counted : (p : Placing) → PlainPlacing p → (im : List ℕ) → Counted (placed_trace p im)
-placed_counted (Borrowed offset start n) q im = tt
-placed_counted (Owned offset lowest n) q im = tt
-placed_counted (NotPlaced r) q im = q
+placed_counted : (p : Result Placing ElfError) → PlainPlacing p → (im : List ℕ) → Counted (placed_trace p im)
+placed_counted (Ok (Borrowed offset start n)) q im = tt
+placed_counted (Ok (Owned offset lowest n)) q im = tt
+placed_counted (Err r) q im = q
 
 module _ (file builtins : List ℕ) (j : Job) (off : j.check_collision ≡ false) (within : InFile file j) (place : PlainPlacing j.placing) where
   abbrev row : Row
@@ -107,7 +104,7 @@ module _ (file builtins : List ℕ) (j : Job) (off : j.check_collision ≡ false
   -- the entry's two ways
   entered : (Q : Trace → Type 0) (im : List ℕ) → Q (stop InvalidEntrypoint) → Q (register row (done im)) → Q (deed_trace (entry_deed builtins j) im)
   unfolding entry_deed deed_trace
-  entered Q im no_slot goes_on = picks (λ (d : Deed). Q (deed_trace d im)) (not (eqb ((j.e_entry - j.sh_addr) % 8) 0)) (Refuse InvalidEntrypoint) (label_row (row_for builtins j Entrypoint (entry_index j)))
+  entered Q im no_slot goes_on = picks (λ (d : Result Deed ElfError). Q (deed_trace d im)) (not (eqb ((j.e_entry - j.sh_addr) % 8) 0)) (Err InvalidEntrypoint) (label_row (row_for builtins j Entrypoint (entry_index j)))
       (λ _. no_slot)
       (λ _. rw (free_row builtins j Entrypoint (entry_index j) off) goes_on)
 
@@ -214,17 +211,17 @@ module _ (file builtins : List ℕ) (j : Job) (off : j.check_collision ≡ false
 
 -- a table's refusal is the trace's
 module _ (file : List ℕ) (j : Job) (m : ℕ) (place : PlainPlacing j.placing) (r : ElfError) (table : of_table r ≡ true) where
-  held_not : (p : Placing) → PlainPlacing p → (im : List ℕ) (rows : List Row) (moves : ℕ) → answer_of (held_by file j m p im rows moves) ≡ Refuses r → ⊥
-  held_not (Borrowed offset start n) q im rows moves e = zero_one (cc)
-  held_not (Owned offset lowest n) q im rows moves e = zero_one (cc)
-  held_not (NotPlaced r') q im rows moves e = let s : r' ≡ r = cc in let t : of_table r' ≡ true = rw s table in zero_one (cc)
+  held_not : (p : Result Placing ElfError) → PlainPlacing p → (im : List ℕ) (rows : List Row) (moves : ℕ) → answer_of (held_by file j m p im rows moves) ≡ Err r → ⊥
+  held_not (Ok (Borrowed offset start n)) q im rows moves e = zero_one (cc)
+  held_not (Ok (Owned offset lowest n)) q im rows moves e = zero_one (cc)
+  held_not (Err r') q im rows moves e = let s : r' ≡ r = cc in let t : of_table r' ≡ true = rw s table in zero_one (cc)
 
-  answered : (s : Settled) → (answer_of (on_trace file j m s) ≡ Refuses r) ↔ (s ≡ refused r)
+  answered : (s : Settled) → (answer_of (on_trace file j m s) ≡ Err r) ↔ (s ≡ refused r)
   answered (accepted im rows moves) = (λ e. absurd (held_not j.placing place im rows moves e), λ e. absurd (zero_one (cc)))
-  answered (refused r') = (λ e. let s : r' ≡ r = cc in ap refused s, λ e. let s : r' ≡ r = cc in ap Refuses s)
+  answered (refused r') = (λ e. let s : r' ≡ r = cc in ap refused s, λ e. let s : r' ≡ r = cc in ap Err s)
 
 -- a plain refusal is no table's
-plain_not : (s r : ElfError) → Plain s → of_table r ≡ true → Refuses s ≡ Refuses r → ⊥
+plain_not : (s r : ElfError) → Plain s → of_table r ≡ true → ◌≡◌ {A = Result Accepted ElfError} (Err s) (Err r) → ⊥
 plain_not s r p q e = let same : s ≡ r = cc in let t : of_table s ≡ true = rw same q in zero_one (cc)
 
 none_fewer : (cap : ℕ) → cap < distinct [] → ⊥
@@ -234,14 +231,14 @@ none_fewer cap l = omega arith
 -- ---- THE CLAIMS
 
 module _ (file builtins : List ℕ) (c : Config) (n m cap : ℕ) (off : c.external_internal_function_hash_collision ≡ false) where
-  pub collides : ((key : ℕ) × (answer_of (load_of file builtins c n m cap) ≡ Refuses (SymbolHashCollision key))) ↔ Clash (reached_early file builtins cap (prepared file builtins c n m))
+  pub collides : ((key : ℕ) × (answer_of (load_of file builtins c n m cap) ≡ Err (SymbolHashCollision key))) ↔ Clash (reached_early file builtins cap (prepared file builtins c n m))
   unfolding load_of
   collides = go (prepared file builtins c n m) refl (prepared_plain file builtins c n m)
     where
-      go : (p : Prepared) → prepared file builtins c n m ≡ p → PlainlyPrepared c p
-          → ((key : ℕ) × (answer_of (on_prepared file builtins m cap p) ≡ Refuses (SymbolHashCollision key))) ↔ Clash (reached_early file builtins cap p)
-      go (NotReady r) e plain = (λ h. absurd (plain_not r (SymbolHashCollision h.0) plain refl h.1), λ h. absurd h.2)
-      go (Ready j) e plain =
+      go : (p : Result Job ElfError) → prepared file builtins c n m ≡ p → PlainlyPrepared c p
+          → ((key : ℕ) × (answer_of (on_prepared file builtins m cap p) ≡ Err (SymbolHashCollision key))) ↔ Clash (reached_early file builtins cap p)
+      go (Err r) e plain = (λ h. absurd (plain_not r (SymbolHashCollision h.0) plain refl h.1), λ h. absurd h.2)
+      go (Ok j) e plain =
           let within = (readied file builtins c n m j e).0 in
           let job = job_collides file builtins j (plain.0 ∙ off) within plain.1 cap in
           let s : Settled = settle cap (job_trace file builtins j file) [] 0 in (
@@ -249,14 +246,14 @@ module _ (file builtins : List ℕ) (c : Config) (n m cap : ℕ) (off : c.extern
             λ h. let k = job.1 h in (k.0, (answered file j m plain.1 (SymbolHashCollision k.0) refl s).1 k.1),
           )
 
-  pub fills : ((rows : ℕ) × (answer_of (load_of file builtins c n m cap) ≡ Refuses (TableFull rows))) ↔ (cap < distinct (map (λ r. r.key) (reached_in file builtins cap (prepared file builtins c n m))))
+  pub fills : ((rows : ℕ) × (answer_of (load_of file builtins c n m cap) ≡ Err (TableFull rows))) ↔ (cap < distinct (map (λ r. r.key) (reached_in file builtins cap (prepared file builtins c n m))))
   unfolding load_of
   fills = go (prepared file builtins c n m) refl (prepared_plain file builtins c n m)
     where
-      go : (p : Prepared) → prepared file builtins c n m ≡ p → PlainlyPrepared c p
-          → ((rows : ℕ) × (answer_of (on_prepared file builtins m cap p) ≡ Refuses (TableFull rows))) ↔ (cap < distinct (map (λ r. r.key) (reached_in file builtins cap p)))
-      go (NotReady r) e plain = (λ h. absurd (plain_not r (TableFull h.0) plain refl h.1), λ h. absurd (none_fewer cap h))
-      go (Ready j) e plain =
+      go : (p : Result Job ElfError) → prepared file builtins c n m ≡ p → PlainlyPrepared c p
+          → ((rows : ℕ) × (answer_of (on_prepared file builtins m cap p) ≡ Err (TableFull rows))) ↔ (cap < distinct (map (λ r. r.key) (reached_in file builtins cap p)))
+      go (Err r) e plain = (λ h. absurd (plain_not r (TableFull h.0) plain refl h.1), λ h. absurd (none_fewer cap h))
+      go (Ok j) e plain =
           let within = (readied file builtins c n m j e).0 in
           let job = job_fills file builtins j (plain.0 ∙ off) within plain.1 cap in
           let s : Settled = settle cap (job_trace file builtins j file) [] 0 in (

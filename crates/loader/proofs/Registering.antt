@@ -11,7 +11,7 @@ use lib.Bits.{bit_and}
 use native.Mathlib.Omega.{arith}
 use borrow.Author.Tests.{eqb-true}
 use Rattle.program.specs.HashedLegacy.{LegacyResult}
-use Rattle.std.specs.Prelude.{Ok, Err}
+use Rattle.std.specs.Prelude.{Ok, Err, Option, Some, None, Result}
 use Rattle.ebpf.specs.Choice.{◌if◌else◌, eq_not}
 use Rattle.elf_parser.specs.declared.types.Elf64Sym.{Elf64Sym}
 use Rattle.elf_parser.specs.declared.parts.Place.{Place}
@@ -24,16 +24,11 @@ use Rattle.program.specs.declared.Row.{Row}
 use Rattle.program.specs.declared.FunctionName.TheVariants.{OfIndex, Entrypoint}
 use Rattle.program.proofs.Cases.{zero_one}
 use Rattle.loader.specs.declared.error.ElfError.TheVariants.{InvalidEntrypoint}
-use Rattle.loader.specs.declared.calls.Call.{Call}
-use Rattle.loader.specs.declared.calls.Call.TheVariants.{None, To, Outside}
 use Rattle.loader.specs.declared.deeds.Deed.{Deed}
-use Rattle.loader.specs.declared.deeds.Deed.TheVariants.{Refuse}
 use Rattle.loader.specs.declared.deeds.Entry.{Entry}
-use Rattle.loader.specs.declared.deeds.Entry.TheVariants.{Nothing, Refuse as NoEntry, Register as Enter}
-use Rattle.loader.specs.declared.relocations.Addend.{Addend}
-use Rattle.loader.specs.declared.relocations.Mapped.{Mapped}
-use Rattle.loader.specs.declared.relocations.Mapped.TheVariants.{At as Placed, Refused as Unmapped}
+use Rattle.loader.specs.declared.deeds.Entry.TheVariants.{Nothing, Register as Enter}
 use Rattle.loader.specs.declared.validate.Job.{Job}
+use Rattle.loader.specs.declared.error.ElfError.{ElfError}
 use Rattle.loader.specs.Deeds.{entry_of, written, entry_trace, deed_trace}
 use Rattle.loader.specs.Functions.{row_for, symbol_function, index_of}
 use Rattle.loader.specs.Addresses.{sum_up_to}
@@ -50,32 +45,32 @@ use Rattle.loader.proofs.Traces.{asks_then, keeps_then, keeps_each, ends_turn, a
 
 -- ---- a deed
 
-entry_asks : (e : Entry) (P : Row → Type 0) → AsksFor e P → (im im' : List ℕ) → Ends (entry_trace e im) im' → (row : Row) → Asks row (entry_trace e im) ↔ P row
-entry_asks Nothing P h im im' e row = (λ a. absurd a, λ p. absurd (h row p))
-entry_asks (NoEntry r) P h im im' e row = absurd e
-entry_asks (Enter r true) P h im im' e row = absurd e
-entry_asks (Enter r false) P h im im' e row = (λ a. (h row).1 (only a), λ p. inl ((h row).0 p))
+entry_asks : (e : Result Entry ElfError) (P : Row → Type 0) → AsksFor e P → (im im' : List ℕ) → Ends (entry_trace e im) im' → (row : Row) → Asks row (entry_trace e im) ↔ P row
+entry_asks (Ok Nothing) P h im im' e row = (λ a. absurd a, λ p. absurd (h row p))
+entry_asks (Err r) P h im im' e row = absurd e
+entry_asks (Ok (Enter r true)) P h im im' e row = absurd e
+entry_asks (Ok (Enter r false)) P h im im' e row = (λ a. (h row).1 (only a), λ p. inl ((h row).0 p))
   where
     only : (row ≡ r) ⊎ ⊥ → row ≡ r
     only (inl s) = s
     only (inr z) = absurd z
 
-pub deed_asks : (d : Deed) (P : Row → Type 0) → AsksFor (entry_of d) P → (im im' : List ℕ) → Ends (deed_trace d im) im' → (row : Row) → Asks row (deed_trace d im) ↔ P row
+pub deed_asks : (d : Result Deed ElfError) (P : Row → Type 0) → AsksFor (entry_of d) P → (im im' : List ℕ) → Ends (deed_trace d im) im' → (row : Row) → Asks row (deed_trace d im) ↔ P row
 unfolding deed_trace
 deed_asks d P h im im' e row = entry_asks (entry_of d) P h (written d im) im' e row
 
-pub deed_keeps : (d : Deed) (im : List ℕ) → Keeps (deed_trace d im)
+pub deed_keeps : (d : Result Deed ElfError) (im : List ℕ) → Keeps (deed_trace d im)
 unfolding deed_trace
 deed_keeps d im = go (entry_of d) (written d im)
   where
-    go : (e : Entry) (im : List ℕ) → Keeps (entry_trace e im)
-    go Nothing im = tt
-    go (NoEntry r) im = tt
-    go (Enter r true) im = tt
-    go (Enter r false) im = tt
+    go : (e : Result Entry ElfError) (im : List ℕ) → Keeps (entry_trace e im)
+    go (Ok Nothing) im = tt
+    go (Err r) im = tt
+    go (Ok (Enter r true)) im = tt
+    go (Ok (Enter r false)) im = tt
 
 -- a choice asks for what it picks
-either : (b : Bool) (x y : Deed) (P : Row → Type 0) → (b ≡ true → AsksFor (entry_of x) P) → (b ≡ false → AsksFor (entry_of y) P) → AsksFor (entry_of (x if b else y)) P
+either : (b : Bool) (x y : Result Deed ElfError) (P : Row → Type 0) → (b ≡ true → AsksFor (entry_of x) P) → (b ≡ false → AsksFor (entry_of y) P) → AsksFor (entry_of (x if b else y)) P
 unfolding ◌if◌else◌
 either true x y P p q = p refl
 either false x y P p q = q refl
@@ -83,29 +78,29 @@ either false x y P p q = q refl
 -- ---- local calls
 
 module _ (file builtins : List ℕ) (j : Job) (i : ℕ) (l : i < slot_count j) where
-  row_asks : (to : ℕ) → call_at (text_of file j) j.version2 i ≡ To to → (r : LegacyResult) → row_for builtins j OfIndex to ≡ r → AsksFor (entry_of (call_row (immediate j i) r)) (OfCall file builtins j i)
+  row_asks : (to : ℕ) → call_at (text_of file j) j.version2 i ≡ Ok (Some to) → (r : LegacyResult) → row_for builtins j OfIndex to ≡ r → AsksFor (entry_of (call_row (immediate j i) r)) (OfCall file builtins j i)
   row_asks to c (Err taken) e = tt
   row_asks to c (Ok r) e = λ row. (
     λ h.
-        let same : h.0 ≡ to = (let t : To h.0 ≡ To to = sym h.1.1 ∙ c in cc) in
+        let same : h.0 ≡ to = (let t : Ok (Some h.0) ≡ Ok (Some to) = sym h.1.1 ∙ c in cc) in
         let f : Ok row ≡ Ok r = sym h.2 ∙ ap (row_for builtins j OfIndex) same ∙ e in
         cc,
     λ h. (to, (l, c), e ∙ ap Ok (sym h)),
   )
 
-  call_asks : (c : Call) → call_at (text_of file j) j.version2 i ≡ c → AsksFor (entry_of (call_by builtins j i c)) (OfCall file builtins j i)
-  call_asks None e = λ row h. let t = h.1.1 in zero_one (cc)
-  call_asks Outside e = tt
-  call_asks (To to) e = row_asks to e (row_for builtins j OfIndex to) refl
+  call_asks : (c : Result (Option ℕ) ElfError) → call_at (text_of file j) j.version2 i ≡ c → AsksFor (entry_of (call_by builtins j i c)) (OfCall file builtins j i)
+  call_asks (Ok None) e = λ row h. let t = h.1.1 in zero_one (cc)
+  call_asks (Err r) e = tt
+  call_asks (Ok (Some to)) e = row_asks to e (row_for builtins j OfIndex to) refl
 
   slot_asks : AsksFor (entry_of (call_deed file builtins j i)) (OfCall file builtins j i)
   unfolding call_deed
   slot_asks = call_asks (call_at (text_of file j) j.version2 i) refl
 
   -- a call that does not stop has a row
-  call_row_lem : (im im' : List ℕ) → Ends (slot_trace file builtins j i im) im' → (to : ℕ) → call_at (text_of file j) j.version2 i ≡ To to → (row : Row) × (row_for builtins j OfIndex to ≡ Ok row)
+  call_row_lem : (im im' : List ℕ) → Ends (slot_trace file builtins j i im) im' → (to : ℕ) → call_at (text_of file j) j.version2 i ≡ Ok (Some to) → (row : Row) × (row_for builtins j OfIndex to ≡ Ok row)
   unfolding slot_trace call_deed deed_trace
-  call_row_lem im im' e to c = go (row_for builtins j OfIndex to) (subst (λ (c : Call). Ends (deed_trace (call_by builtins j i c) im) im') c e)
+  call_row_lem im im' e to c = go (row_for builtins j OfIndex to) (subst (λ (c : Result (Option ℕ) ElfError). Ends (deed_trace (call_by builtins j i c) im) im') c e)
     where
       go : (r : LegacyResult) → Ends (entry_trace (entry_of (call_row (immediate j i) r)) (written (call_row (immediate j i) r) im)) im' → (row : Row) × (r ≡ Ok row)
       go (Ok row) e = (row, refl)
@@ -116,10 +111,10 @@ module _ (file builtins : List ℕ) (j : Job) (i : ℕ) (l : i < slot_count j) w
   unfolding slot_trace call_deed deed_trace
   call_to im im' e c = go (call_at (text_of file j) j.version2 i) refl
     where
-      go : (d : Call) → call_at (text_of file j) j.version2 i ≡ d → (to : ℕ) × CallsTo file j i to
-      go None q = absurd (local_calls file j i c q)
-      go (To to) q = (to, (c.0, q))
-      go Outside q = absurd (subst (λ (d : Call). Ends (deed_trace (call_by builtins j i d) im) im') q e)
+      go : (d : Result (Option ℕ) ElfError) → call_at (text_of file j) j.version2 i ≡ d → (to : ℕ) × CallsTo file j i to
+      go (Ok None) q = absurd (local_calls file j i c q)
+      go (Ok (Some to)) q = (to, (c.0, q))
+      go (Err r) q = absurd (subst (λ (d : Result (Option ℕ) ElfError). Ends (deed_trace (call_by builtins j i d) im) im') q e)
 
 -- ---- relocations
 
@@ -138,7 +133,7 @@ module _ (P : Row → Type 0) (none : (row : Row) → P row → ⊥) where
   symbol_none len split at addend number (Symbol y) = either split _ _ P (λ e. halves_none len at (sum_up_to at 8) _) (λ e. word_none len at _)
   symbol_none len split at addend number (NoSym r) = tt
 
-  none6464 : (s im : List ℕ) (j : Job) (split : Bool) (r number : ℕ) (addend : Addend) → AsksFor (entry_of (plan6464 s im j.layout split r number addend)) P
+  none6464 : (s im : List ℕ) (j : Job) (split : Bool) (r number : ℕ) (addend : Option ℕ) → AsksFor (entry_of (plan6464 s im j.layout split r number addend)) P
   unfolding plan6464
   none6464 s im j split r number addend = either _ _ _ P (λ e. tt) (λ e. symbol_none (length im) split _ _ number (dynamic_symbol_of s j.layout number))
 
@@ -146,7 +141,7 @@ module _ (P : Row → Type 0) (none : (row : Row) → P row → ⊥) where
   unfolding relative_text
   text_none len low high address = either _ _ _ P (λ e. tt) (λ e. either _ _ _ P (λ f. tt) (λ f. either _ _ _ P (λ g. tt) (λ g. none)))
 
-  relative_none : (im : List ℕ) (version2 in_text_lem : Bool) (r : ℕ) (addend : Addend) → AsksFor (entry_of (plan_relative im version2 in_text_lem r addend)) P
+  relative_none : (im : List ℕ) (version2 in_text_lem : Bool) (r : ℕ) (addend : Option ℕ) → AsksFor (entry_of (plan_relative im version2 in_text_lem r addend)) P
   unfolding plan_relative
   relative_none im version2 in_text_lem r addend = either in_text_lem _ _ P (λ e. text_none (length im) _ _ _) (λ e. word_none (length im) r _)
 
@@ -202,14 +197,14 @@ module _ (file builtins : List ℕ) (j : Job) (i : ℕ) (l : i < relocation_coun
   other_none : (k : ℕ) → (k ≡ 10 → ⊥) → info % 2 ^ 32 ≡ k → (row : Row) → OfThis row → ⊥
   other_none k ne e row h = ne (sym e ∙ h.1)
 
-  place_asks : (im : List ℕ) (p : Mapped) → AsksFor (entry_of (plan_of file im builtins j p info (addend_of file j i))) OfThis
+  place_asks : (im : List ℕ) (p : Option ℕ) → AsksFor (entry_of (plan_of file im builtins j p info (addend_of file j i))) OfThis
   unfolding plan_at plan6432
-  place_asks im (Placed r) =
+  place_asks im (Some r) =
       either _ _ _ OfThis (λ d. tt)
       (λ d. either _ _ _ OfThis (λ e. none6464 OfThis (other_none 1 (λ z. absurd (omega arith)) (eqb-true (info % 2 ^ 32) 1 e)) file im j _ r _ _)
       (λ e. either _ _ _ OfThis (λ f. relative_none OfThis (other_none 8 (λ z. absurd (omega arith)) (eqb-true (info % 2 ^ 32) 8 f)) im j.version2 _ r _)
       (λ f. either _ _ _ OfThis (λ g. symbol_asks (eqb-true (info % 2 ^ 32) 10 g) (length im) r (dynamic_symbol_of file j.layout (info / 2 ^ 32)) refl) (λ g. tt))))
-  place_asks im Unmapped = tt
+  place_asks im None = tt
 
   relocation_asks : (im : List ℕ) → AsksFor (entry_of (relocation_deed file builtins j i im)) OfThis
   relocation_asks im = place_asks im (place_at file j i)
@@ -274,7 +269,7 @@ pub entry_row : (builtins : List ℕ) (j : Job) (im im' : List ℕ) → Ends (de
 unfolding entry_deed deed_trace ◌if◌else◌
 entry_row builtins j im im' e = go (not (eqb ((j.e_entry - j.sh_addr) % 8) 0)) (row_for builtins j Entrypoint (entry_index j)) e
   where
-    go : (b : Bool) (x : LegacyResult) → Ends (deed_trace (Refuse InvalidEntrypoint if b else label_row x) im) im' → (row : Row) × (x ≡ Ok row)
+    go : (b : Bool) (x : LegacyResult) → Ends (deed_trace (Err InvalidEntrypoint if b else label_row x) im) im' → (row : Row) × (x ≡ Ok row)
     go true x e = absurd e
     go false (Ok row) e = (row, refl)
     go false (Err taken) e = absurd e

@@ -18,10 +18,10 @@ use Rattle.std.specs.Prelude.{Some}
 use Rattle.program.specs.Table.{Slices}
 use Rattle.program.proofs.Cases.{zero_one}
 use Rattle.program.specs.declared.FunctionName.TheVariants.{OfIndex}
-use Rattle.loader.specs.declared.calls.Call.{Call}
-use Rattle.loader.specs.declared.calls.Call.TheVariants.{None, To, Outside}
 use Rattle.loader.specs.declared.deeds.Deed.TheVariants.{Skip}
 use Rattle.loader.specs.declared.validate.Job.{Job}
+use Rattle.std.specs.Prelude.{Ok, Option, Some, None, Result, Err}
+use Rattle.loader.specs.declared.error.ElfError.{ElfError}
 use Rattle.loader.specs.Functions.{row_for}
 use Rattle.loader.specs.Deeds.{DeedFits, deed_trace}
 use Rattle.loader.specs.Trace.{and_then, each}
@@ -33,10 +33,10 @@ row_fits : (n at : ℕ) (r : LegacyResult) → at + 4 ≤ n → DeedFits n (call
 row_fits n at (Ok row) h = h
 row_fits n at (Err taken) h = tt
 
-by_fits : (builtins : List ℕ) (j : Job) (i n : ℕ) (c : Call) → immediate j i + 4 ≤ n → DeedFits n (call_by builtins j i c)
-by_fits builtins j i n None h = tt
-by_fits builtins j i n Outside h = tt
-by_fits builtins j i n (To index) h = row_fits n (immediate j i) (row_for builtins j OfIndex index) h
+by_fits : (builtins : List ℕ) (j : Job) (i n : ℕ) (c : Result (Option ℕ) ElfError) → immediate j i + 4 ≤ n → DeedFits n (call_by builtins j i c)
+by_fits builtins j i n (Ok None) h = tt
+by_fits builtins j i n (Err r) h = tt
+by_fits builtins j i n (Ok (Some index)) h = row_fits n (immediate j i) (row_for builtins j OfIndex index) h
 
 -- a slot's immediate lies in an image of n bytes
 pub call_fits_in : (file builtins : List ℕ) (j : Job) (i n : ℕ) → immediate j i + 4 ≤ n → DeedFits n (call_deed file builtins j i)
@@ -54,14 +54,14 @@ whole : (file : List ℕ) (j : Job) → InFile file j → length (text_of file j
 whole file j inside = length-take-le j.length (drop j.start file) (simp length-drop (omega (arith, inside.text)))
 
 -- by its slot, which is there
-none_by : (text : List ℕ) (version2 : Bool) (i : ℕ) → i < length text / 8 → (le 1 text (8 * i) ≡ 0x85 → ⊥) → call_at text version2 i ≡ None
+none_by : (text : List ℕ) (version2 : Bool) (i : ℕ) → i < length text / 8 → (le 1 text (8 * i) ≡ 0x85 → ⊥) → call_at text version2 i ≡ Ok None
 unfolding call_at insn_at slot_at call_of is_local_call ◌if◌else◌
 none_by text version2 i h e =
     let there : leb (length text / 8) i ≡ false = lt-leb (length text / 8) i h in
     let other : eqb (le 1 text (8 * i)) 0x85 ≡ false = ne_eqb _ _ e in
     rw there (rw other refl)
 
-no_call : (file builtins : List ℕ) (j : Job) → InFile file j → (i : ℕ) → i < slot_count j → (get_or file (j.start + 8 * i) 0 ≡ 0x85 → ⊥) → call_deed file builtins j i ≡ Skip
+no_call : (file builtins : List ℕ) (j : Job) → InFile file j → (i : ℕ) → i < slot_count j → (get_or file (j.start + 8 * i) 0 ≡ 0x85 → ⊥) → call_deed file builtins j i ≡ Ok Skip
 unfolding call_deed
 no_call file builtins j inside i h e =
     let text = text_of file j in
@@ -80,7 +80,7 @@ next_bounds file start (suc n) i = go (eqb (get_or file (start + 8 * i) 0) 0x85)
 
 -- so what slots ask for is what those from the next call on ask for
 module _ (file builtins : List ℕ) (j : Job) (inside : InFile file j) (im : List ℕ) where
-  passed : (n i : ℕ) → call_deed file builtins j i ≡ Skip → each (slot_trace file builtins j) (suc n) i im ≡ each (slot_trace file builtins j) n (i + 1) im
+  passed : (n i : ℕ) → call_deed file builtins j i ≡ Ok Skip → each (slot_trace file builtins j) (suc n) i im ≡ each (slot_trace file builtins j) n (i + 1) im
   unfolding slot_trace deed_trace each and_then
   passed n i e = rw e refl
 

@@ -2,7 +2,7 @@
 use Prim.Native.Nat.{ℕ, zero, suc, ◌+◌, ◌-◌, ◌*◌, ◌/◌, ◌≤◌, ◌<◌}
 use Rattle.program.specs.HashedLegacy.{LegacyResult}
 use Rattle.std.proofs.Common.{arith, ◌∙◌}
-use Rattle.std.specs.Prelude.{◌≡◌, Bool, ◌&&◌, not, List, length, take, drop, get_or, ltb, Ok, Err}
+use Rattle.std.specs.Prelude.{◌≡◌, Bool, ◌&&◌, not, List, length, take, drop, get_or, ltb, Ok, Err, Result, Option, Some, None}
 use Rattle.std.proofs.Math.Path.{refl}
 use Rattle.std.proofs.Math.Bool.{true, false}
 use Rattle.std.proofs.Math.Dec.{eqb}
@@ -10,46 +10,50 @@ use borrow.Author.Tests.{eq-eqb, ne_eqb}
 use Rattle.ebpf.specs.Choice.{◌if◌else◌}
 use Rattle.ebpf.specs.Instructions.{insn_at}
 use Rattle.ebpf.specs.declared.Insn.{Insn}
-use Rattle.std.specs.Prelude.{Option, Some, None as NoInsn}
+use Rattle.std.specs.Prelude.{Option, Some, None}
 use Rattle.program.specs.declared.FunctionName.TheVariants.{OfIndex}
 use Rattle.loader.specs.declared.error.ElfError.TheVariants.{RelativeJumpOutOfBounds, SymbolHashCollision}
-use Rattle.loader.specs.declared.calls.Call.{Call}
-use Rattle.loader.specs.declared.calls.Call.TheVariants.{None, To, Outside}
 use Rattle.loader.specs.declared.deeds.Deed.{Deed}
-use Rattle.loader.specs.declared.deeds.Deed.TheVariants.{Skip, Refuse, Register}
+use Rattle.loader.specs.declared.deeds.Deed.TheVariants.{Skip, Register}
 use Rattle.loader.specs.declared.validate.Job.{Job}
+use Rattle.loader.specs.declared.error.ElfError.{ElfError}
 use Rattle.loader.specs.Functions.{row_for}
 use Rattle.loader.specs.Trace.{Trace, each}
 use Rattle.loader.specs.Deeds.{deed_trace}
 
--- a target among `count` slots
-unfoldable pub inside : ℕ → ℕ → Call
-inside count to = To to if ltb to count else Outside
+-- a target among `count` slots, of the call in slot number i
+unfoldable pub inside : ℕ → ℕ → ℕ → Result ℕ ElfError
+inside count i to = Ok to if ltb to count else Err (RelativeJumpOutOfBounds i)
 
 -- own index + 1 + the signed immediate: n from 2 ^ 31 on stands for n − 2 ^ 32
-unfoldable pub target : ℕ → ℕ → ℕ → Call
+unfoldable pub target : ℕ → ℕ → ℕ → Result ℕ ElfError
 target count i imm =
-    inside count (i + 1 + imm) if ltb imm 0x8000_0000 else
-    Outside if ltb (i + 1 + imm) 0x1_0000_0000 else
-    inside count (i + 1 + imm - 0x1_0000_0000)
+    inside count i (i + 1 + imm) if ltb imm 0x8000_0000 else
+    Err (RelativeJumpOutOfBounds i) if ltb (i + 1 + imm) 0x1_0000_0000 else
+    inside count i (i + 1 + imm - 0x1_0000_0000)
 
 -- a local call: opcode 0x85, immediate not −1, in version 2 source not 0
 unfoldable pub is_local_call : Bool → Insn → Bool
 is_local_call version2 insn = eqb insn.opc 0x85 && (not (eqb insn.imm 0xffff_ffff) && not (version2 && eqb insn.src 0))
 
-unfoldable pub call_of : ℕ → Bool → ℕ → Insn → Call
-call_of count version2 i insn = target count i insn.imm if is_local_call version2 insn else None
+-- what is called, if anything
+abbrev pub calls : Result ℕ ElfError → Result (Option ℕ) ElfError
+calls (Ok to) = Ok (Some to)
+calls (Err r) = Err r
+
+unfoldable pub call_of : ℕ → Bool → ℕ → Insn → Result (Option ℕ) ElfError
+call_of count version2 i insn = calls (target count i insn.imm) if is_local_call version2 insn else Ok None
 
 abbrev pub local_call_in : Bool → Option Insn → Bool
-local_call_in version2 NoInsn = false
+local_call_in version2 None = false
 local_call_in version2 (Some insn) = is_local_call version2 insn
 
-abbrev pub call_in : ℕ → Bool → ℕ → Option Insn → Call
-call_in count version2 i NoInsn = None
+abbrev pub call_in : ℕ → Bool → ℕ → Option Insn → Result (Option ℕ) ElfError
+call_in count version2 i None = Ok None
 call_in count version2 i (Some insn) = call_of count version2 i insn
 
 -- what slot number i of a text calls
-unfoldable pub call_at : List ℕ → Bool → ℕ → Call
+unfoldable pub call_at : List ℕ → Bool → ℕ → Result (Option ℕ) ElfError
 call_at text version2 i = call_in (length text / 8) version2 i (insn_at text i)
 
 -- the text's bytes in the file, and its whole slots
@@ -63,17 +67,17 @@ slot_count j = j.length / 8
 abbrev pub immediate : Job → ℕ → ℕ
 immediate j i = j.start + 8 * i + 4
 
-abbrev pub call_row : ℕ → LegacyResult → Deed
-call_row at (Ok row) = Register row at
-call_row at (Err taken) = Refuse (SymbolHashCollision taken.key)
+abbrev pub call_row : ℕ → LegacyResult → Result Deed ElfError
+call_row at (Ok row) = Ok (Register row at)
+call_row at (Err taken) = Err (SymbolHashCollision taken.key)
 
-abbrev pub call_by : List ℕ → Job → ℕ → Call → Deed
-call_by builtins j i None = Skip
-call_by builtins j i Outside = Refuse (RelativeJumpOutOfBounds i)
-call_by builtins j i (To index) = call_row (immediate j i) (row_for builtins j OfIndex index)
+abbrev pub call_by : List ℕ → Job → ℕ → Result (Option ℕ) ElfError → Result Deed ElfError
+call_by builtins j i (Ok None) = Ok Skip
+call_by builtins j i (Err r) = Err r
+call_by builtins j i (Ok (Some index)) = call_row (immediate j i) (row_for builtins j OfIndex index)
 
 -- what a load does about slot number i
-unfoldable pub call_deed : List ℕ → List ℕ → Job → ℕ → Deed
+unfoldable pub call_deed : List ℕ → List ℕ → Job → ℕ → Result Deed ElfError
 call_deed file builtins j i = call_by builtins j i (call_at (text_of file j) j.version2 i)
 
 unfoldable pub slot_trace : List ℕ → List ℕ → Job → ℕ → List ℕ → Trace

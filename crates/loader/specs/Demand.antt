@@ -1,7 +1,7 @@
 -- Demand 3: one claim about a whole load, in the scope's words.
 use Rattle.program.specs.declared.RegisterError.TheVariants.{Collision, Full}
 use Rattle.program.specs.declared.Registered.TheVariants.{Inserted, Repeat}
-use Rattle.std.specs.Prelude.{ℕ, suc, ◌+◌, ◌-◌, ◌/◌, ◌%◌, ◌<◌, ◌^◌, ◌≡◌, Bool, true, false, ◌||◌, not, ◌⊎◌, ◌↔◌, List, [], ◌∷◌, map, take, drop, get_or, eqb, Option, Some, Ok, Err}
+use Rattle.std.specs.Prelude.{ℕ, suc, ◌+◌, ◌-◌, ◌/◌, ◌%◌, ◌<◌, ◌^◌, ◌≡◌, Bool, true, false, ◌||◌, not, ◌⊎◌, ◌↔◌, List, [], ◌∷◌, map, take, drop, get_or, eqb, Option, Some, Ok, Err, Result, None}
 use Rattle.std.specs.Int.Bits.{bit_and}
 use Rattle.ebpf.specs.Choice.{◌if◌else◌}
 use Rattle.ebpf.specs.LittleEndian.{le}
@@ -20,17 +20,11 @@ use Rattle.program.specs.HashedLegacy.{entrypoint}
 use Rattle.program.specs.Rows.{registered, remove, RegisterResult}
 use Rattle.program.specs.Rows as table
 use Rattle.program.specs.Table.{Slices, capacity, lookup_in}
-use Rattle.loader.specs.declared.answer.Load.{Load}
-use Rattle.loader.specs.declared.answer.Load.TheVariants.{Accepted as Accepts, Refused as Refuses}
-use Rattle.loader.specs.declared.calls.Call.TheVariants.{To}
+use Rattle.loader.specs.declared.error.ElfError.{ElfError}
+use Rattle.loader.specs.declared.answer.Accepted.{Accepted}
 use Rattle.loader.specs.declared.error.ElfError.TheVariants.{SymbolHashCollision, TableFull}
-use Rattle.loader.specs.declared.relocations.Addend.{Addend}
-use Rattle.loader.specs.declared.relocations.Mapped.{Mapped}
-use Rattle.loader.specs.declared.relocations.Mapped.TheVariants.{At as Placed, Refused as Unmapped}
 use Rattle.loader.specs.declared.validate.Config.{Config}
 use Rattle.loader.specs.declared.validate.Job.{Job}
-use Rattle.loader.specs.declared.validate.Prepared.{Prepared}
-use Rattle.loader.specs.declared.validate.Prepared.TheVariants.{Ready, Refused as NotReady}
 use Rattle.loader.specs.Deeds.{is_in}
 use Rattle.loader.specs.Calls.{local_call_in, call_at, text_of, slot_count, immediate}
 use Rattle.loader.specs.Functions.{row_for, symbol_function, index_of}
@@ -48,7 +42,7 @@ LocalCall file j i = (i < slot_count j) × (local_call_in j.version2 (insn_at (t
 
 -- and its target is slot number `to`
 abbrev pub CallsTo : List ℕ → Job → ℕ → ℕ → Type 0
-CallsTo file j i to = (i < slot_count j) × (call_at (text_of file j) j.version2 i ≡ To to)
+CallsTo file j i to = (i < slot_count j) × (call_at (text_of file j) j.version2 i ≡ Ok (Some to))
 
 -- ---- the bytes that a relocation names
 
@@ -65,20 +59,20 @@ named_by version2 in_text_lem type r b =
     false
 
 -- in a file whose text is the n bytes from `start` on
-abbrev pub named_in : Bool → ℕ → ℕ → Mapped → ℕ → ℕ → Bool
-named_in version2 start n (Placed r) type b = named_by version2 (within start n r) type r b
-named_in version2 start n Unmapped type b = false
+abbrev pub named_in : Bool → ℕ → ℕ → Option ℕ → ℕ → ℕ → Bool
+named_in version2 start n (Some r) type b = named_by version2 (within start n r) type r b
+named_in version2 start n None type b = false
 
 abbrev pub names_in : List ℕ → Layout → Bool → ℕ → ℕ → ℕ → ℕ → Bool
 names_in file l version2 start n i b = named_in version2 start n (place_in file l version2 i) ((relocation_at file l i).r_info % 2 ^ 32) b
 
-abbrev pub named_at : Job → Mapped → ℕ → ℕ → Bool
+abbrev pub named_at : Job → Option ℕ → ℕ → ℕ → Bool
 named_at j p type b = named_in j.version2 j.start j.length p type b
 
 abbrev pub info_of : List ℕ → Job → ℕ → ℕ
 info_of file j i = (relocation_at file j.layout i).r_info
 
-abbrev pub addend_of : List ℕ → Job → ℕ → Addend
+abbrev pub addend_of : List ℕ → Job → ℕ → Option ℕ
 addend_of file j i = (relocation_at file j.layout i).addend
 
 -- the relocation number i names the byte b
@@ -191,10 +185,10 @@ abbrev pub Injective : Type 0
 Injective = (version2 : Bool) (x y : ℕ) → x < 2 ^ 32 → y < 2 ^ 32 → key_of version2 x ≡ key_of version2 y → x ≡ y
 
 -- an accepted load has a file that passed the checks, and this holds of it and of the rows used
-abbrev pub OnAccepted : Load → Prepared → (Job → ℕ → Type 0) → Type 0
-OnAccepted (Accepts x) (Ready j) P = P j x.used
-OnAccepted (Accepts x) (NotReady r) P = ⊥
-OnAccepted (Refuses r) p P = Unit {0}
+abbrev pub OnAccepted : Result Accepted ElfError → Result Job ElfError → (Job → ℕ → Type 0) → Type 0
+OnAccepted (Ok x) (Ok j) P = P j x.used
+OnAccepted (Ok x) (Err r) P = ⊥
+OnAccepted (Err r) p P = Unit {0}
 
 -- ---- the registrations reached: no refusal stands ahead of them
 
@@ -212,17 +206,17 @@ reached n (register row t) rows = row ∷ on_reached (table.register n row rows)
 reached n (forget key t) rows = reached n t (remove key rows)
 
 -- of a load
-abbrev pub reached_in : List ℕ → List ℕ → ℕ → Prepared → List Row
-reached_in file builtins n (Ready j) = reached n (job_trace file builtins j file) []
-reached_in file builtins n (NotReady r) = []
+abbrev pub reached_in : List ℕ → List ℕ → ℕ → Result Job ElfError → List Row
+reached_in file builtins n (Ok j) = reached n (job_trace file builtins j file) []
+reached_in file builtins n (Err r) = []
 
 -- of a load, before the entry's: calls, relocations and labels
 abbrev pub early_trace : List ℕ → List ℕ → Job → Trace
 early_trace file builtins j = and_then (writing_trace file builtins j file) (labels_trace file builtins j)
 
-abbrev pub reached_early : List ℕ → List ℕ → ℕ → Prepared → List Row
-reached_early file builtins n (Ready j) = reached n (early_trace file builtins j) []
-reached_early file builtins n (NotReady r) = []
+abbrev pub reached_early : List ℕ → List ℕ → ℕ → Result Job ElfError → List Row
+reached_early file builtins n (Ok j) = reached n (early_trace file builtins j) []
+reached_early file builtins n (Err r) = []
 
 -- a row of the list
 abbrev pub Among : Row → List Row → Type 0
@@ -246,7 +240,7 @@ distinct (x ∷ xs) = distinct xs if is_one_of x xs else suc (distinct xs)
 
 -- of a load with n bytes lent for the image, m for the read-only bytes, and a table t: the image and the table are im' and t' afterwards, the
 -- answer is a, and `lookup` is the lookup by which a key finds an index in a table of so many used rows
-pub record Demand3By (lookup : Slices → ℕ → ℕ → Option Row) (file builtins : List ℕ) (c : Config) (n m : ℕ) (t : Slices) (im' : List ℕ) (t' : Slices) (a : Load) : Type 0 where
+pub record Demand3By (lookup : Slices → ℕ → ℕ → Option Row) (file builtins : List ℕ) (c : Config) (n m : ℕ) (t : Slices) (im' : List ℕ) (t' : Slices) (a : Result Accepted ElfError) : Type 0 where
   pub calls : OnAccepted a (prepared file builtins c n m) (λ j used. Calls file j im' (lookup t' used))
   pub keys : OnAccepted a (prepared file builtins c n m) (λ j used. Keys file builtins j (lookup t' used))
   pub entry : OnAccepted a (prepared file builtins c n m) (λ j used. Entry j (lookup t' used))
@@ -255,10 +249,10 @@ pub record Demand3By (lookup : Slices → ℕ → ℕ → Option Row) (file buil
   pub injective : Injective
   -- of accepted and of refused loads, where the collision check is off
   pub collision : c.external_internal_function_hash_collision ≡ false
-      → ((key : ℕ) × (a ≡ Refuses (SymbolHashCollision key))) ↔ Clash (reached_early file builtins (capacity t) (prepared file builtins c n m))
+      → ((key : ℕ) × (a ≡ Err (SymbolHashCollision key))) ↔ Clash (reached_early file builtins (capacity t) (prepared file builtins c n m))
   pub full : c.external_internal_function_hash_collision ≡ false
-      → ((rows : ℕ) × (a ≡ Refuses (TableFull rows))) ↔ (capacity t < distinct (map (λ r. r.key) (reached_in file builtins (capacity t) (prepared file builtins c n m))))
+      → ((rows : ℕ) × (a ≡ Err (TableFull rows))) ↔ (capacity t < distinct (map (λ r. r.key) (reached_in file builtins (capacity t) (prepared file builtins c n m))))
 
 -- DEMAND 3, by the lookup that is right on any table
-abbrev pub Demand3 : List ℕ → List ℕ → Config → ℕ → ℕ → Slices → List ℕ → Slices → Load → Type 0
+abbrev pub Demand3 : List ℕ → List ℕ → Config → ℕ → ℕ → Slices → List ℕ → Slices → Result Accepted ElfError → Type 0
 Demand3 = Demand3By lookup_in

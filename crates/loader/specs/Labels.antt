@@ -1,6 +1,6 @@
 -- Labels: what a symbol of .symtab asks for where labels are kept.
 use Rattle.program.specs.HashedLegacy.{LegacyResult}
-use Rattle.std.specs.Prelude.{ℕ, ◌*◌, ◌≤◌, ◌≡◌, refl, Bool, true, false, not, List, length, take, drop, eqb, Ok, Err}
+use Rattle.std.specs.Prelude.{ℕ, ◌*◌, ◌≤◌, ◌≡◌, refl, Bool, true, false, not, List, length, take, drop, eqb, Ok, Err, Result}
 use Rattle.std.proofs.Common.{arith}
 use Rattle.std.specs.Int.Bits.{bit_and}
 use Rattle.ebpf.specs.Choice.{◌if◌else◌}
@@ -17,37 +17,38 @@ use Rattle.elf_parser.specs.Names.{symbol_name}
 use Rattle.loader.specs.declared.error.ElfError.TheVariants.{SymbolHashCollision, UnknownSymbol, ValueOutOfBounds}
 use Rattle.loader.specs.declared.validate.Job.{Job}
 use Rattle.loader.specs.declared.deeds.Deed.{Deed}
-use Rattle.loader.specs.declared.deeds.Deed.TheVariants.{Skip, Refuse, RegisterOnly}
+use Rattle.loader.specs.declared.deeds.Deed.TheVariants.{Skip, RegisterOnly}
+use Rattle.loader.specs.declared.error.ElfError.{ElfError}
 use Rattle.loader.specs.Functions.{row_for, symbol_function, in_text, index_of}
 use Rattle.loader.specs.Trace.{Trace, each}
 use Rattle.loader.specs.Deeds.{DeedFits, deed_trace}
 use Rattle.loader.specs.Relocations.{either}
 
-abbrev pub label_row : LegacyResult → Deed
-label_row (Err taken) = Refuse (SymbolHashCollision taken.key)
-label_row (Ok row) = RegisterOnly row
+abbrev pub label_row : LegacyResult → Result Deed ElfError
+label_row (Err taken) = Err (SymbolHashCollision taken.key)
+label_row (Ok row) = Ok (RegisterOnly row)
 
 -- a function whose name is the n bytes `part` at `start`
-abbrev pub label_as : List ℕ → List ℕ → Job → ℕ → ℕ → ℕ → Deed
+abbrev pub label_as : List ℕ → List ℕ → Job → ℕ → ℕ → ℕ → Result Deed ElfError
 label_as part builtins j index start n = label_row (row_for builtins j (symbol_function part start n) index)
 
-abbrev pub named_label : List ℕ → List ℕ → Job → ℕ → ℕ → Place → Deed
+abbrev pub named_label : List ℕ → List ℕ → Job → ℕ → ℕ → Place → Result Deed ElfError
 named_label s builtins j index st-name (At start n) = label_as (take n (drop start s)) builtins j index start n
-named_label s builtins j index st-name (NoPlace e) = Refuse (UnknownSymbol st-name)
+named_label s builtins j index st-name (NoPlace e) = Err (UnknownSymbol st-name)
 
 -- st_info & 0xEF = 2; the value is an address of the text
-unfoldable pub label_of : List ℕ → List ℕ → Job → Elf64Sym → Deed
+unfoldable pub label_of : List ℕ → List ℕ → Job → Elf64Sym → Result Deed ElfError
 label_of s builtins j y =
-    Skip if not (eqb (bit_and y.st_info 0xef) 2) else
-    Refuse ValueOutOfBounds if not (in_text j y.st_value) else
+    Ok Skip if not (eqb (bit_and y.st_info 0xef) 2) else
+    Err ValueOutOfBounds if not (in_text j y.st_value) else
     named_label s builtins j (index_of j y.st_value) y.st_name (symbol_name s j.layout y.st_name)
 
-abbrev pub label_by : List ℕ → List ℕ → Job → Sym → Deed
+abbrev pub label_by : List ℕ → List ℕ → Job → Sym → Result Deed ElfError
 label_by s builtins j (Symbol y) = label_of s builtins j y
-label_by s builtins j (NoSym e) = Skip
+label_by s builtins j (NoSym e) = Ok Skip
 
 -- what a load does about the symbol number i of a symbol table
-unfoldable pub label_deed : List ℕ → List ℕ → Job → Entries → ℕ → Deed
+unfoldable pub label_deed : List ℕ → List ℕ → Job → Entries → ℕ → Result Deed ElfError
 label_deed s builtins j symbols i = label_by s builtins j (sym_of s symbols i)
 
 -- the symbols of .symtab where labels are kept; none where the table is unreadable

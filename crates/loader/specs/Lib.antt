@@ -1,3 +1,4 @@
+pub mod Results
 pub mod Errors
 pub mod Addresses
 pub mod Sections

@@ -1,24 +1,20 @@
 -- A whole load: its answer, and every lent byte and number afterwards.
-use Rattle.std.specs.Prelude.{ℕ, ◌+◌, ◌-◌, ◌/◌, ◌≡◌, Bool, true, false, List, [], ◌++◌, length, replicate}
+use Rattle.std.specs.Prelude.{ℕ, ◌+◌, ◌-◌, ◌/◌, ◌≡◌, Bool, true, false, List, [], ◌++◌, length, replicate, Result, Ok, Err}
 use Rattle.std.specs.Borrow.{Bor, MutBor}
 use Rattle.ebpf.specs.Choice.{◌if◌else◌}
 use Rattle.program.specs.declared.Row.{Row}
 use Rattle.program.specs.Table.{Slices, Lent, Shared, table_of, table_before, table_after, capacity, lay}
+use Rattle.loader.specs.declared.read_only.Placing.TheVariants.{Borrowed, Owned}
+use Rattle.loader.specs.declared.read_only.Placing.{Placing}
 use Rattle.loader.specs.declared.error.ElfError.{ElfError}
 use Rattle.loader.specs.declared.answer.Accepted.{Accepted}
-use Rattle.loader.specs.declared.answer.Load.{Load}
-use Rattle.loader.specs.declared.answer.Load.TheVariants.{Accepted as Accepts, Refused as Refuses}
 use Rattle.loader.specs.declared.validate.Config.{Config}
-use Rattle.loader.specs.declared.validate.Prepared.{Prepared}
-use Rattle.loader.specs.declared.validate.Prepared.TheVariants.{Ready, Refused as NotReady}
+use Rattle.loader.specs.declared.deeds.Held.{Held}
+use Rattle.loader.specs.Deeds.{holding}
 use Rattle.loader.specs.Trace.{Settled, accepted, refused, settle}
 use Rattle.loader.specs.Parts.{job_trace}
 use Rattle.loader.specs.Validate.{prepared}
-use Rattle.loader.specs.declared.read_only.Placing.{Placing}
-use Rattle.loader.specs.declared.read_only.Placing.TheVariants.{Borrowed, Owned, Refused as NotPlaced}
 use Rattle.loader.specs.declared.validate.Job.{Job}
-use Rattle.loader.specs.declared.deeds.Outcome.{Outcome}
-use Rattle.loader.specs.declared.deeds.Outcome.TheVariants.{Holds, Refused}
 use Rattle.loader.specs.Calls.{slot_count}
 use Rattle.loader.specs.InnerContracts.{InFile, Settles}
 use Rattle.loader.specs.Labels.{label_count}
@@ -38,14 +34,14 @@ abbrev pub all_count : List ℕ → Job → ℕ
 all_count file j = writing_count j + naming_count file j
 
 -- the outcome once all is registered: refused where the placing of the read-only sections is
-abbrev pub placed_by : Placing → ℕ → ℕ → Outcome
-placed_by (Borrowed offset start n) used moves = Holds used moves
-placed_by (Owned offset lowest n) used moves = Holds used moves
-placed_by (NotPlaced r) used moves = Refused r
+abbrev pub placed_by : Result Placing ElfError → ℕ → ℕ → Result Held ElfError
+placed_by (Ok (Borrowed offset start n)) used moves = holding used moves
+placed_by (Ok (Owned offset lowest n)) used moves = holding used moves
+placed_by (Err r) used moves = Err r
 
-abbrev pub after_placing : Outcome → Placing → Outcome
-after_placing (Holds used moves) p = placed_by p used moves
-after_placing (Refused r) p = Refused r
+abbrev pub after_placing : Result Held ElfError → Result Placing ElfError → Result Held ElfError
+after_placing (Ok held) p = placed_by p held.used held.moves
+after_placing (Err r) p = Err r
 
 -- every lent byte and number zero
 pub record Cleared (im ro : List ℕ) (t : Slices) (im' ro' : List ℕ) (t' : Slices) : Type 0 where
@@ -54,15 +50,15 @@ pub record Cleared (im ro : List ℕ) (t : Slices) (im' ro' : List ℕ) (t' : Sl
   pub table : t' ≡ lay t []
 
 -- the read-only bytes after a load with this image: the sections copied over `ro` where they are copied (the Rust's `Owned`), else `ro`
-abbrev pub placed_bytes : List ℕ → Layout → Placing → List ℕ → List ℕ → List ℕ
-placed_bytes file l (Owned offset lowest n) im ro = copied_from im file l lowest (file_header file).e_shnum 0 ro
-placed_bytes file l (Borrowed offset start n) im ro = ro
-placed_bytes file l (NotPlaced r) im ro = ro
+abbrev pub placed_bytes : List ℕ → Layout → Result Placing ElfError → List ℕ → List ℕ → List ℕ
+placed_bytes file l (Ok (Owned offset lowest n)) im ro = copied_from im file l lowest (file_header file).e_shnum 0 ro
+placed_bytes file l (Ok (Borrowed offset start n)) im ro = ro
+placed_bytes file l (Err r) im ro = ro
 
 -- where a load holds, its read-only bytes are these
-abbrev pub HeldBytes : Outcome → List ℕ → List ℕ → Type 0
-HeldBytes (Holds used moves) ro' ro = ro' ≡ ro
-HeldBytes (Refused r) ro' ro = Unit {0}
+abbrev pub HeldBytes : Result Held ElfError → List ℕ → List ℕ → Type 0
+HeldBytes (Ok held) ro' ro = ro' ≡ ro
+HeldBytes (Err r) ro' ro = Unit {0}
 
 -- ---- the answer
 
@@ -83,14 +79,14 @@ accepted_as j copied offset start n used moves = record {
 }
 
 -- copied read-only bytes start at 0 in their buffer
-abbrev pub answer_by : Job → Placing → ℕ → ℕ → Load
-answer_by j (Borrowed offset start n) used moves = Accepts (accepted_as j false offset start n used moves)
-answer_by j (Owned offset lowest n) used moves = Accepts (accepted_as j true offset 0 n used moves)
-answer_by j (NotPlaced r) used moves = Refuses r
+abbrev pub answer_by : Job → Result Placing ElfError → ℕ → ℕ → Result Accepted ElfError
+answer_by j (Ok (Borrowed offset start n)) used moves = Ok (accepted_as j false offset start n used moves)
+answer_by j (Ok (Owned offset lowest n)) used moves = Ok (accepted_as j true offset 0 n used moves)
+answer_by j (Err r) used moves = Err r
 
-abbrev pub answer_for : Outcome → Job → Load
-answer_for (Holds used moves) j = answer_by j j.placing used moves
-answer_for (Refused r) j = Refuses r
+abbrev pub answer_for : Result Held ElfError → Job → Result Accepted ElfError
+answer_for (Ok held) j = answer_by j j.placing held.used held.moves
+answer_for (Err r) j = Err r
 
 -- ---- what comes of a load
 
@@ -101,28 +97,28 @@ pub data Loading : Type 0 where
 
 -- after the last registration, by where the read-only sections go; where that refuses, the trace has stopped. The read-only bytes stay in the image, and
 -- the buffer is zero; or they are copied over n zeros at the buffer's front, with zeros behind
-abbrev pub held_by : List ℕ → Job → ℕ → Placing → List ℕ → List Row → ℕ → Loading
-held_by file j m (Borrowed offset start n) im rows moves =
+abbrev pub held_by : List ℕ → Job → ℕ → Result Placing ElfError → List ℕ → List Row → ℕ → Loading
+held_by file j m (Ok (Borrowed offset start n)) im rows moves =
     holds (accepted_as j false offset start n (length rows) moves) im (replicate m 0) rows
-held_by file j m (Owned offset lowest n) im rows moves =
+held_by file j m (Ok (Owned offset lowest n)) im rows moves =
     holds (accepted_as j true offset 0 n (length rows) moves) im (copied_from im file j.layout lowest (file_header file).e_shnum 0 (replicate n 0) ++ replicate (m - n) 0) rows
-held_by file j m (NotPlaced r) im rows moves = refuses r
+held_by file j m (Err r) im rows moves = refuses r
 
 abbrev pub on_trace : List ℕ → Job → ℕ → Settled → Loading
 on_trace file j m (accepted im rows moves) = held_by file j m j.placing im rows moves
 on_trace file j m (refused r) = refuses r
 
-abbrev pub on_prepared : List ℕ → List ℕ → ℕ → ℕ → Prepared → Loading
-on_prepared file builtins m rows (Ready j) = on_trace file j m (settle rows (job_trace file builtins j file) [] 0)
-on_prepared file builtins m rows (NotReady r) = refuses r
+abbrev pub on_prepared : List ℕ → List ℕ → ℕ → ℕ → Result Job ElfError → Loading
+on_prepared file builtins m rows (Ok j) = on_trace file j m (settle rows (job_trace file builtins j file) [] 0)
+on_prepared file builtins m rows (Err r) = refuses r
 
 -- WHAT COMES OF A LOAD of a file, with n bytes lent for the image, m for the read-only bytes, and so many rows
 unfoldable pub load_of : List ℕ → List ℕ → Config → ℕ → ℕ → ℕ → Loading
 load_of file builtins c n m rows = on_prepared file builtins m rows (prepared file builtins c n m)
 
-abbrev pub answer_of : Loading → Load
-answer_of (holds a im ro rows) = Accepts a
-answer_of (refuses r) = Refuses r
+abbrev pub answer_of : Loading → Result Accepted ElfError
+answer_of (holds a im ro rows) = Ok a
+answer_of (refuses r) = Err r
 
 -- ---- every lent byte and number afterwards
 
@@ -146,14 +142,14 @@ pub record WholeOrZeros (x : Loading) (im ro : List ℕ) (t : Slices) (im' ro' :
   pub table : t' ≡ lay t (rows_in x)
 
 -- WHAT A LOAD LEAVES
-pub record Loaded (x : Loading) (im ro : List ℕ) (t : Slices) (im' ro' : List ℕ) (t' : Slices) (a : Load) : Type 0 where
+pub record Loaded (x : Loading) (im ro : List ℕ) (t : Slices) (im' ro' : List ℕ) (t' : Slices) (a : Result Accepted ElfError) : Type 0 where
   pub answers : a ≡ answer_of x
   pub demand_1 : WholeOrZeros x im ro t im' ro' t'
 
 -- the same, but after a refusal the lent slices may hold anything
-abbrev pub Tried : Loading → List ℕ → List ℕ → Slices → List ℕ → List ℕ → Slices → Load → Type 0
-Tried x im ro t im' ro' t' (Accepts a) = Loaded x im ro t im' ro' t' (Accepts a)
-Tried x im ro t im' ro' t' (Refuses r) = x ≡ refuses r
+abbrev pub Tried : Loading → List ℕ → List ℕ → Slices → List ℕ → List ℕ → Slices → Result Accepted ElfError → Type 0
+Tried x im ro t im' ro' t' (Ok a) = Loaded x im ro t im' ro' t' (Ok a)
+Tried x im ro t im' ro' t' (Err r) = x ≡ refuses r
 
 -- ---- over the lent slices of a function: image, read-only buffer, keys, indices, kinds, starts and lengths, in this order
 
@@ -165,7 +161,7 @@ abbrev pub FillAsks : Bor (List ℕ) → Job → MutBor (List ℕ) → MutBor (L
 FillAsks file j image k i d s l rows =
     InFile file.now j × (length image.now ≡ length file.now) × (rows ≡ capacity (table_of k i d s l)) × (table_of k i d s l ≡ lay (table_of k i d s l) [])
 
-abbrev pub Fills : Shared → Shared → Job → Lent → Lent → Lent → Lent → Lent → Lent → Lent → Outcome → Type 0
+abbrev pub Fills : Shared → Shared → Job → Lent → Lent → Lent → Lent → Lent → Lent → Lent → Result Held ElfError → Type 0
 Fills file builtins j image ro k i d s l a =
     Settles (job_trace file.entry.now builtins.entry.now j file.entry.now) image.exit.now (table_before k i d s l) (table_after k i d s l) (all_count file.entry.now j) 0 0 a
     × HeldBytes a ro.exit.now (placed_bytes file.entry.now j.layout j.placing image.exit.now ro.entry.now)
@@ -175,6 +171,6 @@ abbrev pub load_of_lent : Shared → Shared → Config → Lent → Lent → Len
 load_of_lent file builtins c image ro k i d s l =
     load_of file.entry.now builtins.entry.now c (length image.entry.now) (length ro.entry.now) (capacity (table_before k i d s l))
 
-abbrev pub Tries : Shared → Shared → Config → Lent → Lent → Lent → Lent → Lent → Lent → Lent → Load → Type 0
+abbrev pub Tries : Shared → Shared → Config → Lent → Lent → Lent → Lent → Lent → Lent → Lent → Result Accepted ElfError → Type 0
 Tries file builtins c image ro k i d s l a =
     Tried (load_of_lent file builtins c image ro k i d s l) image.entry.now ro.entry.now (table_before k i d s l) image.exit.now ro.exit.now (table_after k i d s l) a

@@ -2,7 +2,7 @@
 use Prim.Native.Nat.{ℕ, zero, suc, ◌+◌, ◌-◌, ◌≤◌, ◌<◌, ◌^◌}
 use native.Mathlib.Omega.{arith}
 use Rattle.std.proofs.Common.{eq-or-lt_of_le, sym, ◌∙◌, true≢false}
-use Rattle.std.specs.Prelude.{◌≡◌, Bool, ◌&&◌, drop, leb}
+use Rattle.std.specs.Prelude.{◌≡◌, Bool, ◌&&◌, drop, leb, Result, Ok, Err}
 use Rattle.std.proofs.Math.Path.{refl, ap, subst}
 use Rattle.std.proofs.Math.Logic.{⊎_elim}
 use Rattle.std.proofs.Math.Bool.{true, false, not}
@@ -18,11 +18,10 @@ use Rattle.elf_parser.specs.declared.parts.Place.TheVariants.{At, Refused as NoP
 use Rattle.elf_parser.specs.declared.types.Elf64Shdr.{Elf64Shdr}
 use Rattle.elf_parser.specs.Loops.{Turn, goes, ends, ◌into◌, over, not_ends}
 use Rattle.elf_parser.specs.Records.{file_range_of, range_within}
+use Rattle.loader.specs.declared.read_only.Placing.TheVariants.{Owned}
 use Rattle.loader.specs.declared.error.ElfError.{ElfError}
 use Rattle.loader.specs.declared.read_only.Extent.{Extent}
-use Rattle.loader.specs.declared.read_only.Gathering.{Gathering}
-use Rattle.loader.specs.declared.read_only.Gathering.TheVariants.{Next, Refused as Stop}
-use Rattle.loader.specs.declared.read_only.Placing.TheVariants.{Owned, Refused}
+use Rattle.loader.specs.Results.{not_ok}
 use Rattle.loader.specs.Addresses.{sum_up_to, machine_addr, MM_PROGRAM_START, MM_STACK_START}
 use Rattle.loader.specs.Sections.{section_at, name_of}
 use Rattle.loader.specs.ReadOnly.{read_only, end_of, grown, taken, taken_at, gather_step, nothing, gather_turn, gather_by, gathered, from_start, borrowed, owned, placed, placing_by, placing, copied_to, copied_at, copy_step}
@@ -54,12 +53,9 @@ module _ (image s : List ℕ) (l : Layout) (lowest : ℕ) where
 
 -- ---- what `Owned` says
 
-pub no_owned : (r : ElfError) (a b n : ℕ) → Refused r ≡ Owned a b n → ⊥
-no_owned r a b n e = let z : ◌≡◌ {A = ℕ} 0 1 = cc in omega arith
-
-pub not_borrowed : (version2 : Bool) (x : Extent) (a b n : ℕ) → borrowed version2 x ≡ Owned a b n → ⊥
+pub not_borrowed : (version2 : Bool) (x : Extent) (a b n : ℕ) → borrowed version2 x ≡ Ok (Owned a b n) → ⊥
 unfolding borrowed
-not_borrowed version2 x a b n e = row_cases _ _ _ _ _ (λ t q. no_owned _ _ _ _ q) (λ t q. let z : ◌≡◌ {A = ℕ} 0 1 = cc in omega arith) e
+not_borrowed version2 x a b n e = row_cases _ _ _ _ _ (λ t q. not_ok _ _ q) (λ t q. let z : ◌≡◌ {A = ℕ} 0 1 = cc in omega arith) e
 
 -- the bytes copied run from an address that no section lies below to the highest, and are not more than the file's
 pub record Runs (len lowest n : ℕ) (x : Extent) : Type 0 where
@@ -72,22 +68,22 @@ unfolding ◌if◌else◌
 or_zero true a = omega arith
 or_zero false a = omega arith
 
-owned_runs : (len : ℕ) (optimize : Bool) (x : Extent) (offset lowest n : ℕ) → owned len optimize x ≡ Owned offset lowest n → Runs len lowest n x
+owned_runs : (len : ℕ) (optimize : Bool) (x : Extent) (offset lowest n : ℕ) → owned len optimize x ≡ Ok (Owned offset lowest n) → Runs len lowest n x
 unfolding owned
 owned_runs len optimize x offset lowest n e =
     let lo : ℕ = x.lowest if optimize else 0 in
-    let e1 : Owned (from_start lo) lo (x.highest - lo) ≡ Owned offset lowest n = row_rest _ _ _ _ (no_owned _ _ _ _) e in
+    let e1 : Ok (Owned (from_start lo) lo (x.highest - lo)) ≡ Ok (Owned offset lowest n) = row_rest _ _ _ _ (not_ok _ _) e in
     let p : lo ≡ lowest = cc in
     let q : x.highest - lo ≡ n = cc in
-    let f = ltb-false len (x.highest - lo) (not_first _ _ _ _ (no_owned _ _ _ _) e) in
+    let f = ltb-false len (x.highest - lo) (not_first _ _ _ _ (not_ok _ _) e) in
     record { low = rw (← p) (or_zero optimize x.lowest); long = sym q ∙ ap (λ (k : ℕ). x.highest - k) p; fits = rw (← q) f }
 
-placed_runs : (len : ℕ) (version2 reject-broken optimize : Bool) (x : Extent) (offset lowest n : ℕ) → placed len version2 reject-broken optimize x ≡ Owned offset lowest n
+placed_runs : (len : ℕ) (version2 reject-broken optimize : Bool) (x : Extent) (offset lowest n : ℕ) → placed len version2 reject-broken optimize x ≡ Ok (Owned offset lowest n)
     → Runs len lowest n x
 unfolding placed
 placed_runs len version2 reject-broken optimize x offset lowest n e =
-    let e1 = row_rest _ _ _ _ (no_owned _ _ _ _) e in
-    let e2 = row_rest _ _ _ _ (no_owned _ _ _ _) e1 in
+    let e1 = row_rest _ _ _ _ (not_ok _ _) e in
+    let e2 = row_rest _ _ _ _ (not_ok _ _) e1 in
     owned_runs len optimize x offset lowest n (row_rest _ _ _ _ (not_borrowed version2 x offset lowest n) e2)
 
 -- ---- what each section has that was passed
@@ -104,9 +100,6 @@ pub record Wider (x z : Extent) : Type 0 where
 still : (h : Elf64Shdr) (k : ℕ) (x z : Extent) → Wider x z → Inside h k x → Inside h k z
 still h k x z w i = record { above = omega arith; below = omega arith; ahead = i.ahead }
 
-pub no_next : (r : ElfError) (x : Extent) → Stop r ≡ Next x → ⊥
-no_next r x e = let z : ◌≡◌ {A = ℕ} 0 1 = cc in omega arith
-
 addr_of : (b : Bool) (addr m : ℕ) → (addr if b else sum_up_to addr MM_PROGRAM_START) ≡ m → m ≤ MM_STACK_START → addr ≤ MM_STACK_START
 unfolding ◌if◌else◌
 addr_of true addr m e h = omega arith
@@ -122,32 +115,32 @@ end_ahead version2 addr size m e h =
     let ahead = machine_ahead version2 addr (machine_addr version2 addr) refl in
     row_cases _ _ _ _ _ (λ b q. ahead (omega arith)) (λ b q. ahead (omega arith)) e
 
-taken_inside : (version2 reject-broken : Bool) (i : ℕ) (h : Elf64Shdr) (k : ℕ) (x z : Extent) → taken version2 reject-broken i h k x ≡ Next z → Wider x z × Inside h k z
+taken_inside : (version2 reject-broken : Bool) (i : ℕ) (h : Elf64Shdr) (k : ℕ) (x z : Extent) → taken version2 reject-broken i h k x ≡ Ok z → Wider x z × Inside h k z
 unfolding taken grown
 taken_inside version2 reject-broken i h k x z e =
-    let e1 = row_rest _ _ _ _ (no_next _ _) e in
-    let e2 : Next (grown version2 i h.sh_addr h.sh_offset k x) ≡ Next z = row_rest _ _ _ _ (no_next _ _) e1 in
+    let e1 = row_rest _ _ _ _ (not_ok _ _) e in
+    let e2 : Ok (grown version2 i h.sh_addr h.sh_offset k x) ≡ Ok z = row_rest _ _ _ _ (not_ok _ _) e1 in
     let p : grown version2 i h.sh_addr h.sh_offset k x ≡ z = cc in
-    let f = ltb-false MM_STACK_START (end_of version2 h.sh_addr h.sh_size) (not_first _ _ _ _ (no_next _ _) e1) in
+    let f = ltb-false MM_STACK_START (end_of version2 h.sh_addr h.sh_size) (not_first _ _ _ _ (not_ok _ _) e1) in
     rw (← p) (record { lower = omega arith; higher = omega arith }, record { above = omega arith; below = omega arith; ahead = end_ahead version2 h.sh_addr h.sh_size _ refl f })
 
-at_inside : (version2 reject-broken : Bool) (i : ℕ) (h : Elf64Shdr) (x z : Extent) (p : Place) → taken_at version2 reject-broken i h x p ≡ Next z
+at_inside : (version2 reject-broken : Bool) (i : ℕ) (h : Elf64Shdr) (x z : Extent) (p : Place) → taken_at version2 reject-broken i h x p ≡ Ok z
     → Wider x z × ((start k : ℕ) → p ≡ At start k → Inside h k z)
 at_inside version2 reject-broken i h x z (At a b) e =
     let t = taken_inside version2 reject-broken i h b x z e in
     (t.0, λ start k q. let r : b ≡ k = cc in rw (← r) t.1)
-at_inside version2 reject-broken i h x z (NoPlace r) e = absurd (no_next _ _ e)
+at_inside version2 reject-broken i h x z (NoPlace r) e = absurd (not_ok _ _ e)
 
 module _ (s : List ℕ) (l : Layout) (version2 reject-broken : Bool) where
   abbrev Has : ℕ → Extent → Type 0
   Has i x = read_only (name_of s l (section_at s l i)) ≡ true → (start k : ℕ) → file_range_of s l i ≡ At start k → Inside (section_at s l i) k x
 
-  step_inside : (i : ℕ) (x z : Extent) → gather_step s l version2 reject-broken i x ≡ Next z → Wider x z × Has i z
+  step_inside : (i : ℕ) (x z : Extent) → gather_step s l version2 reject-broken i x ≡ Ok z → Wider x z × Has i z
   unfolding gather_step
   step_inside i x z e =
       row_cases _ _ _ _ _ (λ b q. passed b q) (λ b q. let t = at_inside version2 reject-broken i (section_at s l i) x z (file_range_of s l i) q in (t.0, λ ro. t.1)) e
     where
-      passed : not (read_only (name_of s l (section_at s l i))) ≡ true → Next x ≡ Next z → Wider x z × Has i z
+      passed : not (read_only (name_of s l (section_at s l i))) ≡ true → ◌≡◌ {A = Result Extent ElfError} (Ok x) (Ok z) → Wider x z × Has i z
       passed b q =
           let p : x ≡ z = cc in
           (rw (← p) (record { lower = omega arith; higher = omega arith }), λ ro. absurd (true≢false (sym b ∙ ap not ro)))
@@ -162,18 +155,18 @@ module _ (s : List ℕ) (l : Layout) (version2 reject-broken : Bool) where
       (rw (← p) (record { lower = omega arith; higher = omega arith }), λ j lo hi. absurd (omega arith))
   all_inside (suc n) i x y e = go (gather_step s l version2 reject-broken i x) refl e (λ z q. all_inside n (i + 1) z y q)
     where
-      go : (t : Gathering)
+      go : (t : Result Extent ElfError)
           → gather_step s l version2 reject-broken i x ≡ t
           → (gather_turn t into over (λ j z. gather_turn (gather_step s l version2 reject-broken j z)) 1 n (i + 1)) ≡ goes y
           → ((z : Extent) → over (λ j w. gather_turn (gather_step s l version2 reject-broken j w)) 1 n (i + 1) z ≡ goes y → Passed n (i + 1) z y)
           → Passed (suc n) i x y
-      go (Next z) h q rec =
+      go (Ok z) h q rec =
           let a = step_inside i x z h in
           let r = rec z q in
           let w = a.0 in
           let v = r.0 in
           (record { lower = omega arith; higher = omega arith }, λ j lo hi. ⊎_elim (λ p. subst (λ (k : ℕ). Has k y) p (λ ro start k at. still (section_at s l i) k z y v (a.1 ro start k at))) (λ p. r.1 j (omega arith) (omega arith)) (eq-or-lt_of_le lo))
-      go (Stop r) h q rec = absurd (not_ends r y q)
+      go (Err r) h q rec = absurd (not_ends r y q)
 
 -- ---- where the sections are copied, each has its bytes and its room, so that the copy passes over none
 
@@ -183,16 +176,16 @@ pub record Room (s : List ℕ) (h : Elf64Shdr) (lowest n start k : ℕ) : Type 0
   pub room : (h.sh_addr - lowest) + k ≤ n
 
 module _ (s : List ℕ) (l : Layout) (count : ℕ) (version2 reject-broken optimize : Bool) (offset lowest n : ℕ) where
-  pub owned_fits : placing s l count version2 reject-broken optimize ≡ Owned offset lowest n → n ≤ length s
+  pub owned_fits : placing s l count version2 reject-broken optimize ≡ Ok (Owned offset lowest n) → n ≤ length s
   unfolding placing
   owned_fits e = go (gathered s l count version2 reject-broken) refl e
     where
-      go : (g : Gathering) → gathered s l count version2 reject-broken ≡ g → placing_by (length s) version2 reject-broken optimize g ≡ Owned offset lowest n → n ≤ length s
-      go (Next x) h q = (placed_runs (length s) version2 reject-broken optimize x offset lowest n q).fits
-      go (Stop r) h q = absurd (no_owned _ _ _ _ q)
+      go : (g : Result Extent ElfError) → gathered s l count version2 reject-broken ≡ g → placing_by (length s) version2 reject-broken optimize g ≡ Ok (Owned offset lowest n) → n ≤ length s
+      go (Ok x) h q = (placed_runs (length s) version2 reject-broken optimize x offset lowest n q).fits
+      go (Err r) h q = absurd (not_ok _ _ q)
 
   pub owned_room : length s ≤ 2 ^ 24
-      → placing s l count version2 reject-broken optimize ≡ Owned offset lowest n
+      → placing s l count version2 reject-broken optimize ≡ Ok (Owned offset lowest n)
       → (i : ℕ)
       → i < count
       → read_only (name_of s l (section_at s l i)) ≡ true
@@ -204,14 +197,14 @@ module _ (s : List ℕ) (l : Layout) (count : ℕ) (version2 reject-broken optim
     where
       go : (t : Turn ElfError Extent)
           → over (λ j y. gather_turn (gather_step s l version2 reject-broken j y)) 1 count 0 nothing ≡ t
-          → placing_by (length s) version2 reject-broken optimize (gather_by t) ≡ Owned offset lowest n
+          → placing_by (length s) version2 reject-broken optimize (gather_by t) ≡ Ok (Owned offset lowest n)
           → Room s (section_at s l i) lowest n start k
       go (goes x) h q =
           let r = placed_runs (length s) version2 reject-broken optimize x offset lowest n q in
           let m = (all_inside s l version2 reject-broken count 0 nothing x h).1 i (omega arith) (omega arith) ro start k at in
           let f = range_within s l i start k at in
           record { in_file = f; not_below = omega arith; room = omega arith }
-      go (ends r) h q = absurd (no_owned _ _ _ _ q)
+      go (ends r) h q = absurd (not_ok _ _ q)
 
 -- so a turn of the copy is a paste
 pub copy_is_paste : (image s : List ℕ) (l : Layout) (lowest n i start k : ℕ) (ro : List ℕ)

@@ -1,7 +1,7 @@
 -- Where the read-only sections go, and the copy of them: `parse_ro_sections`.
 use Prim.Native.Nat.{ℕ, zero, suc, ◌+◌, ◌-◌, ◌≤◌, ◌<◌, min, max}
 use native.Mathlib.Omega.{arith}
-use Rattle.std.specs.Prelude.{◌≡◌, Bool, true, false, ◌&&◌, ◌||◌, not, List, length, drop, ltb, leb, eqb}
+use Rattle.std.specs.Prelude.{◌≡◌, Bool, true, false, ◌&&◌, ◌||◌, not, List, length, drop, ltb, leb, eqb, Result, Ok, Err}
 use Rattle.std.proofs.Math.Path.{refl}
 use Rattle.std.proofs.Math.Seq.{paste}
 use Rattle.ebpf.specs.Choice.{◌if◌else◌}
@@ -12,13 +12,11 @@ use Rattle.elf_parser.specs.declared.types.Elf64Shdr.{Elf64Shdr}
 use Rattle.elf_parser.specs.Loops.{Turn, goes, ends, over}
 use Rattle.elf_parser.specs.Records.{file_range_of}
 use Rattle.elf_parser.specs.SectionNames.{same_bytes}
+use Rattle.loader.specs.declared.read_only.Placing.TheVariants.{Borrowed, Owned}
+use Rattle.loader.specs.declared.read_only.Placing.{Placing}
 use Rattle.loader.specs.declared.error.ElfError.{ElfError}
 use Rattle.loader.specs.declared.error.ElfError.TheVariants.{ValueOutOfBounds}
 use Rattle.loader.specs.declared.read_only.Extent.{Extent}
-use Rattle.loader.specs.declared.read_only.Gathering.{Gathering}
-use Rattle.loader.specs.declared.read_only.Gathering.TheVariants.{Next, Refused as Stop}
-use Rattle.loader.specs.declared.read_only.Placing.{Placing}
-use Rattle.loader.specs.declared.read_only.Placing.TheVariants.{Borrowed, Owned, Refused}
 use Rattle.loader.specs.Addresses.{sum_up_to, machine_addr, MM_PROGRAM_START, MM_STACK_START}
 use Rattle.loader.specs.Sections.{section_at, name_of, dot_text, dot_rodata, dot_data_rel_ro, dot_eh_frame}
 
@@ -61,30 +59,30 @@ grown version2 i addr offset n x =
       many = sum_up_to x.many 1;
     }
 
-unfoldable pub taken : Bool → Bool → ℕ → Elf64Shdr → ℕ → Extent → Gathering
+unfoldable pub taken : Bool → Bool → ℕ → Elf64Shdr → ℕ → Extent → Result Extent ElfError
 taken version2 reject-broken i h n x =
-    Stop ValueOutOfBounds if reject-broken && invalid_by version2 h.sh_addr h.sh_offset x else
-    Stop ValueOutOfBounds if ltb MM_STACK_START (end_of version2 h.sh_addr h.sh_size) else
-    Next (grown version2 i h.sh_addr h.sh_offset n x)
+    Err ValueOutOfBounds if reject-broken && invalid_by version2 h.sh_addr h.sh_offset x else
+    Err ValueOutOfBounds if ltb MM_STACK_START (end_of version2 h.sh_addr h.sh_size) else
+    Ok (grown version2 i h.sh_addr h.sh_offset n x)
 
 -- its bytes in the file, none for SHT_NOBITS, have that place
-abbrev pub taken_at : Bool → Bool → ℕ → Elf64Shdr → Extent → Place → Gathering
+abbrev pub taken_at : Bool → Bool → ℕ → Elf64Shdr → Extent → Place → Result Extent ElfError
 taken_at version2 reject-broken i h x (At start n) = taken version2 reject-broken i h n x
-taken_at version2 reject-broken i h x (NoPlace r) = Stop ValueOutOfBounds
+taken_at version2 reject-broken i h x (NoPlace r) = Err ValueOutOfBounds
 
 -- the section number i, of that header and name
-abbrev pub gather_named : List ℕ → Layout → Bool → Bool → ℕ → Elf64Shdr → List ℕ → Extent → Gathering
+abbrev pub gather_named : List ℕ → Layout → Bool → Bool → ℕ → Elf64Shdr → List ℕ → Extent → Result Extent ElfError
 gather_named s l version2 reject-broken i h name x =
-    Next x if not (read_only name) else
+    Ok x if not (read_only name) else
     taken_at version2 reject-broken i h x (file_range_of s l i)
 
-unfoldable pub gather_step : List ℕ → Layout → Bool → Bool → ℕ → Extent → Gathering
+unfoldable pub gather_step : List ℕ → Layout → Bool → Bool → ℕ → Extent → Result Extent ElfError
 gather_step s l version2 reject-broken i x = gather_named s l version2 reject-broken i (section_at s l i) (name_of s l (section_at s l i)) x
 
 -- the same after what the sections before it gave: a refusal stays
-abbrev pub gather_next : List ℕ → Layout → Bool → Bool → ℕ → Elf64Shdr → List ℕ → Gathering → Gathering
-gather_next s l version2 reject-broken i h name (Next x) = gather_named s l version2 reject-broken i h name x
-gather_next s l version2 reject-broken i h name (Stop r) = Stop r
+abbrev pub gather_next : List ℕ → Layout → Bool → Bool → ℕ → Elf64Shdr → List ℕ → Result Extent ElfError → Result Extent ElfError
+gather_next s l version2 reject-broken i h name (Ok x) = gather_named s l version2 reject-broken i h name x
+gather_next s l version2 reject-broken i h name (Err r) = Err r
 
 -- ---- all sections
 
@@ -101,15 +99,15 @@ nothing = record {
   many = 0;
 }
 
-abbrev pub gather_turn : Gathering → Turn ElfError Extent
-gather_turn (Next x) = goes x
-gather_turn (Stop r) = ends r
+abbrev pub gather_turn : Result Extent ElfError → Turn ElfError Extent
+gather_turn (Ok x) = goes x
+gather_turn (Err r) = ends r
 
-abbrev pub gather_by : Turn ElfError Extent → Gathering
-gather_by (goes x) = Next x
-gather_by (ends r) = Stop r
+abbrev pub gather_by : Turn ElfError Extent → Result Extent ElfError
+gather_by (goes x) = Ok x
+gather_by (ends r) = Err r
 
-abbrev pub gathered : List ℕ → Layout → ℕ → Bool → Bool → Gathering
+abbrev pub gathered : List ℕ → Layout → ℕ → Bool → Bool → Result Extent ElfError
 gathered s l count version2 reject-broken = gather_by (over (λ i x. gather_turn (gather_step s l version2 reject-broken i x)) 1 count 0 nothing)
 
 -- ---- the placing
@@ -123,31 +121,31 @@ unfoldable pub can_borrow : Extent → Bool
 can_borrow x = not x.invalid && eqb (sum_up_to x.last 1 - x.first) x.many
 
 -- they stay in the image, at their addresses less the constant
-unfoldable pub borrowed : Bool → Extent → Placing
+unfoldable pub borrowed : Bool → Extent → Result Placing ElfError
 borrowed version2 x =
-    Refused ValueOutOfBounds if version2 && ltb x.lowest MM_PROGRAM_START else
-    Borrowed (from_start x.lowest) (x.lowest - x.shift) ((x.highest - x.shift) - (x.lowest - x.shift))
+    Err ValueOutOfBounds if version2 && ltb x.lowest MM_PROGRAM_START else
+    Ok (Borrowed (from_start x.lowest) (x.lowest - x.shift) ((x.highest - x.shift) - (x.lowest - x.shift)))
 
 -- they are copied, from the lowest address on, or from 0 on where this is not optimized
-unfoldable pub owned : ℕ → Bool → Extent → Placing
+unfoldable pub owned : ℕ → Bool → Extent → Result Placing ElfError
 owned len optimize x =
     let lowest : ℕ = x.lowest if optimize else 0 in
     let n : ℕ = x.highest - lowest in
-    Refused ValueOutOfBounds if ltb len n else
-    Owned (from_start lowest) lowest n
+    Err ValueOutOfBounds if ltb len n else
+    Ok (Owned (from_start lowest) lowest n)
 
-unfoldable pub placed : ℕ → Bool → Bool → Bool → Extent → Placing
+unfoldable pub placed : ℕ → Bool → Bool → Bool → Extent → Result Placing ElfError
 placed len version2 reject-broken optimize x =
-    Refused ValueOutOfBounds if reject-broken && ltb x.highest (sum_up_to x.lowest x.filled) else
-    Refused ValueOutOfBounds if version2 && not (can_borrow x) else
+    Err ValueOutOfBounds if reject-broken && ltb x.highest (sum_up_to x.lowest x.filled) else
+    Err ValueOutOfBounds if version2 && not (can_borrow x) else
     borrowed version2 x if optimize && can_borrow x else
     owned len optimize x
 
-abbrev pub placing_by : ℕ → Bool → Bool → Bool → Gathering → Placing
-placing_by len version2 reject-broken optimize (Next x) = placed len version2 reject-broken optimize x
-placing_by len version2 reject-broken optimize (Stop r) = Refused r
+abbrev pub placing_by : ℕ → Bool → Bool → Bool → Result Extent ElfError → Result Placing ElfError
+placing_by len version2 reject-broken optimize (Ok x) = placed len version2 reject-broken optimize x
+placing_by len version2 reject-broken optimize (Err r) = Err r
 
-unfoldable pub placing : List ℕ → Layout → ℕ → Bool → Bool → Bool → Placing
+unfoldable pub placing : List ℕ → Layout → ℕ → Bool → Bool → Bool → Result Placing ElfError
 placing s l count version2 reject-broken optimize =
     placing_by (length s) version2 reject-broken optimize (gathered s l count version2 reject-broken)
 

@@ -1,5 +1,5 @@
 -- The checks ahead of a load, in the order of the Rust, and what they leave.
-use Rattle.std.specs.Prelude.{ℕ, Bool, true, false, ◌&&◌, not, List, [], ◌∷◌, length, ltb, leb, eqb}
+use Rattle.std.specs.Prelude.{ℕ, Bool, true, false, ◌&&◌, not, List, [], ◌∷◌, length, ltb, leb, eqb, Result, Ok, Err}
 use Rattle.ebpf.specs.Choice.{◌if◌else◌}
 use Rattle.elf_parser.specs.declared.error.ElfParserError.TheVariants.{InvalidProgramHeader}
 use Rattle.elf_parser.specs.declared.types.Elf64Ehdr.{Elf64Ehdr}
@@ -12,28 +12,25 @@ use Rattle.elf_parser.specs.declared.parts.Place.TheVariants.{At, Refused as NoP
 use Rattle.elf_parser.specs.Types.{file_header, SHT_NOBITS}
 use Rattle.elf_parser.specs.Names.{section_name}
 use Rattle.elf_parser.specs.Parse.{parsed}
+use Rattle.loader.specs.declared.read_only.Placing.{Placing}
 use Rattle.loader.specs.declared.error.ElfError.{ElfError}
 use Rattle.loader.specs.declared.error.ElfError.TheVariants.{FailedToParse, EntrypointOutOfBounds, WrongAbi, WrongMachine, NotOneTextSection, WritableSectionNotSupported, WrongType, ValueOutOfBounds, UnsupportedSBPFVersion, FileTooLong, BufferShort, BuiltinsNotAscending}
 use Rattle.loader.specs.declared.sections.Survey.{Survey}
 use Rattle.loader.specs.declared.validate.Config.{Config}
-use Rattle.loader.specs.declared.validate.Verdict.{Verdict}
-use Rattle.loader.specs.declared.validate.Verdict.TheVariants.{Pass, Refused}
 use Rattle.loader.specs.declared.validate.Job.{Job}
-use Rattle.loader.specs.declared.validate.Prepared.{Prepared}
-use Rattle.loader.specs.declared.validate.Prepared.TheVariants.{Ready, Refused as NotReady}
-use Rattle.loader.specs.declared.read_only.Placing.{Placing}
+use Rattle.loader.specs.Results.{◌then◌}
 use Rattle.loader.specs.Errors.{from_parser}
 use Rattle.loader.specs.Sections.{section_at, survey}
 use Rattle.loader.specs.Addresses.{sum_up_to, machine_addr, MM_STACK_START}
 use Rattle.loader.specs.ReadOnly.{placing}
 
 -- 40 and 41
-unfoldable pub size_check : ℕ → ℕ → ℕ → Verdict
+unfoldable pub size_check : ℕ → ℕ → ℕ → Result (Unit {0}) ElfError
 size_check len image ro =
-    Refused FileTooLong if ltb 0x100_0000 len else
-    Refused BufferShort if ltb image len else
-    Refused BufferShort if ltb ro len else
-    Pass
+    Err FileTooLong if ltb 0x100_0000 len else
+    Err BufferShort if ltb image len else
+    Err BufferShort if ltb ro len else
+    Ok tt
 
 -- the numbers ascend strictly
 unfoldable pub ascends : List ℕ → Bool
@@ -42,16 +39,16 @@ ascends (x ∷ []) = true
 ascends (x ∷ y ∷ s) = false if leb y x else ascends (y ∷ s)
 
 -- ABI, machine, type, the version enabled, and version 2's limits
-unfoldable pub header_check : Elf64Ehdr → Config → Bool → Verdict
+unfoldable pub header_check : Elf64Ehdr → Config → Bool → Result (Unit {0}) ElfError
 header_check h c version2 =
-    Refused WrongAbi if not (eqb h.ei_osabi 0) else
-    Refused WrongMachine if not (eqb h.e_machine 247) && not (eqb h.e_machine 263) else
-    Refused WrongType if not (eqb h.e_type 3) else
-    Refused UnsupportedSBPFVersion if version2 && not c.enable_sbpf_v2 else
-    Refused UnsupportedSBPFVersion if not version2 && not c.enable_sbpf_v1 else
-    Refused UnsupportedSBPFVersion if version2 && not c.optimize_rodata else
-    Refused (FailedToParse InvalidProgramHeader) if version2 && leb 10 h.e_phnum else
-    Pass
+    Err WrongAbi if not (eqb h.ei_osabi 0) else
+    Err WrongMachine if not (eqb h.e_machine 247) && not (eqb h.e_machine 263) else
+    Err WrongType if not (eqb h.e_type 3) else
+    Err UnsupportedSBPFVersion if version2 && not c.enable_sbpf_v2 else
+    Err UnsupportedSBPFVersion if not version2 && not c.enable_sbpf_v1 else
+    Err UnsupportedSBPFVersion if version2 && not c.optimize_rodata else
+    Err (FailedToParse InvalidProgramHeader) if version2 && leb 10 h.e_phnum else
+    Ok tt
 
 abbrev pub writable_by : Place → ElfError
 writable_by (At start n) = WritableSectionNotSupported start n
@@ -61,26 +58,26 @@ abbrev pub writable_error : List ℕ → Layout → ℕ → ElfError
 writable_error s l sh-name = writable_by (section_name s l sh-name)
 
 -- exactly one .text, no section that is not supported (`unsupported`), every section in the file
-unfoldable pub sections_check : List ℕ → Layout → Survey → Verdict
+unfoldable pub sections_check : List ℕ → Layout → Survey → Result (Unit {0}) ElfError
 sections_check s l v =
-    Refused NotOneTextSection if not (eqb v.texts 1) else
-    Refused (writable_error s l v.writable_name) if v.writable else
-    Refused ValueOutOfBounds if v.outside else
-    Pass
+    Err NotOneTextSection if not (eqb v.texts 1) else
+    Err (writable_error s l v.writable_name) if v.writable else
+    Err ValueOutOfBounds if v.outside else
+    Ok tt
 
 -- the entry is one of the text's addresses; the text ends (in version 1: starts) at the stack at the latest, and in version 1
 -- stands at its file offset where broken files are rejected
-unfoldable pub text_check : Bool → Bool → ℕ → Elf64Shdr → Verdict
+unfoldable pub text_check : Bool → Bool → ℕ → Elf64Shdr → Result (Unit {0}) ElfError
 text_check version2 reject-broken e_entry h =
-    Refused EntrypointOutOfBounds if ltb e_entry h.sh_addr else
-    Refused EntrypointOutOfBounds if leb (sum_up_to h.sh_addr h.sh_size) e_entry else
-    Refused ValueOutOfBounds if (reject-broken && not version2) && not (eqb h.sh_addr h.sh_offset) else
-    Refused ValueOutOfBounds if version2 && ltb MM_STACK_START (sum_up_to (machine_addr version2 h.sh_addr) h.sh_size) else
-    Refused ValueOutOfBounds if not version2 && ltb MM_STACK_START (machine_addr version2 h.sh_addr) else
-    Pass
+    Err EntrypointOutOfBounds if ltb e_entry h.sh_addr else
+    Err EntrypointOutOfBounds if leb (sum_up_to h.sh_addr h.sh_size) e_entry else
+    Err ValueOutOfBounds if (reject-broken && not version2) && not (eqb h.sh_addr h.sh_offset) else
+    Err ValueOutOfBounds if version2 && ltb MM_STACK_START (sum_up_to (machine_addr version2 h.sh_addr) h.sh_size) else
+    Err ValueOutOfBounds if not version2 && ltb MM_STACK_START (machine_addr version2 h.sh_addr) else
+    Ok tt
 
 -- what a load needs afterwards
-unfoldable pub job_of : Config → Bool → Layout → ℕ → Elf64Shdr → Placing → Job
+unfoldable pub job_of : Config → Bool → Layout → ℕ → Elf64Shdr → Result Placing ElfError → Job
 job_of c version2 l e_entry h p =
     let nobits : Bool = eqb h.sh_type SHT_NOBITS in
     record {
@@ -98,42 +95,28 @@ job_of c version2 l e_entry h p =
       placing = p;
     }
 
--- one check after another
-infixr 3 ◌then◌
-unfoldable pub ◌then◌ : Verdict → Verdict → Verdict
-Pass then v = v
-Refused r then v = Refused r
-
-abbrev pub file_check : List ℕ → Config → Layout → Elf64Ehdr → Bool → Survey → Verdict
+abbrev pub file_check : List ℕ → Config → Layout → Elf64Ehdr → Bool → Survey → Result (Unit {0}) ElfError
 file_check s c l h version2 v =
     header_check h c version2
     then sections_check s l v
     then text_check version2 c.reject_broken_elfs h.e_entry (section_at s l v.text)
 
-abbrev pub ready_by : Verdict → Job → Prepared
-ready_by Pass j = Ready j
-ready_by (Refused r) j = NotReady r
-
 abbrev pub is_version2 : Elf64Ehdr → Bool
 is_version2 h = eqb h.e_flags 0x20
 
-unfoldable pub validated : List ℕ → Config → Layout → Prepared
+unfoldable pub validated : List ℕ → Config → Layout → Result Job ElfError
 validated s c l =
     let h : Elf64Ehdr = file_header s in
     let count : ℕ = h.e_shnum in
     let v : Survey = survey s l count in
-    ready_by (file_check s c l h (is_version2 h) v)
-    (job_of c (is_version2 h) l h.e_entry (section_at s l v.text) (placing s l count (is_version2 h) c.reject_broken_elfs c.optimize_rodata))
+    file_check s c l h (is_version2 h) v
+    then Ok (job_of c (is_version2 h) l h.e_entry (section_at s l v.text) (placing s l count (is_version2 h) c.reject_broken_elfs c.optimize_rodata))
 
-abbrev pub parsed_then : List ℕ → Config → Parsed → Prepared
-parsed_then s c (NoFile e) = NotReady (from_parser e)
+abbrev pub parsed_then : List ℕ → Config → Parsed → Result Job ElfError
+parsed_then s c (NoFile e) = Err (from_parser e)
 parsed_then s c (File l) = validated s c l
 
-abbrev pub prepared_by : Verdict → Prepared → Prepared
-prepared_by Pass p = p
-prepared_by (Refused r) p = NotReady r
-
-unfoldable pub prepared : List ℕ → List ℕ → Config → ℕ → ℕ → Prepared
+unfoldable pub prepared : List ℕ → List ℕ → Config → ℕ → ℕ → Result Job ElfError
 prepared s builtins c image ro =
-    prepared_by (size_check (length s) image ro)
-    (NotReady BuiltinsNotAscending if not (ascends builtins) else parsed_then s c (parsed s))
+    size_check (length s) image ro
+    then (Err BuiltinsNotAscending if not (ascends builtins) else parsed_then s c (parsed s))

@@ -21,6 +21,7 @@ use Rattle.elf_parser.specs.Types.{file_header, program_header, section_header, 
 use Rattle.program.specs.HashedLegacy.{legacy_key, kept_symbol, is_taken, legacy_row}
 use Rattle.program.specs.Rows.{rank, register, registered, unregister}
 use Rattle.program.specs.Search.{narrowed, binary_search, is_among}
+use Rattle.loader.specs.Results.{◌then◌}
 use Rattle.loader.specs.Addresses.{machine_addr}
 use Rattle.loader.specs.Bytes.{put}
 use Rattle.loader.specs.Calls.{inside, target, is_local_call, call_of, call_at, call_deed, slot_trace}
@@ -34,11 +35,10 @@ use Rattle.loader.specs.ReadOnly.{read_only, gives as loader-gives, invalid_by, 
 use Rattle.loader.specs.Relocations.{relocation_at, header_at, first_from, used_header, used_before, place_of, within, program_address, immediate_at, halves_deed, word_deed, address_deed, plan6464, relative_text, relative_value, plan_relative, function_call, builtin_call, call_by_name, plan6432, plan_at, relocation_trace}
 use Rattle.loader.specs.Sections.{section_at, starts_with, unsupported, outside_file, survey_step, survey_from}
 use Rattle.loader.specs.Trace.{and_then, each, settle}
-use Rattle.loader.specs.Validate.{size_check, ascends, header_check as loader-headerCheck, sections_check, text_check, job_of, ◌then◌, validated, prepared}
-use Rattle.std.specs.Prelude.{ℕ, ◌+◌, ◌*◌, true, false, List, [], ◌∷◌, ◌++◌, ◌≡◌, refl, length}
+use Rattle.loader.specs.Validate.{size_check, ascends, header_check as loader-headerCheck, sections_check, text_check, job_of, validated, prepared}
+use Rattle.std.specs.Prelude.{ℕ, ◌+◌, ◌*◌, true, false, List, [], ◌∷◌, ◌++◌, ◌≡◌, refl, length, Ok, Err}
 use Rattle.elf_parser.specs.declared.error.Report.{Report}
 use Rattle.loader.specs.declared.validate.Config.{Config}
-use Rattle.loader.specs.declared.validate.Verdict.TheVariants.{Pass, Refused}
 use Rattle.loader.specs.declared.error.ElfError.TheVariants.{FileTooLong, BufferShort}
 use Rattle.loader.specs.Errors.{report_of}
 use Rattle.loader.specs.Load.{Loading, holds, refuses}
@@ -221,7 +221,7 @@ room = refl
 -- ---- sizes and built-ins: 16,777,216 bytes and one more, a buffer shorter than the file, keys that do not ascend
 
 sizes : size_check 16777216 16777216 16777216 ∷ size_check 16777217 16777217 16777217 ∷ size_check 2 1 2 ∷ size_check 2 2 1 ∷ []
-    ≡ Pass ∷ Refused FileTooLong ∷ Refused BufferShort ∷ Refused BufferShort ∷ []
+    ≡ Ok tt ∷ Err FileTooLong ∷ Err BufferShort ∷ Err BufferShort ∷ []
 unfolding size_check ◌if◌else◌
 sizes = refl
 

@@ -1,5 +1,5 @@
 -- The scope's worked examples that are marked to be proved: one table, in its order and its numbers, by one computation.
-use Rattle.std.specs.Prelude.{ℕ, ◌+◌, ◌-◌, ◌*◌, ◌/◌, ◌%◌, ◌^◌, true, false, List, [], ◌∷◌, ◌++◌, ◌≡◌, refl, replicate}
+use Rattle.std.specs.Prelude.{ℕ, ◌+◌, ◌-◌, ◌*◌, ◌/◌, ◌%◌, ◌^◌, true, false, List, [], ◌∷◌, ◌++◌, ◌≡◌, refl, replicate, Result, Ok, Err}
 use Rattle.ebpf.specs.Choice.{◌if◌else◌}
 use Rattle.ebpf.specs.Instructions.{insn_at, slot_at}
 use Rattle.ebpf.specs.LittleEndian.{le, bytes_of}
@@ -18,8 +18,9 @@ use Rattle.elf_parser.specs.Strings.{string_in, string_check, gives, terminated,
 use Rattle.elf_parser.specs.Types.{rel, sym}
 use Rattle.program.specs.HashedLegacy.{legacy_row, legacy_key, is_taken}
 use Rattle.loader.specs.declared.deeds.Deed.{Deed}
-use Rattle.loader.specs.declared.deeds.Deed.TheVariants.{Skip, Refuse, Halves, Word, Key, Register, RegisterOnly, RegisterOutside}
+use Rattle.loader.specs.declared.deeds.Deed.TheVariants.{Skip, Halves, Word, Key, Register, RegisterOnly, RegisterOutside}
 use Rattle.loader.specs.declared.validate.Job.{Job}
+use Rattle.loader.specs.declared.error.ElfError.{ElfError}
 use Rattle.loader.specs.Errors.{report_of}
 use Rattle.loader.specs.Calls.{inside, target, is_local_call, call_of, call_at, call_deed}
 use Rattle.loader.specs.Functions.{row_for}
@@ -41,15 +42,15 @@ of_check Pass = 0 ∷ []
 of_check (Refused e) = reported (parser.report_of e)
 
 -- the index that a call goes to; the two halves that are written; nothing
-abbrev of_deed : Deed → List ℕ
-of_deed Skip = []
-of_deed (Refuse e) = reported (report_of e)
-of_deed (Halves low high value) = 0 ∷ value % 2 ^ 32 ∷ value / 2 ^ 32 ∷ []
-of_deed (Word at value) = 0 ∷ value ∷ []
-of_deed (Key at key) = 0 ∷ key ∷ []
-of_deed (Register row at) = 0 ∷ row.index ∷ []
-of_deed (RegisterOnly row) = 0 ∷ row.index ∷ []
-of_deed (RegisterOutside row) = 0 ∷ row.index ∷ []
+abbrev of_deed : Result Deed ElfError → List ℕ
+of_deed (Ok Skip) = []
+of_deed (Err e) = reported (report_of e)
+of_deed (Ok (Halves low high value)) = 0 ∷ value % 2 ^ 32 ∷ value / 2 ^ 32 ∷ []
+of_deed (Ok (Word at value)) = 0 ∷ value ∷ []
+of_deed (Ok (Key at key)) = 0 ∷ key ∷ []
+of_deed (Ok (Register row at)) = 0 ∷ row.index ∷ []
+of_deed (Ok (RegisterOnly row)) = 0 ∷ row.index ∷ []
+of_deed (Ok (RegisterOutside row)) = 0 ∷ row.index ∷ []
 
 -- ---- what the examples are asked of
 

@@ -1,10 +1,9 @@
 // The answer of a load.
 ghost use Rattle.std.specs.Prelude.{◌≡◌, ◌-◌, ◌≤◌, ◌^◌};
-ghost use Rattle.ebpf.specs.Choice.{◌if◌else◌};
 ghost use Rattle.loader.specs.Load.{accepted_as, answer_for};
 
-use crate::addresses::saturating_sub;
-use crate::deeds::Outcome;
+use crate::addresses::pick;
+use crate::deeds::Held;
 use crate::error::ElfError;
 use crate::read_only::Placing;
 use crate::validate::Job;
@@ -28,21 +27,6 @@ pub struct Accepted {
     pub text_length: usize,
 }
 
-#[derive(Clone, Copy)]
-pub enum Load {
-    Accepted(Accepted),
-    Refused(ElfError),
-}
-
-fn version_of(version2: bool) -> u32
-    ensures { result ≡ (2 if version2 else 1) }
-{
-    if version2 {
-        return 2;
-    }
-    1
-}
-
 // The answer of an accepted load, with the place of the read-only bytes.
 fn accepted_as(
     job: Job,
@@ -56,10 +40,9 @@ fn accepted_as(
     requires { job.e_entry - job.sh_addr ≤ 2 ^ 24 }
     ensures { result ≡ accepted_as job copied offset start n used moves }
 {
-    let entry = saturating_sub(job.e_entry, job.sh_addr) / 8;
-    let version = version_of(job.version2);
+    let entry = job.e_entry.saturating_sub(job.sh_addr) / 8;
     Accepted {
-        version,
+        version: pick(job.version2, 2, 1),
         entry: entry as u32,
         used,
         moves,
@@ -74,27 +57,21 @@ fn accepted_as(
 }
 
 // The answer of a file that passed the checks.
-pub(crate) fn answer_of(a: Outcome, job: Job) -> Load
+pub(crate) fn answer_of(a: Result<Held, ElfError>, job: Job) -> Result<Accepted, ElfError>
     requires { job.e_entry - job.sh_addr ≤ 2 ^ 24 }
     ensures { result ≡ answer_for a job }
 {
-    match a {
-        Outcome::Refused(r) => Load::Refused(r),
-        Outcome::Holds(used, moves) => {
-            let placing = job.placing;
-            match placing {
-                Placing::Refused(r) => Load::Refused(r),
-                Placing::Borrowed {
-                    offset,
-                    start,
-                    length,
-                } => Load::Accepted(accepted_as(job, false, offset, start, length, used, moves)),
-                Placing::Owned {
-                    offset,
-                    lowest: _,
-                    length,
-                } => Load::Accepted(accepted_as(job, true, offset, 0, length, used, moves)),
-            }
-        }
+    let Held { used, moves } = a?;
+    match job.placing? {
+        Placing::Borrowed {
+            offset,
+            start,
+            length,
+        } => Ok(accepted_as(job, false, offset, start, length, used, moves)),
+        Placing::Owned {
+            offset,
+            lowest: _,
+            length,
+        } => Ok(accepted_as(job, true, offset, 0, length, used, moves)),
     }
 }

@@ -6,44 +6,39 @@ ghost use Rattle.loader.specs.Calls.{inside, target, is_local_call, call_of, cal
 ghost use Rattle.loader.specs.CallLoop.{TargetAsks, TargetSettles, SlotAsks, SlotSettles, SlotsAsk, SlotsLead};
 ghost use Rattle.loader.specs.InnerContracts.{PartAsks, FileSettles};
 
-use crate::deeds::{Outcome, enter_alike, store_u32};
+use crate::deeds::{Held, enter_alike, store_u32};
 use crate::error::ElfError;
 use crate::read_only::copy_bytes;
 use crate::validate::Job;
 use ebpf::{CALL_IMM, Insn, get_insn};
 use program::{FunctionName, Row, is_taken, kept_name, legacy_key};
 
-// What a slot calls.
-#[derive(Clone, Copy)]
-pub enum Call {
-    None,
-    To(u32),
-    Outside,
-}
-
-fn inside_text(count: u64, to: u64) -> Call
+// The target `to` of the call in slot number `i`.
+#[tactic(auto, using(ebpf::specs::Choice::choices), unfolding(crate::specs::Calls::inside))]
+fn inside_text(count: u64, i: u64, to: u64) -> Result<u32, ElfError>
     requires { count ≤ 2 ^ 24 }
-    ensures { result ≡ inside count to }
+    ensures { result ≡ inside count i to }
 {
     if to < count {
-        return Call::To(to as u32);
+        return Ok(to as u32);
     }
-    Call::Outside
+    Err(ElfError::RelativeJumpOutOfBounds { slot: i })
 }
 
 // The slot number `i` plus 1 plus the signed immediate: bits from 2^31 on count from 2^32 down.
-fn target_of(count: u64, i: u64, imm: u32) -> Call
+#[tactic(auto, using(ebpf::specs::Choice::choices), unfolding(crate::specs::Calls::target))]
+fn target_of(count: u64, i: u64, imm: u32) -> Result<u32, ElfError>
     requires { (i < 2 ^ 24) × (count ≤ 2 ^ 24) }
     ensures { result ≡ target count i imm }
 {
     let to = i + 1 + imm as u64;
     if imm < 0x8000_0000 {
-        return inside_text(count, to);
+        return inside_text(count, i, to);
     }
     if to < 0x1_0000_0000 {
-        return Call::Outside;
+        return Err(ElfError::RelativeJumpOutOfBounds { slot: i });
     }
-    inside_text(count, to - 0x1_0000_0000)
+    inside_text(count, i, to - 0x1_0000_0000)
 }
 
 pub fn is_local_call(version2: bool, insn: Insn) -> bool
@@ -53,24 +48,26 @@ pub fn is_local_call(version2: bool, insn: Insn) -> bool
     (insn.opc == CALL_IMM) & ((insn.imm != 0xffff_ffff) & !near)
 }
 
-fn call_of(count: u64, version2: bool, i: u64, insn: Insn) -> Call
+#[tactic(auto, using(ebpf::specs::Choice::choices), unfolding(crate::specs::Calls::call_of))]
+fn call_of(count: u64, version2: bool, i: u64, insn: Insn) -> Result<Option<u32>, ElfError>
     requires { (i < 2 ^ 24) × (count ≤ 2 ^ 24) }
     ensures { result ≡ call_of count version2 i insn }
 {
     if is_local_call(version2, insn) {
-        return target_of(count, i, insn.imm);
+        return Ok(Some(target_of(count, i, insn.imm)?));
     }
-    Call::None
+    Ok(None)
 }
 
-// What slot number `i` of a text calls.
-fn call_at(text: &[u8], version2: bool, i: usize) -> Call
+// What slot number `i` of a text calls, if it calls another slot.
+#[tactic(auto, using(crate::proofs::Slots::whole_slot), unfolding(crate::specs::Calls::call_at))]
+fn call_at(text: &[u8], version2: bool, i: usize) -> Result<Option<u32>, ElfError>
     requires { length text.now ≤ 2 ^ 24 }
     ensures { result ≡ call_at text.now version2 i }
 {
     match get_insn(text, i) {
+        None => Ok(None),
         Some(insn) => call_of((text.len() / 8) as u64, version2, i as u64, insn),
-        None => Call::None,
     }
 }
 
@@ -182,12 +179,12 @@ fn register_target(
     moves: u64,
     key: u32,
     index: u32,
-) -> Outcome
+) -> Result<Held, ElfError>
     requires { TargetAsks job key index keys indices kinds starts lengths rows used moves }
     ensures { TargetSettles (row_for builtins.now job OfIndex index) job keys indices kinds starts lengths used moves result }
 {
     if is_taken(builtins, job.version2, job.check_collision, key) {
-        return Outcome::Refused(ElfError::SymbolHashCollision { key });
+        return Err(ElfError::SymbolHashCollision { key });
     }
     let name = kept_name(job.labels, FunctionName::OfIndex);
     let row = Row {
@@ -219,27 +216,24 @@ fn call_step(
     used: usize,
     moves: u64,
     i: usize,
-) -> Outcome
+) -> Result<Held, ElfError>
     requires { SlotAsks i file builtins table job seen image keys indices kinds starts lengths rows used moves }
     ensures { SlotSettles i file builtins job seen image keys indices kinds starts lengths used moves result }
 {
     let start = job.start;
     let end = start + job.length;
-    match call_at(&file[start..end], job.version2, i) {
-        Call::None => Outcome::Holds(used, moves),
-        Call::Outside => Outcome::Refused(ElfError::RelativeJumpOutOfBounds { slot: i as u64 }),
-        Call::To(index) => {
-            let key = legacy_key(table, job.version2, FunctionName::OfIndex, index);
-            store_u32(image, start + 8 * i + 4, key);
-            if is_seen(seen, index) {
-                return Outcome::Holds(used, moves);
-            }
-            see(seen, index);
-            register_target(
-                keys, indices, kinds, starts, lengths, builtins, job, rows, used, moves, key, index,
-            )
-        }
+    let Some(index) = call_at(&file[start..end], job.version2, i)? else {
+        return Ok(Held { used, moves });
+    };
+    let key = legacy_key(table, job.version2, FunctionName::OfIndex, index);
+    store_u32(image, start + 8 * i + 4, key);
+    if is_seen(seen, index) {
+        return Ok(Held { used, moves });
     }
+    see(seen, index);
+    register_target(
+        keys, indices, kinds, starts, lengths, builtins, job, rows, used, moves, key, index,
+    )
 }
 
 // The slots from number `from` up to `to`, whose bytes are in the image, in turn, up to the first
@@ -257,32 +251,25 @@ fn register_slots(
     table: &[u32],
     job: Job,
     rows: u64,
-    held: usize,
-    moved: u64,
+    used: usize,
+    moves: u64,
     from: usize,
     to: usize,
-) -> Outcome
-    requires { SlotsAsk from to file builtins table job seen image keys indices kinds starts lengths rows held moved }
-    ensures { SlotsLead from to file builtins job seen image keys indices kinds starts lengths held moved result }
+) -> Result<Held, ElfError>
+    requires { SlotsAsk from to file builtins table job seen image keys indices kinds starts lengths rows used moves }
+    ensures { SlotsLead from to file builtins job seen image keys indices kinds starts lengths used moves result }
 {
     let start = job.start;
-    let mut used = held;
-    let mut moves = moved;
+    let mut held = Held { used, moves };
     let mut i = next_call(file, start, from, to);
     while i < to {
-        match call_step(
+        held = call_step(
             image, keys, indices, kinds, starts, lengths, seen, file, builtins, table, job, rows,
-            used, moves, i,
-        ) {
-            Outcome::Refused(r) => return Outcome::Refused(r),
-            Outcome::Holds(u, m) => {
-                used = u;
-                moves = m;
-                i = next_call(file, start, i + 1, to);
-            }
-        }
+            held.used, held.moves, i,
+        )?;
+        i = next_call(file, start, i + 1, to);
     }
-    Outcome::Holds(used, moves)
+    Ok(held)
 }
 
 // Where the run of slots from number `i` on ends.
@@ -311,7 +298,7 @@ pub(crate) fn register_calls(
     table: &[u32],
     job: Job,
     rows: u64,
-) -> Outcome
+) -> Result<Held, ElfError>
     requires { PartAsks (slot_count job) file table job image keys indices kinds starts lengths rows 0 0 }
     ensures { FileSettles calls_trace file builtins job file.now image keys indices kinds starts lengths (slot_count job) 0 0 result }
 {
@@ -320,25 +307,18 @@ pub(crate) fn register_calls(
     let end = start + 8 * count;
     let mut seen = [0u32; SEEN];
     copy_bytes(image, file, 0, 0, start);
-    let mut used = 0;
-    let mut moves = 0;
+    let mut held = Held { used: 0, moves: 0 };
     let mut i = 0;
     while i < count {
         let to = run_end(i, count);
         let at = start + 8 * i;
         copy_bytes(image, file, at, at, 8 * (to - i));
-        match register_slots(
+        held = register_slots(
             image, keys, indices, kinds, starts, lengths, &mut seen, file, builtins, table, job,
-            rows, used, moves, i, to,
-        ) {
-            Outcome::Refused(r) => return Outcome::Refused(r),
-            Outcome::Holds(u, m) => {
-                used = u;
-                moves = m;
-                i = to;
-            }
-        }
+            rows, held.used, held.moves, i, to,
+        )?;
+        i = to;
     }
     copy_bytes(image, file, end, end, file.len() - end);
-    Outcome::Holds(used, moves)
+    Ok(held)
 }

@@ -1,6 +1,6 @@
-// What a part of a load does: write some bytes of the image, register a function, or refuse. The
-// functions that decide on relocations, labels and the entry give a `Deed`; this module carries it out.
-ghost use Rattle.std.specs.Prelude.{◌≡◌, ◌+◌, ◌/◌, ◌%◌, ◌≤◌, ◌<◌, ◌^◌, length};
+// What a part of a load does: write some bytes of the image, or register a function. The functions that
+// decide on relocations, labels and the entry give a `Deed` or refuse; this module carries it out.
+ghost use Rattle.std.specs.Prelude.{Ok, ◌≡◌, ◌+◌, ◌/◌, ◌%◌, ◌≤◌, ◌<◌, ◌^◌, length};
 ghost use Rattle.program.specs.Table.{Alike, table_before, table_after, table_of};
 ghost use Rattle.program.specs.Runs.{moves_of};
 ghost use Rattle.loader.specs.Bytes.{put};
@@ -14,7 +14,6 @@ use program::{FunctionRegistry, RegisterError, Registered, Row};
 #[derive(Clone, Copy)]
 pub enum Deed {
     Skip,
-    Refuse(ElfError),
     // The halves of a number, four bytes each.
     Halves { low: usize, high: usize, value: u64 },
     // A number of eight bytes.
@@ -30,38 +29,26 @@ pub enum Deed {
 }
 
 // What a deed asks of the table.
+// Kept: an Option of a struct leaves the proofs no case by `outside`.
 #[derive(Clone, Copy)]
 pub enum Entry {
     Nothing,
-    Refuse(ElfError),
     Register { row: Row, outside: bool },
 }
 
-// The rows used and the moves up to here, or why the load is refused.
+// The rows used and the moves up to here.
 #[derive(Clone, Copy)]
-pub enum Outcome {
-    Holds(usize, u64),
-    Refused(ElfError),
+pub struct Held {
+    pub used: usize,
+    pub moves: u64,
 }
 
 fn entry_of(deed: Deed) -> Entry
-    ensures { result ≡ entry_of deed }
+    ensures { Ok result ≡ entry_of (Ok deed) }
 {
     match deed {
-        Deed::Skip => Entry::Nothing,
-        Deed::Refuse(r) => Entry::Refuse(r),
-        Deed::Halves {
-            low: _,
-            high: _,
-            value: _,
-        } => Entry::Nothing,
-        Deed::Word { at: _, value: _ } => Entry::Nothing,
-        Deed::Key { at: _, key: _ } => Entry::Nothing,
-        Deed::Register { row, at: _ } => Entry::Register {
-            row,
-            outside: false,
-        },
-        Deed::RegisterOnly { row } => Entry::Register {
+        Deed::Skip | Deed::Halves { .. } | Deed::Word { .. } | Deed::Key { .. } => Entry::Nothing,
+        Deed::Register { row, .. } | Deed::RegisterOnly { row } => Entry::Register {
             row,
             outside: false,
         },
@@ -97,18 +84,15 @@ fn store_halves(image: &mut [u8], low: usize, high: usize, v: u64)
 
 // The bytes that a deed writes.
 fn write(image: &mut [u8], deed: Deed)
-    requires { DeedFits (length image.old) deed }
-    ensures { image.new ≡ written deed image.old }
+    requires { DeedFits (length image.old) (Ok deed) }
+    ensures { image.new ≡ written (Ok deed) image.old }
 {
     match deed {
-        Deed::Skip => {}
-        Deed::Refuse(_) => {}
+        Deed::Skip | Deed::RegisterOnly { .. } | Deed::RegisterOutside { .. } => {}
         Deed::Halves { low, high, value } => store_halves(image, low, high, value),
         Deed::Word { at, value } => store_halves(image, at, at + 4, value),
         Deed::Key { at, key } => store_u32(image, at, key),
         Deed::Register { row, at } => store_u32(image, at, row.key),
-        Deed::RegisterOnly { row: _ } => {}
-        Deed::RegisterOutside { row: _ } => {}
     }
 }
 
@@ -119,31 +103,30 @@ fn entered(
     moves: u64,
     key: u32,
     rows: u64,
-) -> Outcome
+) -> Result<Held, ElfError>
     requires { (used < 2 ^ 32) × (moves + moves_of answer < 2 ^ 64) }
     ensures { result ≡ entered_by answer used moves key rows }
 {
     match answer {
-        Ok(Registered::Inserted(n)) => Outcome::Holds(used + 1, moves + n as u64),
-        Ok(Registered::Repeat) => Outcome::Holds(used, moves),
-        Err(RegisterError::Collision) => Outcome::Refused(ElfError::SymbolHashCollision { key }),
-        Err(RegisterError::Full) => Outcome::Refused(ElfError::TableFull { rows }),
+        Ok(Registered::Inserted(n)) => Ok(Held {
+            used: used + 1,
+            moves: moves + n as u64,
+        }),
+        Ok(Registered::Repeat) => Ok(Held { used, moves }),
+        Err(RegisterError::Collision) => Err(ElfError::SymbolHashCollision { key }),
+        Err(RegisterError::Full) => Err(ElfError::TableFull { rows }),
     }
 }
 
 // A registration that was held is refused all the same where the key's place is outside.
-fn finished(outcome: Outcome, outside: bool) -> Outcome
+fn finished(outcome: Result<Held, ElfError>, outside: bool) -> Result<Held, ElfError>
     ensures { result ≡ finished_by outcome outside }
 {
-    match outcome {
-        Outcome::Refused(r) => Outcome::Refused(r),
-        Outcome::Holds(used, moves) => {
-            if outside {
-                return Outcome::Refused(ElfError::ValueOutOfBounds);
-            }
-            Outcome::Holds(used, moves)
-        }
+    let held = outcome?;
+    if outside {
+        return Err(ElfError::ValueOutOfBounds);
     }
+    Ok(held)
 }
 
 // Registers one row.
@@ -157,7 +140,7 @@ fn enter(
     used: usize,
     moves: u64,
     row: Row,
-) -> Outcome
+) -> Result<Held, ElfError>
     requires { Begins 1 (table_of keys indices kinds starts lengths) rows used moves }
     ensures { Enters row (table_before keys indices kinds starts lengths) (table_after keys indices kinds starts lengths) used moves result }
 {
@@ -185,7 +168,7 @@ pub(crate) fn enter_alike(
     used: usize,
     moves: u64,
     row: Row,
-) -> Outcome
+) -> Result<Held, ElfError>
     requires { Begins 1 (table_of keys indices kinds starts lengths) rows used moves × Alike (table_of keys indices kinds starts lengths) used row }
     ensures { EntersAlike row keys indices kinds starts lengths used moves result }
 {
@@ -214,14 +197,13 @@ pub(crate) fn perform(
     used: usize,
     moves: u64,
     deed: Deed,
-) -> Outcome
-    requires { DeedFits (length image.old) deed × Begins 1 (table_of keys indices kinds starts lengths) rows used moves }
-    ensures { PartSettles (deed_trace deed image.old) image keys indices kinds starts lengths 1 used moves result }
+) -> Result<Held, ElfError>
+    requires { DeedFits (length image.old) (Ok deed) × Begins 1 (table_of keys indices kinds starts lengths) rows used moves }
+    ensures { PartSettles (deed_trace (Ok deed) image.old) image keys indices kinds starts lengths 1 used moves result }
 {
     write(image, deed);
     match entry_of(deed) {
-        Entry::Nothing => Outcome::Holds(used, moves),
-        Entry::Refuse(r) => Outcome::Refused(r),
+        Entry::Nothing => Ok(Held { used, moves }),
         Entry::Register { row, outside } => {
             let a = enter(
                 keys, indices, kinds, starts, lengths, rows, used, moves, row,
@@ -244,14 +226,14 @@ pub(crate) fn perform_relocation(
     used: usize,
     moves: u64,
     deed: Deed,
-) -> Outcome
-    requires { DeedFits (length image.old) deed × Begins 1 (table_of keys indices kinds starts lengths) rows used moves }
-    ensures { PartSettles (deed_trace deed image.old) image keys indices kinds starts lengths 1 used moves result }
+) -> Result<Held, ElfError>
+    requires { DeedFits (length image.old) (Ok deed) × Begins 1 (table_of keys indices kinds starts lengths) rows used moves }
+    ensures { PartSettles (deed_trace (Ok deed) image.old) image keys indices kinds starts lengths 1 used moves result }
 {
     let entry = entry_of(deed);
     if let Entry::Nothing = entry {
         write(image, deed);
-        return Outcome::Holds(used, moves);
+        return Ok(Held { used, moves });
     }
     perform(
         image, keys, indices, kinds, starts, lengths, rows, used, moves, deed,

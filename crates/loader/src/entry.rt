@@ -6,8 +6,7 @@ ghost use Rattle.loader.specs.Functions.{Keyed};
 ghost use Rattle.loader.specs.Entry.{entry_deed, forgotten_by, entry_trace};
 ghost use Rattle.loader.specs.InnerContracts.{Begins, Forgets, PartSettles};
 
-use crate::addresses::saturating_sub;
-use crate::deeds::{Deed, Outcome, perform};
+use crate::deeds::{Deed, Held, perform};
 use crate::error::ElfError;
 use crate::functions::row_for;
 use crate::labels::label_row;
@@ -15,36 +14,30 @@ use crate::validate::Job;
 use program::{ENTRYPOINT_KEY, FunctionName, FunctionRegistry};
 
 // What a load does about the entry.
-fn entry_deed(builtins: &[u32], table: &[u32], job: Job) -> Deed
+fn entry_deed(builtins: &[u32], table: &[u32], job: Job) -> Result<Deed, ElfError>
     requires { Keyed table.now × (job.e_entry - job.sh_addr ≤ 2 ^ 24) }
     ensures { result ≡ entry_deed builtins.now job }
 {
-    let offset = saturating_sub(job.e_entry, job.sh_addr);
+    let offset = job.e_entry.saturating_sub(job.sh_addr);
     if offset % 8 != 0 {
-        return Deed::Refuse(ElfError::InvalidEntrypoint);
+        return Err(ElfError::InvalidEntrypoint);
     }
     let index = (offset / 8) as u32;
     label_row(row_for(table, builtins, job, FunctionName::Entrypoint, index))
 }
 
 // The rows and moves after a removal that answered so.
-fn forgotten(answer: Option<usize>, used: usize, moves: u64) -> Outcome
+fn forgotten(answer: Option<usize>, used: usize, moves: u64) -> Result<Held, ElfError>
     requires { moves + moves_gone answer < 2 ^ 64 }
     ensures { result ≡ forgotten_by answer used moves }
 {
     match answer {
-        Some(n) => Outcome::Holds(less_one(used), moves + n as u64),
-        None => Outcome::Holds(used, moves),
+        Some(n) => Ok(Held {
+            used: used.saturating_sub(1),
+            moves: moves + n as u64,
+        }),
+        None => Ok(Held { used, moves }),
     }
-}
-
-fn less_one(n: usize) -> usize
-    ensures { result ≡ n - 1 }
-{
-    if n == 0 {
-        return 0;
-    }
-    n - 1
 }
 
 // Version 1 removes the row under the key of the name entrypoint.
@@ -58,12 +51,12 @@ fn forget_entrypoint(
     rows: u64,
     used: usize,
     moves: u64,
-) -> Outcome
+) -> Result<Held, ElfError>
     requires { Begins 1 (table_of keys indices kinds starts lengths) rows used moves }
     ensures { Forgets version2 (table_before keys indices kinds starts lengths) (table_after keys indices kinds starts lengths) used moves result }
 {
     if version2 {
-        return Outcome::Holds(used, moves);
+        return Ok(Held { used, moves });
     }
     let mut registry = FunctionRegistry {
         keys,
@@ -91,12 +84,12 @@ pub(crate) fn register_entry(
     rows: u64,
     used: usize,
     moves: u64,
-) -> Outcome
+) -> Result<Held, ElfError>
     requires { Keyed table.now × (job.e_entry - job.sh_addr ≤ 2 ^ 24) × Begins 2 (table_of keys indices kinds starts lengths) rows used moves }
     ensures { PartSettles (entry_trace builtins.now job image.old) image keys indices kinds starts lengths 2 used moves result }
 {
-    let deed = entry_deed(builtins, table, job);
-    match forget_entrypoint(
+    let deed = entry_deed(builtins, table, job)?;
+    let held = forget_entrypoint(
         keys,
         indices,
         kinds,
@@ -106,10 +99,8 @@ pub(crate) fn register_entry(
         rows,
         used,
         moves,
-    ) {
-        Outcome::Refused(r) => Outcome::Refused(r),
-        Outcome::Holds(u, m) => perform(
-            image, keys, indices, kinds, starts, lengths, rows, u, m, deed,
-        ),
-    }
+    )?;
+    perform(
+        image, keys, indices, kinds, starts, lengths, rows, held.used, held.moves, deed,
+    )
 }

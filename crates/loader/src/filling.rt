@@ -5,33 +5,19 @@ ghost use Rattle.loader.specs.Parts.{job_trace};
 ghost use Rattle.loader.specs.Load.{all_count, after_placing, placed_bytes, Clears, FillAsks, Fills};
 ghost use Rattle.loader.specs.InnerContracts.{InFile, Begins, PartAsks, FileSettles};
 
-use crate::deeds::Outcome;
+use crate::deeds::Held;
+use crate::error::ElfError;
 use crate::parts::{calls_and_relocations, labels_and_entry};
 use crate::read_only::{Placing, copy_sections};
 use crate::validate::Job;
 use ebpf::key_table;
 use elf_parser::{Layout, file_header};
 
-// Every byte zero.
-fn clear_bytes(s: &mut [u8])
-    ensures { s.new ≡ replicate (length s.old) 0 }
-{
-    let mut i = 0;
-    while i < s.len() {
-        s[i] = 0;
-        i += 1;
-    }
-}
-
 // Every number zero.
 pub fn clear_words(s: &mut [u32])
     ensures { s.new ≡ replicate (length s.old) 0 }
 {
-    let mut i = 0;
-    while i < s.len() {
-        s[i] = 0;
-        i += 1;
-    }
+    s.fill(0);
 }
 
 // Every lent byte and number zero.
@@ -46,8 +32,8 @@ pub(crate) fn clear_all(
 )
     ensures { Clears image ro keys indices kinds starts lengths }
 {
-    clear_bytes(image);
-    clear_bytes(ro);
+    image.fill(0);
+    ro.fill(0);
     clear_words(keys);
     clear_words(indices);
     clear_words(kinds);
@@ -56,25 +42,15 @@ pub(crate) fn clear_all(
 }
 
 // The placing of the read-only sections refuses after everything else.
-fn after_placing(a: Outcome, placing: Placing) -> Outcome
+fn after_placing(
+    a: Result<Held, ElfError>,
+    placing: Result<Placing, ElfError>,
+) -> Result<Held, ElfError>
     ensures { result ≡ after_placing a placing }
 {
-    match a {
-        Outcome::Refused(r) => Outcome::Refused(r),
-        Outcome::Holds(used, moves) => match placing {
-            Placing::Refused(r) => Outcome::Refused(r),
-            Placing::Borrowed {
-                offset: _,
-                start: _,
-                length: _,
-            } => Outcome::Holds(used, moves),
-            Placing::Owned {
-                offset: _,
-                lowest: _,
-                length: _,
-            } => Outcome::Holds(used, moves),
-        },
-    }
+    let held = a?;
+    placing?;
+    Ok(held)
 }
 
 // All parts of a load.
@@ -90,23 +66,18 @@ fn all_parts(
     table: &[u32],
     job: Job,
     rows: u64,
-) -> Outcome
+) -> Result<Held, ElfError>
     requires { PartAsks (all_count file.now job) file table job image keys indices kinds starts lengths rows 0 0 }
     ensures { FileSettles job_trace file builtins job file.now image keys indices kinds starts lengths (all_count file.now job) 0 0 result }
 {
-    match calls_and_relocations(
+    let held = calls_and_relocations(
         image, keys, indices, kinds, starts, lengths, file, builtins, table, job, rows,
-    ) {
-        Outcome::Refused(r) => Outcome::Refused(r),
-        Outcome::Holds(u, m) => {
-            let a = labels_and_entry(
-                image, keys, indices, kinds, starts, lengths, file, builtins, table, job, rows, u,
-                m,
-            );
-            let placing = job.placing;
-            after_placing(a, placing)
-        }
-    }
+    )?;
+    let a = labels_and_entry(
+        image, keys, indices, kinds, starts, lengths, file, builtins, table, job, rows, held.used,
+        held.moves,
+    );
+    after_placing(a, job.placing)
 }
 
 // The same, with the table of keys made here. Only version 1 asks for it: in version 2 an index is its
@@ -122,7 +93,7 @@ fn keyed_parts(
     builtins: &[u32],
     job: Job,
     rows: u64,
-) -> Outcome
+) -> Result<Held, ElfError>
     requires { InFile file.now job × (length image.old ≡ length file.now) × Begins (all_count file.now job) (table_of keys indices kinds starts lengths) rows 0 0 }
     ensures { FileSettles job_trace file builtins job file.now image keys indices kinds starts lengths (all_count file.now job) 0 0 result }
 {
@@ -139,25 +110,19 @@ fn keyed_parts(
 }
 
 // The read-only sections' bytes, where they are copied.
-fn copy_placed(ro: &mut [u8], image: &[u8], file: &[u8], layout: Layout, placing: Placing)
+fn copy_placed(
+    ro: &mut [u8],
+    image: &[u8],
+    file: &[u8],
+    layout: Layout,
+    placing: Result<Placing, ElfError>,
+)
     ensures { ro.new ≡ placed_bytes file.now layout placing image.now ro.old }
 {
-    match placing {
-        Placing::Owned {
-            offset: _,
-            lowest,
-            length: _,
-        } => {
-            let h = file_header(file);
-            let count = h.e_shnum as u32;
-            copy_sections(ro, image, file, layout, count, lowest);
-        }
-        Placing::Borrowed {
-            offset: _,
-            start: _,
-            length: _,
-        } => {}
-        Placing::Refused(_) => {}
+    if let Ok(Placing::Owned { lowest, .. }) = placing {
+        let h = file_header(file);
+        let count = h.e_shnum as u32;
+        copy_sections(ro, image, file, layout, count, lowest);
     }
 }
 
@@ -174,19 +139,15 @@ pub(crate) fn fill_all(
     builtins: &[u32],
     job: Job,
     rows: u64,
-) -> Outcome
+) -> Result<Held, ElfError>
     requires { FillAsks file job image keys indices kinds starts lengths rows }
     ensures { Fills file builtins job image ro keys indices kinds starts lengths result }
 {
     let layout = job.layout;
     let placing = job.placing;
-    match keyed_parts(
+    let held = keyed_parts(
         image, keys, indices, kinds, starts, lengths, file, builtins, job, rows,
-    ) {
-        Outcome::Refused(r) => Outcome::Refused(r),
-        Outcome::Holds(u, m) => {
-            copy_placed(ro, image, file, layout, placing);
-            Outcome::Holds(u, m)
-        }
-    }
+    )?;
+    copy_placed(ro, image, file, layout, placing);
+    Ok(held)
 }

@@ -3,7 +3,6 @@
 ghost use Rattle.std.specs.Prelude.{◌≡◌, length};
 ghost use Rattle.loader.specs.GetBytes.{text_place, ro_place, lent_for, ro_of, text_place_of, part_of, part_for};
 
-use crate::addresses::saturating_sub;
 use crate::answer::Accepted;
 use crate::error::ElfError;
 use ebpf::MM_PROGRAM_START;
@@ -11,64 +10,73 @@ use elf_parser::past;
 
 // A place in the lent bytes.
 #[derive(Clone, Copy)]
-pub enum PartPlace {
-    At { start: u64, length: u64 },
-    Refused(ElfError),
+pub struct PartPlace {
+    pub start: u64,
+    pub length: u64,
 }
 
 // The text's place, by how many bytes are lent, the read-only bytes' offset from the program's start
 // and their place, `n` of them from `start` on, and the text's address and size.
-pub fn text_place(lent: u64, offset: u64, start: u64, n: u64, addr: u64, size: u64) -> PartPlace
+pub fn text_place(
+    lent: u64,
+    offset: u64,
+    start: u64,
+    n: u64,
+    addr: u64,
+    size: u64,
+) -> Result<PartPlace, ElfError>
     ensures { result ≡ text_place lent offset start n addr size }
 {
-    let at = saturating_sub(saturating_sub(addr, MM_PROGRAM_START), offset);
+    let at = addr.saturating_sub(MM_PROGRAM_START).saturating_sub(offset);
     if past(lent, start, n) {
-        return PartPlace::Refused(ElfError::TextOutsideReadOnly);
+        return Err(ElfError::TextOutsideReadOnly);
     }
     if past(n, at, size) {
-        return PartPlace::Refused(ElfError::TextOutsideReadOnly);
+        return Err(ElfError::TextOutsideReadOnly);
     }
-    PartPlace::At {
+    Ok(PartPlace {
         start: start + at,
         length: size,
-    }
+    })
 }
 
 // The text's bytes among the lent ones; none where it is refused.
+#[tactic(auto, using(crate::specs::GetBytes::text_within))]
 pub fn text_bytes(lent: &[u8], offset: u64, start: u64, n: u64, addr: u64, size: u64) -> &[u8]
     ensures { result.now ≡ part_of lent.now (text_place (length lent.now) offset start n addr size) }
 {
     match text_place(lent.len() as u64, offset, start, n, addr, size) {
-        PartPlace::At { start, length } => {
+        Ok(PartPlace { start, length }) => {
             let from = start as usize;
             let end = (start + length) as usize;
             &lent[from..end]
         }
-        PartPlace::Refused(_) => &lent[..0],
+        Err(_) => &lent[..0],
     }
 }
 
 // The read-only bytes' place, by how many bytes are lent.
-pub fn ro_place(lent: u64, start: u64, n: u64) -> PartPlace
+pub fn ro_place(lent: u64, start: u64, n: u64) -> Result<PartPlace, ElfError>
     ensures { result ≡ ro_place lent start n }
 {
     if past(lent, start, n) {
-        return PartPlace::Refused(ElfError::TextOutsideReadOnly);
+        return Err(ElfError::TextOutsideReadOnly);
     }
-    PartPlace::At { start, length: n }
+    Ok(PartPlace { start, length: n })
 }
 
 // The read-only bytes among the lent ones; none where they are refused.
+#[tactic(auto, using(crate::specs::GetBytes::ro_within))]
 pub fn ro_bytes(lent: &[u8], start: u64, n: u64) -> &[u8]
     ensures { result.now ≡ part_of lent.now (ro_place (length lent.now) start n) }
 {
     match ro_place(lent.len() as u64, start, n) {
-        PartPlace::At { start, length } => {
+        Ok(PartPlace { start, length }) => {
             let from = start as usize;
             let end = (start + length) as usize;
             &lent[from..end]
         }
-        PartPlace::Refused(_) => &lent[..0],
+        Err(_) => &lent[..0],
     }
 }
 
@@ -83,7 +91,7 @@ pub fn get_ro_section<'a>(a: Accepted, image: &'a [u8], ro_section: &'a [u8]) ->
 }
 
 // Where they stand, by how many bytes are lent for the image and for the buffer.
-pub fn get_ro_place(a: Accepted, image: u64, ro_section: u64) -> PartPlace
+pub fn get_ro_place(a: Accepted, image: u64, ro_section: u64) -> Result<PartPlace, ElfError>
     ensures { result ≡ ro_of a (lent_for a image ro_section) }
 {
     if a.ro_copied {
@@ -118,7 +126,7 @@ pub fn get_text_bytes<'a>(a: Accepted, image: &'a [u8], ro_section: &'a [u8]) ->
 }
 
 // Where it stands.
-pub fn get_text_place(a: Accepted, image: u64, ro_section: u64) -> PartPlace
+pub fn get_text_place(a: Accepted, image: u64, ro_section: u64) -> Result<PartPlace, ElfError>
     ensures { result ≡ text_place_of a (lent_for a image ro_section) }
 {
     let size = a.text_length as u64;

@@ -2,7 +2,8 @@
 ghost use Rattle.loader.specs.Labels.{labels_trace, label_count};
 ghost use Rattle.loader.specs.InnerContracts.{PartAsks, FileSettles};
 
-use crate::deeds::{Outcome, perform};
+use crate::deeds::{Held, perform};
+use crate::error::ElfError;
 use crate::labels::{label_deed, label_symbols};
 use crate::validate::Job;
 
@@ -19,29 +20,22 @@ pub(crate) fn register_labels(
     table: &[u32],
     job: Job,
     rows: u64,
-    held: usize,
-    moved: u64,
-) -> Outcome
-    requires { PartAsks (label_count file.now job) file table job image keys indices kinds starts lengths rows held moved }
-    ensures { FileSettles labels_trace file builtins job image.old image keys indices kinds starts lengths (label_count file.now job) held moved result }
+    used: usize,
+    moves: u64,
+) -> Result<Held, ElfError>
+    requires { PartAsks (label_count file.now job) file table job image keys indices kinds starts lengths rows used moves }
+    ensures { FileSettles labels_trace file builtins job image.old image keys indices kinds starts lengths (label_count file.now job) used moves result }
 {
     let symbols = label_symbols(file, job);
     let count = symbols.count as u32;
-    let mut used = held;
-    let mut moves = moved;
+    let mut held = Held { used, moves };
     let mut i: u32 = 0;
     while i < count {
-        let deed = label_deed(file, builtins, table, job, symbols, i);
-        match perform(
-            image, keys, indices, kinds, starts, lengths, rows, used, moves, deed,
-        ) {
-            Outcome::Refused(r) => return Outcome::Refused(r),
-            Outcome::Holds(u, m) => {
-                used = u;
-                moves = m;
-                i += 1;
-            }
-        }
+        let deed = label_deed(file, builtins, table, job, symbols, i)?;
+        held = perform(
+            image, keys, indices, kinds, starts, lengths, rows, held.used, held.moves, deed,
+        )?;
+        i += 1;
     }
-    Outcome::Holds(used, moves)
+    Ok(held)
 }

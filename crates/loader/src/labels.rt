@@ -15,12 +15,12 @@ use elf_parser::types::Elf64Sym;
 use elf_parser::{Entries, Layout, Place, Sliced, Sym, part_of, symbol, symbol_name, symbol_table};
 use program::{Row, SymbolHashCollision};
 
-pub(crate) fn label_row(row: Result<Row, SymbolHashCollision>) -> Deed
+pub(crate) fn label_row(row: Result<Row, SymbolHashCollision>) -> Result<Deed, ElfError>
     ensures { result ≡ label_row row }
 {
     match row {
-        Ok(row) => Deed::RegisterOnly { row },
-        Err(taken) => Deed::Refuse(ElfError::SymbolHashCollision { key: taken.key }),
+        Err(taken) => Err(ElfError::SymbolHashCollision { key: taken.key }),
+        Ok(row) => Ok(Deed::RegisterOnly { row }),
     }
 }
 
@@ -33,7 +33,7 @@ fn label_as(
     index: u32,
     start: usize,
     length: usize,
-) -> Deed
+) -> Result<Deed, ElfError>
     requires { Keyed table.now × (start ≤ 2 ^ 24) × (length ≤ 64) }
     ensures { result ≡ label_as part.now builtins.now job index start length }
 {
@@ -49,7 +49,7 @@ fn named_label(
     job: Job,
     index: u32,
     st_name: u32,
-) -> Deed
+) -> Result<Deed, ElfError>
     requires { InFile file.now job × Keyed table.now }
     ensures { result ≡ named_label file.now builtins.now job index st_name (symbol_name file.now job.layout st_name) }
 {
@@ -59,11 +59,17 @@ fn named_label(
             let part = part_of(file, Place::At { start, length });
             label_as(part, builtins, table, job, index, start, length)
         }
-        Place::Refused(_) => Deed::Refuse(ElfError::UnknownSymbol { number: st_name }),
+        Place::Refused(_) => Err(ElfError::UnknownSymbol { number: st_name }),
     }
 }
 
-fn label_of(file: &[u8], builtins: &[u32], table: &[u32], job: Job, y: Elf64Sym) -> Deed
+fn label_of(
+    file: &[u8],
+    builtins: &[u32],
+    table: &[u32],
+    job: Job,
+    y: Elf64Sym,
+) -> Result<Deed, ElfError>
     requires { InFile file.now job × Keyed table.now }
     ensures { result ≡ label_of file.now builtins.now job y }
 {
@@ -71,10 +77,10 @@ fn label_of(file: &[u8], builtins: &[u32], table: &[u32], job: Job, y: Elf64Sym)
     let sh_size = job.sh_size;
     let st_value = y.st_value;
     if y.st_info & 0xef != 2 {
-        return Deed::Skip;
+        return Ok(Deed::Skip);
     }
     if !in_addresses(sh_addr, sh_size, st_value) {
-        return Deed::Refuse(ElfError::ValueOutOfBounds);
+        return Err(ElfError::ValueOutOfBounds);
     }
     let index = ((st_value - sh_addr) / 8) as u32;
     named_label(file, builtins, table, job, index, y.st_name)
@@ -88,13 +94,13 @@ pub(crate) fn label_deed(
     job: Job,
     symbols: Entries,
     index: u32,
-) -> Deed
+) -> Result<Deed, ElfError>
     requires { InFile file.now job × Keyed table.now }
     ensures { result ≡ label_deed file.now builtins.now job symbols index }
 {
     match symbol(file, symbols, index) {
         Sym::Symbol(y) => label_of(file, builtins, table, job, y),
-        Sym::Refused(_) => Deed::Skip,
+        Sym::Refused(_) => Ok(Deed::Skip),
     }
 }
 

@@ -6,7 +6,7 @@ ghost use Rattle.loader.specs.Loads.{Loads};
 use answer::answer_of;
 use filling::{clear_all, fill_all};
 use program::FunctionTable;
-use validate::{Prepared, prepare};
+use validate::prepare;
 
 mod addresses;
 mod answer;
@@ -27,7 +27,7 @@ mod relocations;
 mod sections;
 mod validate;
 
-pub use answer::{Accepted, Load};
+pub use answer::Accepted;
 pub use calls::is_local_call;
 pub use error::{ElfError, from_parser, report_of};
 pub use filling::clear_words;
@@ -35,9 +35,7 @@ pub use get_bytes::{
     PartPlace, get_ro_place, get_ro_section, get_text_bytes, get_text_place, ro_bytes, ro_place,
     text_bytes, text_place,
 };
-pub use relocations::{
-    Addend, Mapped, Relocation, Used, is_within, r_place, relocation_at, used_header,
-};
+pub use relocations::{Relocation, UsedHeader, is_within, r_place, relocation_at, used_header};
 pub use validate::Config;
 
 // A load that leaves anything where it refuses. The image's front is not cleared, since the file is
@@ -53,47 +51,43 @@ fn attempt(
     file: &[u8],
     builtins: &[u32],
     config: Config,
-) -> Load
+) -> Result<Accepted, ElfError>
     ensures { Tries file builtins config image ro_section keys indices kinds starts lengths result }
 {
-    match prepare(file, builtins, config, image.len(), ro_section.len()) {
-        Prepared::Refused(r) => Load::Refused(r),
-        Prepared::Ready(job) => {
-            let n = file.len();
-            let table = FunctionTable {
-                keys,
-                indices,
-                kinds,
-                starts,
-                lengths,
-                used: 0,
-            };
-            let rows = table.rows_lent() as u64;
-            clear_all(
-                &mut image[n..],
-                ro_section,
-                keys,
-                indices,
-                kinds,
-                starts,
-                lengths,
-            );
-            let a = fill_all(
-                &mut image[..n],
-                ro_section,
-                keys,
-                indices,
-                kinds,
-                starts,
-                lengths,
-                file,
-                builtins,
-                job,
-                rows,
-            );
-            answer_of(a, job)
-        }
-    }
+    let job = prepare(file, builtins, config, image.len(), ro_section.len())?;
+    let n = file.len();
+    let table = FunctionTable {
+        keys,
+        indices,
+        kinds,
+        starts,
+        lengths,
+        used: 0,
+    };
+    let rows = table.rows_lent() as u64;
+    clear_all(
+        &mut image[n..],
+        ro_section,
+        keys,
+        indices,
+        kinds,
+        starts,
+        lengths,
+    );
+    let a = fill_all(
+        &mut image[..n],
+        ro_section,
+        keys,
+        indices,
+        kinds,
+        starts,
+        lengths,
+        file,
+        builtins,
+        job,
+        rows,
+    );
+    answer_of(a, job)
 }
 
 // A LOAD: the image, the read-only bytes and the table of a file, or a refusal and only zeros
@@ -109,16 +103,16 @@ pub fn load(
     kinds: &mut [u32],
     starts: &mut [u32],
     lengths: &mut [u32],
-) -> Load
+) -> Result<Accepted, ElfError>
     ensures { Loads file builtins config image ro_section keys indices kinds starts lengths result }
 {
     match attempt(
         image, ro_section, keys, indices, kinds, starts, lengths, file, builtins, config,
     ) {
-        Load::Accepted(a) => Load::Accepted(a),
-        Load::Refused(r) => {
+        Ok(a) => Ok(a),
+        Err(r) => {
             clear_all(image, ro_section, keys, indices, kinds, starts, lengths);
-            Load::Refused(r)
+            Err(r)
         }
     }
 }

@@ -3,14 +3,15 @@ ghost use Rattle.std.specs.Prelude.{◌≡◌, ◌≤◌};
 ghost use Rattle.loader.specs.Sections.{survey};
 ghost use Rattle.loader.specs.ReadOnly.{gathered};
 
-use crate::read_only::{Gathering, gather_next, no_extent};
+use crate::error::ElfError;
+use crate::read_only::{Extent, gather_next, no_extent};
 use crate::sections::{Survey, no_survey, section_at, survey_next};
 use elf_parser::{Layout, section_name_part};
 
 #[derive(Clone, Copy)]
 pub struct Overview {
     pub survey: Survey,
-    pub gathering: Gathering,
+    pub gathering: Result<Extent, ElfError>,
 }
 
 // It does not stop where the gathering refuses, since the checks count first and ask for all sections.
@@ -26,7 +27,7 @@ pub(crate) fn look_over(
 {
     let len = file.len() as u64;
     let mut v = no_survey();
-    let mut g = Gathering::Next(no_extent());
+    let mut g = Ok(no_extent());
     let mut i: u32 = 0;
     while i < count {
         let h = section_at(file, layout, i);

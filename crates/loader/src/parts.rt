@@ -5,8 +5,9 @@ ghost use Rattle.loader.specs.InnerContracts.{PartAsks, FileSettles};
 ghost use Rattle.loader.specs.Load.{writing_count, naming_count};
 
 use crate::calls::register_calls;
-use crate::deeds::Outcome;
+use crate::deeds::Held;
 use crate::entry::register_entry;
+use crate::error::ElfError;
 use crate::labelling::register_labels;
 use crate::relocating::apply_relocations;
 use crate::validate::Job;
@@ -24,18 +25,17 @@ pub(crate) fn calls_and_relocations(
     table: &[u32],
     job: Job,
     rows: u64,
-) -> Outcome
+) -> Result<Held, ElfError>
     requires { PartAsks (writing_count job) file table job image keys indices kinds starts lengths rows 0 0 }
     ensures { FileSettles writing_trace file builtins job file.now image keys indices kinds starts lengths (writing_count job) 0 0 result }
 {
-    match register_calls(
+    let held = register_calls(
         image, keys, indices, kinds, starts, lengths, file, builtins, table, job, rows,
-    ) {
-        Outcome::Refused(r) => Outcome::Refused(r),
-        Outcome::Holds(u, m) => apply_relocations(
-            image, keys, indices, kinds, starts, lengths, file, builtins, table, job, rows, u, m,
-        ),
-    }
+    )?;
+    apply_relocations(
+        image, keys, indices, kinds, starts, lengths, file, builtins, table, job, rows, held.used,
+        held.moves,
+    )
 }
 
 // Labels, then the entry.
@@ -53,16 +53,15 @@ pub(crate) fn labels_and_entry(
     rows: u64,
     used: usize,
     moves: u64,
-) -> Outcome
+) -> Result<Held, ElfError>
     requires { PartAsks (naming_count file.now job) file table job image keys indices kinds starts lengths rows used moves }
     ensures { FileSettles naming_trace file builtins job image.old image keys indices kinds starts lengths (naming_count file.now job) used moves result }
 {
-    match register_labels(
+    let held = register_labels(
         image, keys, indices, kinds, starts, lengths, file, builtins, table, job, rows, used, moves,
-    ) {
-        Outcome::Refused(r) => Outcome::Refused(r),
-        Outcome::Holds(u, m) => register_entry(
-            image, keys, indices, kinds, starts, lengths, builtins, table, job, rows, u, m,
-        ),
-    }
+    )?;
+    register_entry(
+        image, keys, indices, kinds, starts, lengths, builtins, table, job, rows, held.used,
+        held.moves,
+    )
 }

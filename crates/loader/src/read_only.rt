@@ -3,7 +3,7 @@ ghost use Rattle.std.specs.Prelude.{◌≡◌, ◌+◌, ◌≤◌, length, drop}
 ghost use Rattle.std.proofs.Math.Seq.{paste};
 ghost use Rattle.loader.specs.ReadOnly.{read_only, gives, invalid_by, end_of, grown, taken, gather_next, nothing, from_start, can_borrow, borrowed, owned, placed, placing_by, copied_to, copy_step, copied_from};
 
-use crate::addresses::{greater, lesser, machine_addr, pick, saturating_add, saturating_sub};
+use crate::addresses::{machine_addr, pick};
 use crate::error::ElfError;
 use crate::sections::section_at;
 use ebpf::{MM_PROGRAM_START, MM_STACK_START};
@@ -24,7 +24,6 @@ pub enum Placing {
         lowest: u64,
         length: u64,
     },
-    Refused(ElfError),
 }
 
 // What is known of the read-only sections so far: their lowest address and highest end, how many
@@ -41,12 +40,6 @@ pub struct Extent {
     pub first: u64,
     pub last: u64,
     pub many: u64,
-}
-
-#[derive(Clone, Copy)]
-pub enum Gathering {
-    Next(Extent),
-    Refused(ElfError),
 }
 
 fn is_read_only(name: &[u8]) -> bool
@@ -91,7 +84,7 @@ fn end_of(version2: bool, addr: u64, size: u64) -> u64
 {
     let start = machine_addr(version2, addr);
     if version2 {
-        return saturating_add(start, size);
+        return start.saturating_add(size);
     }
     start
 }
@@ -102,15 +95,15 @@ fn grow(version2: bool, index: u64, addr: u64, offset: u64, n: u64, x: Extent) -
 {
     let gives = gives_shift(version2, addr, offset, x);
     Extent {
-        lowest: lesser(x.lowest, addr),
-        highest: greater(x.highest, saturating_add(addr, n)),
-        filled: saturating_add(x.filled, n),
+        lowest: x.lowest.min(addr),
+        highest: x.highest.max(addr.saturating_add(n)),
+        filled: x.filled.saturating_add(n),
         invalid: is_invalid(version2, addr, offset, x),
         shifted: x.shifted | gives,
-        shift: pick(gives, saturating_sub(addr, offset), x.shift),
+        shift: pick(gives, addr.saturating_sub(offset), x.shift),
         first: pick(x.many == 0, index, x.first),
         last: index,
-        many: saturating_add(x.many, 1),
+        many: x.many.saturating_add(1),
     }
 }
 
@@ -121,18 +114,18 @@ fn take_section(
     h: Elf64Shdr,
     n: u64,
     x: Extent,
-) -> Gathering
+) -> Result<Extent, ElfError>
     ensures { result ≡ taken version2 reject_broken index h n x }
 {
     let invalid = is_invalid(version2, h.sh_addr, h.sh_offset, x);
     let end = end_of(version2, h.sh_addr, h.sh_size);
     if reject_broken & invalid {
-        return Gathering::Refused(ElfError::ValueOutOfBounds);
+        return Err(ElfError::ValueOutOfBounds);
     }
     if MM_STACK_START < end {
-        return Gathering::Refused(ElfError::ValueOutOfBounds);
+        return Err(ElfError::ValueOutOfBounds);
     }
-    Gathering::Next(grow(version2, index, h.sh_addr, h.sh_offset, n, x))
+    Ok(grow(version2, index, h.sh_addr, h.sh_offset, n, x))
 }
 
 // Before the first section.
@@ -153,6 +146,7 @@ pub(crate) fn no_extent() -> Extent
 }
 
 // With one section more, of that header and name, read-only or not. A refusal stays.
+#[tactic(auto, using(ebpf::specs::Choice::choices))]
 pub(crate) fn gather_next(
     file: &[u8],
     layout: Layout,
@@ -161,18 +155,16 @@ pub(crate) fn gather_next(
     index: u32,
     h: Elf64Shdr,
     name: &[u8],
-    g: Gathering,
-) -> Gathering
+    g: Result<Extent, ElfError>,
+) -> Result<Extent, ElfError>
     ensures { result ≡ gather_next file.now layout version2 reject_broken index h name.now g }
 {
-    let Gathering::Next(x) = g else {
-        return g;
-    };
+    let x = g?;
     if !is_read_only(name) {
-        return g;
+        return Ok(x);
     }
     match file_range(file, layout, index) {
-        Place::Refused(_) => Gathering::Refused(ElfError::ValueOutOfBounds),
+        Place::Refused(_) => Err(ElfError::ValueOutOfBounds),
         Place::At { start: _, length } => {
             take_section(version2, reject_broken, index as u64, h, length as u64, x)
         }
@@ -192,50 +184,56 @@ fn from_start(addr: u64) -> u64
 fn can_borrow(x: Extent) -> bool
     ensures { result ≡ can_borrow x }
 {
-    let end = saturating_add(x.last, 1);
-    !x.invalid & (saturating_sub(end, x.first) == x.many)
+    let end = x.last.saturating_add(1);
+    !x.invalid & (end.saturating_sub(x.first) == x.many)
 }
 
-fn borrow_sections(version2: bool, x: Extent) -> Placing
+fn borrow_sections(version2: bool, x: Extent) -> Result<Placing, ElfError>
     ensures { result ≡ borrowed version2 x }
 {
-    let start = saturating_sub(x.lowest, x.shift);
-    let end = saturating_sub(x.highest, x.shift);
+    let start = x.lowest.saturating_sub(x.shift);
+    let end = x.highest.saturating_sub(x.shift);
     if version2 & (x.lowest < MM_PROGRAM_START) {
-        return Placing::Refused(ElfError::ValueOutOfBounds);
+        return Err(ElfError::ValueOutOfBounds);
     }
-    Placing::Borrowed {
+    Ok(Placing::Borrowed {
         offset: from_start(x.lowest),
         start,
-        length: saturating_sub(end, start),
-    }
+        length: end.saturating_sub(start),
+    })
 }
 
-fn own_sections(len: u64, optimize: bool, x: Extent) -> Placing
+fn own_sections(len: u64, optimize: bool, x: Extent) -> Result<Placing, ElfError>
     ensures { result ≡ owned len optimize x }
 {
     let lowest = pick(optimize, x.lowest, 0);
-    let length = saturating_sub(x.highest, lowest);
+    let length = x.highest.saturating_sub(lowest);
     if len < length {
-        return Placing::Refused(ElfError::ValueOutOfBounds);
+        return Err(ElfError::ValueOutOfBounds);
     }
-    Placing::Owned {
+    Ok(Placing::Owned {
         offset: from_start(lowest),
         lowest,
         length,
-    }
+    })
 }
 
-fn place_extent(len: u64, version2: bool, reject_broken: bool, optimize: bool, x: Extent) -> Placing
+fn place_extent(
+    len: u64,
+    version2: bool,
+    reject_broken: bool,
+    optimize: bool,
+    x: Extent,
+) -> Result<Placing, ElfError>
     ensures { result ≡ placed len version2 reject_broken optimize x }
 {
     let borrows = can_borrow(x);
-    let end = saturating_add(x.lowest, x.filled);
+    let end = x.lowest.saturating_add(x.filled);
     if reject_broken & (x.highest < end) {
-        return Placing::Refused(ElfError::ValueOutOfBounds);
+        return Err(ElfError::ValueOutOfBounds);
     }
     if version2 & !borrows {
-        return Placing::Refused(ElfError::ValueOutOfBounds);
+        return Err(ElfError::ValueOutOfBounds);
     }
     if optimize & borrows {
         return borrow_sections(version2, x);
@@ -249,14 +247,11 @@ pub(crate) fn place_gathered(
     version2: bool,
     reject_broken: bool,
     optimize: bool,
-    g: Gathering,
-) -> Placing
+    g: Result<Extent, ElfError>,
+) -> Result<Placing, ElfError>
     ensures { result ≡ placing_by len version2 reject_broken optimize g }
 {
-    match g {
-        Gathering::Next(x) => place_extent(len, version2, reject_broken, optimize, x),
-        Gathering::Refused(r) => Placing::Refused(r),
-    }
+    place_extent(len, version2, reject_broken, optimize, g?)
 }
 
 // The bytes of `from` from `start` on, `n` of them, go to `at`.
@@ -293,7 +288,7 @@ fn copy_section(ro: &mut [u8], image: &[u8], file: &[u8], layout: Layout, lowest
     if !is_read_only(section_name_part(file, layout, h.sh_name)) {
         return;
     }
-    let at = saturating_sub(h.sh_addr, lowest);
+    let at = h.sh_addr.saturating_sub(lowest);
     match file_range(file, layout, index) {
         Place::Refused(_) => {}
         Place::At { start, length } => {

@@ -2,8 +2,9 @@
 ghost use Rattle.loader.specs.Relocations.{relocations_trace, relocation_count};
 ghost use Rattle.loader.specs.InnerContracts.{PartAsks, FileSettles};
 
-use crate::deeds::{Outcome, perform_relocation};
-use crate::relocations::{Used, plan_relocation, relocation_at, used_header};
+use crate::deeds::{Held, perform_relocation};
+use crate::error::ElfError;
+use crate::relocations::{plan_relocation, relocation_at, used_header};
 use crate::validate::Job;
 
 // Every relocation in turn, up to the first refusal. `header` is the program header used last.
@@ -19,20 +20,19 @@ pub(crate) fn apply_relocations(
     table: &[u32],
     job: Job,
     rows: u64,
-    held: usize,
-    moved: u64,
-) -> Outcome
-    requires { PartAsks (relocation_count job) file table job image keys indices kinds starts lengths rows held moved }
-    ensures { FileSettles relocations_trace file builtins job image.old image keys indices kinds starts lengths (relocation_count job) held moved result }
+    used: usize,
+    moves: u64,
+) -> Result<Held, ElfError>
+    requires { PartAsks (relocation_count job) file table job image keys indices kinds starts lengths rows used moves }
+    ensures { FileSettles relocations_trace file builtins job image.old image keys indices kinds starts lengths (relocation_count job) used moves result }
 {
     let layout = job.layout;
     let version2 = job.version2;
     let older = layout.dynamic_relocations;
     let newer = layout.dynamic_relas;
     let count = (older.count + newer.count) as u32;
-    let mut header = Used::None;
-    let mut used = held;
-    let mut moves = moved;
+    let mut header = None;
+    let mut held = Held { used, moves };
     let mut i: u32 = 0;
     while i < count {
         let r = relocation_at(file, layout, i);
@@ -41,17 +41,11 @@ pub(crate) fn apply_relocations(
         header = next;
         let deed = plan_relocation(
             file, image, builtins, table, job, next, r.r_offset, r.r_info, addend,
-        );
-        match perform_relocation(
-            image, keys, indices, kinds, starts, lengths, rows, used, moves, deed,
-        ) {
-            Outcome::Refused(r) => return Outcome::Refused(r),
-            Outcome::Holds(u, m) => {
-                used = u;
-                moves = m;
-                i += 1;
-            }
-        }
+        )?;
+        held = perform_relocation(
+            image, keys, indices, kinds, starts, lengths, rows, held.used, held.moves, deed,
+        )?;
+        i += 1;
     }
-    Outcome::Holds(used, moves)
+    Ok(held)
 }

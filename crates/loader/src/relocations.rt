@@ -7,9 +7,9 @@ ghost use Rattle.elf_parser.specs.Names.{dynamic_symbol_name};
 ghost use Rattle.loader.specs.Addresses.{sum_up_to};
 ghost use Rattle.loader.specs.Functions.{Keyed};
 ghost use Rattle.loader.specs.InnerContracts.{InFile};
-ghost use Rattle.loader.specs.Relocations.{relocation_or, rela_or, relocation_at, header_at, contains, first_from, used_header, place_of, within, program_address, immediate_at, halves_deed, word_deed, address_deed, symbol_deed, plan6464, relative_text, relative_value, addend_or, is_negative, plan_relative, register_deed, function_call, builtin_call, call_by_name, named_call, plan6432, plan_at, plan_of};
+ghost use Rattle.loader.specs.Relocations.{relocation_or, rela_or, relocation_at, header_at, contains, first_from, used_header, place_of, within, program_address, immediate_at, halves_deed, word_deed, address_deed, symbol_deed, plan6464, relative_text, relative_value, is_negative, plan_relative, register_deed, function_call, builtin_call, call_by_name, named_call, plan6432, plan_at, plan_of};
 
-use crate::addresses::{lesser, pick, saturating_add, saturating_sub};
+use crate::addresses::pick;
 use crate::deeds::Deed;
 use crate::error::ElfError;
 use crate::functions::{row_for, symbol_function};
@@ -29,19 +29,13 @@ const R_BPF_64_RELATIVE: u32 = 8;
 
 const R_BPF_64_32: u32 = 10;
 
-// The addend that a relocation brings, if it is of the kind that does: its bits as an unsigned number.
-#[derive(Clone, Copy)]
-pub enum Addend {
-    None,
-    Is(u64),
-}
-
-// A relocation of either kind.
+// A relocation of either kind, with the addend that it brings, if it is of the kind that does: its bits as
+// an unsigned number.
 #[derive(Clone, Copy)]
 pub struct Relocation {
     pub r_offset: u64,
     pub r_info: u64,
-    pub addend: Addend,
+    pub addend: Option<u64>,
 }
 
 // The relocation number `index` of the older table; a blank one where there is none.
@@ -52,12 +46,12 @@ fn plain_relocation(file: &[u8], layout: Layout, index: u32) -> Relocation
         Rel::Relocation(r) => Relocation {
             r_offset: r.r_offset,
             r_info: r.r_info,
-            addend: Addend::None,
+            addend: None,
         },
         Rel::Refused(_) => Relocation {
             r_offset: 0,
             r_info: 0,
-            addend: Addend::None,
+            addend: None,
         },
     }
 }
@@ -71,12 +65,12 @@ fn addend_relocation(file: &[u8], layout: Layout, index: u32) -> Relocation
         Rela::Relocation(r) => Relocation {
             r_offset: r.r_offset,
             r_info: r.r_info,
-            addend: Addend::Is(r.r_addend),
+            addend: Some(r.r_addend),
         },
         Rela::Refused(_) => Relocation {
             r_offset: 0,
             r_info: 0,
-            addend: Addend::None,
+            addend: None,
         },
     }
 }
@@ -97,44 +91,38 @@ pub fn relocation_at(file: &[u8], layout: Layout, index: u32) -> Relocation
 // A program header, as far as version 2 maps by it: the addresses from `p_vaddr` up to `end` stand
 // from `p_offset` on in the file.
 #[derive(Clone, Copy)]
-pub enum Used {
-    None,
-    Header {
-        p_vaddr: u64,
-        end: u64,
-        p_offset: u64,
-    },
+pub struct UsedHeader {
+    pub p_vaddr: u64,
+    pub end: u64,
+    pub p_offset: u64,
 }
 
 // The program header number `index`.
-fn header_at(file: &[u8], layout: Layout, index: u32) -> Used
+#[tactic(auto, unfolding(crate::specs::Relocations::header_at))]
+fn header_at(file: &[u8], layout: Layout, index: u32) -> Option<UsedHeader>
     ensures { result ≡ header_at file.now layout index }
 {
     match program_header(file, layout, index) {
-        Phdr::Header(h) => Used::Header {
+        Phdr::Header(h) => Some(UsedHeader {
             p_vaddr: h.p_vaddr,
-            end: saturating_add(h.p_vaddr, h.p_memsz),
+            end: h.p_vaddr.saturating_add(h.p_memsz),
             p_offset: h.p_offset,
-        },
-        Phdr::Refused(_) => Used::None,
+        }),
+        Phdr::Refused(_) => None,
     }
 }
 
-fn does_contain(used: Used, a: u64) -> bool
+fn does_contain(used: Option<UsedHeader>, a: u64) -> bool
     ensures { result ≡ contains used a }
 {
     match used {
-        Used::Header {
-            p_vaddr,
-            end,
-            p_offset: _,
-        } => (p_vaddr <= a) & (a < end),
-        Used::None => false,
+        Some(h) => (h.p_vaddr <= a) & (a < h.end),
+        None => false,
     }
 }
 
 // The first program header that contains an address.
-fn first_header(file: &[u8], layout: Layout, count: u32, a: u64) -> Used
+fn first_header(file: &[u8], layout: Layout, count: u32, a: u64) -> Option<UsedHeader>
     ensures { result ≡ first_from file.now layout a count 0 }
 {
     let mut i: u32 = 0;
@@ -145,12 +133,18 @@ fn first_header(file: &[u8], layout: Layout, count: u32, a: u64) -> Used
         }
         i += 1;
     }
-    Used::None
+    None
 }
 
 // The header that the relocation at `r_offset` is mapped by, after one that was mapped by `used`. Version
 // 1 maps nothing.
-pub fn used_header(file: &[u8], layout: Layout, version2: bool, used: Used, r_offset: u64) -> Used
+pub fn used_header(
+    file: &[u8],
+    layout: Layout,
+    version2: bool,
+    used: Option<UsedHeader>,
+    r_offset: u64,
+) -> Option<UsedHeader>
     ensures { result ≡ used_header file.now layout version2 used r_offset }
 {
     if !version2 {
@@ -160,31 +154,24 @@ pub fn used_header(file: &[u8], layout: Layout, version2: bool, used: Used, r_of
         return used;
     }
     let headers = layout.program_headers;
-    let count = lesser(headers.count, 0xffff_ffff) as u32;
+    let count = headers.count.min(0xffff_ffff) as u32;
     first_header(file, layout, count, r_offset)
 }
 
-// The place in the file that a relocation means.
-#[derive(Clone, Copy)]
-pub enum Mapped {
-    At(u64),
-    Refused,
-}
-
-pub fn r_place(version2: bool, used: Used, r_offset: u64) -> Mapped
+// The place in the file that a relocation means, if it means one.
+#[tactic(auto, using(ebpf::specs::Choice::choices), unfolding(crate::specs::Relocations::place_of))]
+pub fn r_place(version2: bool, used: Option<UsedHeader>, r_offset: u64) -> Option<u64>
     ensures { result ≡ place_of version2 used r_offset }
 {
     if !version2 {
-        return Mapped::At(r_offset);
+        return Some(r_offset);
     }
-    match used {
-        Used::Header {
-            p_vaddr,
-            end: _,
-            p_offset,
-        } => Mapped::At(saturating_add(saturating_sub(r_offset, p_vaddr), p_offset)),
-        Used::None => Mapped::Refused,
-    }
+    let h = used?;
+    Some(
+        r_offset
+            .saturating_sub(h.p_vaddr)
+            .saturating_add(h.p_offset),
+    )
 }
 
 // Whether a place lies in the `length` bytes from `start` on.
@@ -211,43 +198,43 @@ fn program_address(a: u64) -> u64
 fn immediate_at(r: u64) -> u64
     ensures { result ≡ immediate_at r }
 {
-    saturating_add(r, 4)
+    r.saturating_add(4)
 }
 
-fn halves_deed(len: u64, low: u64, high: u64, value: u64) -> Deed
+fn halves_deed(len: u64, low: u64, high: u64, value: u64) -> Result<Deed, ElfError>
     ensures { result ≡ halves_deed len low high value }
 {
     if past(len, low, 4) {
-        return Deed::Refuse(ElfError::ValueOutOfBounds);
+        return Err(ElfError::ValueOutOfBounds);
     }
     if past(len, high, 4) {
-        return Deed::Refuse(ElfError::ValueOutOfBounds);
+        return Err(ElfError::ValueOutOfBounds);
     }
-    Deed::Halves {
+    Ok(Deed::Halves {
         low: low as usize,
         high: high as usize,
         value,
-    }
+    })
 }
 
-fn word_deed(len: u64, at: u64, value: u64) -> Deed
+fn word_deed(len: u64, at: u64, value: u64) -> Result<Deed, ElfError>
     ensures { result ≡ word_deed len at value }
 {
     if past(len, at, 8) {
-        return Deed::Refuse(ElfError::ValueOutOfBounds);
+        return Err(ElfError::ValueOutOfBounds);
     }
-    Deed::Word {
+    Ok(Deed::Word {
         at: at as usize,
         value,
-    }
+    })
 }
 
 // Type 1 at a place: an instruction's two halves, or eight bytes.
-fn address_deed(len: u64, split: bool, at: u64, value: u64) -> Deed
+fn address_deed(len: u64, split: bool, at: u64, value: u64) -> Result<Deed, ElfError>
     ensures { result ≡ address_deed len split at value }
 {
     if split {
-        return halves_deed(len, at, saturating_add(at, 8), value);
+        return halves_deed(len, at, at.saturating_add(8), value);
     }
     word_deed(len, at, value)
 }
@@ -261,7 +248,7 @@ fn symbol_deed(
     at: u64,
     addend: u64,
     number: u32,
-) -> Deed
+) -> Result<Deed, ElfError>
     ensures { result ≡ symbol_deed len split at addend number (dynamic_symbol_of file.now layout number) }
 {
     match dynamic_symbol(file, layout, number) {
@@ -269,29 +256,19 @@ fn symbol_deed(
             len,
             split,
             at,
-            program_address(saturating_add(y.st_value, addend)),
+            program_address(y.st_value.saturating_add(addend)),
         ),
-        Sym::Refused(_) => Deed::Refuse(ElfError::UnknownSymbol { number }),
+        Sym::Refused(_) => Err(ElfError::UnknownSymbol { number }),
     }
 }
 
-// The addend that a relocation brings, or where it brings none the number that was read.
-fn addend_or(addend: Addend, read: u64) -> u64
-    ensures { result ≡ addend_or addend read }
-{
-    match addend {
-        Addend::Is(a) => a,
-        Addend::None => read,
-    }
-}
-
-// Whether it brings one that is negative.
-fn is_negative(addend: Addend) -> bool
+// Whether a relocation brings an addend that is negative.
+fn is_negative(addend: Option<u64>) -> bool
     ensures { result ≡ is_negative addend }
 {
     match addend {
-        Addend::Is(a) => 0x8000_0000_0000_0000 <= a,
-        Addend::None => false,
+        Some(a) => 0x8000_0000_0000_0000 <= a,
+        None => false,
     }
 }
 
@@ -303,14 +280,14 @@ fn plan_64_64(
     split: bool,
     r: u64,
     number: u32,
-    addend: Addend,
-) -> Deed
+    addend: Option<u64>,
+) -> Result<Deed, ElfError>
     ensures { result ≡ plan6464 file.now image.now layout split r number addend }
 {
     let len = image.len() as u64;
     let at = pick(split, immediate_at(r), r);
     if past(len, at, 4) {
-        return Deed::Refuse(ElfError::ValueOutOfBounds);
+        return Err(ElfError::ValueOutOfBounds);
     }
     symbol_deed(
         file,
@@ -318,29 +295,29 @@ fn plan_64_64(
         len,
         split,
         at,
-        addend_or(addend, read::<u32>(image, at as usize) as u64),
+        addend.unwrap_or(read::<u32>(image, at as usize) as u64),
         number,
     )
 }
 
 // Type 8 in the text: an instruction's two halves.
-fn relative_text(len: u64, low: u64, high: u64, address: u64) -> Deed
+fn relative_text(len: u64, low: u64, high: u64, address: u64) -> Result<Deed, ElfError>
     ensures { result ≡ relative_text len low high address }
 {
     if past(len, low, 4) {
-        return Deed::Refuse(ElfError::ValueOutOfBounds);
+        return Err(ElfError::ValueOutOfBounds);
     }
     if past(len, high, 4) {
-        return Deed::Refuse(ElfError::ValueOutOfBounds);
+        return Err(ElfError::ValueOutOfBounds);
     }
     if address == 0 {
-        return Deed::Refuse(ElfError::InvalidVirtualAddress);
+        return Err(ElfError::InvalidVirtualAddress);
     }
-    Deed::Halves {
+    Ok(Deed::Halves {
         low: low as usize,
         high: high as usize,
         value: program_address(address),
-    }
+    })
 }
 
 // Type 8 outside the text: version 2 keeps an address of eight bytes there, version 1 the lower half of
@@ -362,24 +339,30 @@ fn join_halves(low: u32, high: u32) -> u64
 }
 
 // Type 8: an address that no symbol has, the addend or the bytes that are there.
-fn plan_relative(image: &[u8], version2: bool, in_text: bool, r: u64, addend: Addend) -> Deed
+fn plan_relative(
+    image: &[u8],
+    version2: bool,
+    in_text: bool,
+    r: u64,
+    addend: Option<u64>,
+) -> Result<Deed, ElfError>
     requires { is_negative addend ≡ false }
     ensures { result ≡ plan_relative image.now version2 in_text r addend }
 {
     let len = image.len() as u64;
     let low = immediate_at(r);
     if in_text {
-        let high = immediate_at(saturating_add(r, 8));
+        let high = immediate_at(r.saturating_add(8));
         let address = join_halves(
             read(image, low as usize),
             read(image, high as usize),
         );
-        return relative_text(len, low, high, addend_or(addend, address));
+        return relative_text(len, low, high, addend.unwrap_or(address));
     }
     let value = relative_value(
         version2,
-        addend_or(addend, read::<u32>(image, low as usize) as u64),
-        addend_or(addend, read(image, r as usize)),
+        addend.unwrap_or(read::<u32>(image, low as usize) as u64),
+        addend.unwrap_or(read::<u64>(image, r as usize)),
     );
     word_deed(len, r, value)
 }
@@ -388,23 +371,23 @@ fn plan_relative(image: &[u8], version2: bool, in_text: bool, r: u64, addend: Ad
 pub(crate) fn in_addresses(sh_addr: u64, sh_size: u64, a: u64) -> bool
     ensures { result ≡ (leb sh_addr a && ltb a (sum_up_to sh_addr sh_size)) }
 {
-    (sh_addr <= a) & (a < saturating_add(sh_addr, sh_size))
+    (sh_addr <= a) & (a < sh_addr.saturating_add(sh_size))
 }
 
 // A function to register, and the place of its key.
-fn register_deed(len: u64, at: u64, row: Result<Row, SymbolHashCollision>) -> Deed
+fn register_deed(len: u64, at: u64, row: Result<Row, SymbolHashCollision>) -> Result<Deed, ElfError>
     ensures { result ≡ register_deed len at row }
 {
     match row {
-        Err(taken) => Deed::Refuse(ElfError::SymbolHashCollision { key: taken.key }),
+        Err(taken) => Err(ElfError::SymbolHashCollision { key: taken.key }),
         Ok(row) => {
             if past(len, at, 4) {
-                return Deed::RegisterOutside { row };
+                return Ok(Deed::RegisterOutside { row });
             }
-            Deed::Register {
+            Ok(Deed::Register {
                 row,
                 at: at as usize,
-            }
+            })
         }
     }
 }
@@ -418,14 +401,14 @@ fn function_call(
     at: u64,
     name: FunctionName,
     st_value: u64,
-) -> Deed
+) -> Result<Deed, ElfError>
     requires { Keyed table.now × (job.sh_size ≤ 2 ^ 24) }
     ensures { result ≡ function_call builtins.now job len at name st_value }
 {
     let sh_addr = job.sh_addr;
     let sh_size = job.sh_size;
     if !in_addresses(sh_addr, sh_size, st_value) {
-        return Deed::Refuse(ElfError::ValueOutOfBounds);
+        return Err(ElfError::ValueOutOfBounds);
     }
     let index = ((st_value - sh_addr) / 8) as u32;
     register_deed(len, at, row_for(table, builtins, job, name, index))
@@ -441,24 +424,24 @@ fn builtin_call(
     start: usize,
     length: usize,
     hash: u32,
-) -> Deed
+) -> Result<Deed, ElfError>
     ensures { result ≡ builtin_call builtins.now reject_broken len at r start length hash }
 {
     let known = is_builtin(builtins, hash);
     if reject_broken & !known {
-        return Deed::Refuse(ElfError::UnresolvedSymbol {
+        return Err(ElfError::UnresolvedSymbol {
             start,
             length,
             offset: r,
         });
     }
     if past(len, at, 4) {
-        return Deed::Refuse(ElfError::ValueOutOfBounds);
+        return Err(ElfError::ValueOutOfBounds);
     }
-    Deed::Key {
+    Ok(Deed::Key {
         at: at as usize,
         key: hash,
-    }
+    })
 }
 
 // A call of a symbol whose name is `part`, which stands at `start`.
@@ -472,7 +455,7 @@ fn call_by_name(
     y: Elf64Sym,
     start: usize,
     length: usize,
-) -> Deed
+) -> Result<Deed, ElfError>
     requires { Keyed table.now × (job.sh_size ≤ 2 ^ 24) × (start ≤ 2 ^ 24) × (length ≤ 64) }
     ensures { result ≡ call_by_name part.now builtins.now job len r y start length }
 {
@@ -495,7 +478,7 @@ fn named_call(
     len: u64,
     r: u64,
     y: Elf64Sym,
-) -> Deed
+) -> Result<Deed, ElfError>
     requires { InFile file.now job × Keyed table.now }
     ensures { result ≡ named_call file.now builtins.now job len r y (dynamic_symbol_name file.now job.layout y.st_name) }
 {
@@ -506,7 +489,7 @@ fn named_call(
             let part = part_of(file, Place::At { start, length });
             call_by_name(part, builtins, table, job, len, r, y, start, length)
         }
-        Place::Refused(_) => Deed::Refuse(ElfError::UnknownSymbol { number: st_name }),
+        Place::Refused(_) => Err(ElfError::UnknownSymbol { number: st_name }),
     }
 }
 
@@ -519,14 +502,14 @@ fn plan_64_32(
     len: u64,
     r: u64,
     number: u32,
-) -> Deed
+) -> Result<Deed, ElfError>
     requires { InFile file.now job × Keyed table.now }
     ensures { result ≡ plan6432 file.now builtins.now job len r number }
 {
     let layout = job.layout;
     match dynamic_symbol(file, layout, number) {
         Sym::Symbol(y) => named_call(file, builtins, table, job, len, r, y),
-        Sym::Refused(_) => Deed::Refuse(ElfError::UnknownSymbol { number }),
+        Sym::Refused(_) => Err(ElfError::UnknownSymbol { number }),
     }
 }
 
@@ -539,8 +522,8 @@ fn plan_at(
     job: Job,
     r: u64,
     r_info: u64,
-    addend: Addend,
-) -> Deed
+    addend: Option<u64>,
+) -> Result<Deed, ElfError>
     requires { InFile file.now job × Keyed table.now }
     ensures { result ≡ plan_at file.now image.now builtins.now job r r_info addend }
 {
@@ -550,7 +533,7 @@ fn plan_at(
     let version2 = job.version2;
     let uses_addend = (r_type == R_BPF_64_64) | (r_type == R_BPF_64_RELATIVE);
     if uses_addend & is_negative(addend) {
-        return Deed::Refuse(ElfError::AddendNegative);
+        return Err(ElfError::AddendNegative);
     }
     if r_type == R_BPF_64_64 {
         let layout = job.layout;
@@ -562,7 +545,7 @@ fn plan_at(
     if r_type == R_BPF_64_32 {
         return plan_64_32(file, builtins, table, job, image.len() as u64, r, r_sym);
     }
-    Deed::Refuse(ElfError::UnknownRelocation { number: r_type })
+    Err(ElfError::UnknownRelocation { number: r_type })
 }
 
 // What a relocation asks for, `used` being the header that maps it. The bytes that it adds to are the
@@ -573,16 +556,14 @@ pub(crate) fn plan_relocation(
     builtins: &[u32],
     table: &[u32],
     job: Job,
-    used: Used,
+    used: Option<UsedHeader>,
     r_offset: u64,
     r_info: u64,
-    addend: Addend,
-) -> Deed
+    addend: Option<u64>,
+) -> Result<Deed, ElfError>
     requires { InFile file.now job × Keyed table.now }
     ensures { result ≡ plan_of file.now image.now builtins.now job (place_of job.version2 used r_offset) r_info addend }
 {
-    match r_place(job.version2, used, r_offset) {
-        Mapped::At(r) => plan_at(file, image, builtins, table, job, r, r_info, addend),
-        Mapped::Refused => Deed::Refuse(ElfError::ValueOutOfBounds),
-    }
+    let r = r_place(job.version2, used, r_offset).ok_or(ElfError::ValueOutOfBounds)?;
+    plan_at(file, image, builtins, table, job, r, r_info, addend)
 }

@@ -1,8 +1,8 @@
 // The sections of a file, their names, and what a load asks of all of them.
 ghost use Rattle.std.specs.Prelude.{◌≡◌, ◌≤◌, ◌<◌};
-ghost use Rattle.ebpf.specs.Choice.{◌if◌else◌};
 ghost use Rattle.loader.specs.Sections.{section_at, starts_with, unsupported, outside_file, no_survey, survey_named};
 
+use crate::addresses::pick;
 use elf_parser::types::Elf64Shdr;
 use elf_parser::{Layout, Shdr, same_bytes, section_header};
 
@@ -54,15 +54,6 @@ fn outside_file(len: u64, sh_offset: u64, sh_size: u64) -> bool
     len < sh_offset + sh_size
 }
 
-fn pick_u32(b: bool, x: u32, y: u32) -> u32
-    ensures { result ≡ (x if b else y) }
-{
-    if b {
-        return x;
-    }
-    y
-}
-
 // What is known of the sections so far: how many are named .text, and the first of them; whether
 // one is not supported, and the name of the first; whether one does not lie in the file.
 #[derive(Clone, Copy)]
@@ -97,10 +88,10 @@ pub(crate) fn survey_next(len: u64, index: u32, h: Elf64Shdr, name: &[u8], v: Su
     let outside = outside_file(len, h.sh_offset, h.sh_size);
     let first = v.texts == 0;
     Survey {
-        texts: pick_u32(is_text, v.texts + 1, v.texts),
-        text: pick_u32(is_text & first, index, v.text),
+        texts: pick(is_text, v.texts + 1, v.texts),
+        text: pick(is_text & first, index, v.text),
         writable: v.writable | bad,
-        writable_name: pick_u32(!v.writable & bad, h.sh_name, v.writable_name),
+        writable_name: pick(!v.writable & bad, h.sh_name, v.writable_name),
         outside: v.outside | outside,
     }
 }

@@ -1,10 +1,9 @@
 // The checks ahead of a load: sizes, built-ins, the parse, the header, the sections and the text's
 // place. What a load needs of them afterwards is one struct of numbers.
 ghost use Rattle.std.specs.Prelude.{◌≡◌};
-ghost use Rattle.ebpf.specs.Choice.{◌if◌else◌};
 ghost use Rattle.loader.specs.Validate.{size_check, ascends, header_check, writable_error, sections_check, text_check, job_of, file_check, validated, prepared};
 
-use crate::addresses::{machine_addr, saturating_add};
+use crate::addresses::{machine_addr, pick};
 use crate::error::{ElfError, from_parser};
 use crate::overview::look_over;
 use crate::read_only::{Placing, place_gathered};
@@ -25,12 +24,6 @@ pub struct Config {
     pub enable_sbpf_v2: bool,
 }
 
-#[derive(Clone, Copy)]
-pub enum Verdict {
-    Pass,
-    Refused(ElfError),
-}
-
 // What a load needs of a file that passed the checks. `start` and `length` are the text's place in
 // the file, 0 for a text without bytes; `addr` is its address in the machine.
 #[derive(Clone, Copy)]
@@ -46,29 +39,23 @@ pub struct Job {
     pub start: usize,
     pub length: usize,
     pub addr: u64,
-    pub placing: Placing,
-}
-
-#[derive(Clone, Copy)]
-pub enum Prepared {
-    Ready(Job),
-    Refused(ElfError),
+    pub placing: Result<Placing, ElfError>,
 }
 
 // The sizes that a load refuses before it looks at the file.
-fn check_sizes(len: u64, image: u64, ro: u64) -> Verdict
+fn check_sizes(len: u64, image: u64, ro: u64) -> Result<(), ElfError>
     ensures { result ≡ size_check len image ro }
 {
     if 0x100_0000 < len {
-        return Verdict::Refused(ElfError::FileTooLong);
+        return Err(ElfError::FileTooLong);
     }
     if image < len {
-        return Verdict::Refused(ElfError::BufferShort);
+        return Err(ElfError::BufferShort);
     }
     if ro < len {
-        return Verdict::Refused(ElfError::BufferShort);
+        return Err(ElfError::BufferShort);
     }
-    Verdict::Pass
+    Ok(())
 }
 
 // Whether the numbers ascend strictly.
@@ -90,31 +77,31 @@ fn is_ascending(s: &[u32]) -> bool
 }
 
 // The file header's part: ABI, machine, type, version, and version 2's limits.
-fn check_header(h: Elf64Ehdr, c: Config, version2: bool) -> Verdict
+fn check_header(h: Elf64Ehdr, c: Config, version2: bool) -> Result<(), ElfError>
     ensures { result ≡ header_check h c version2 }
 {
     if h.ei_osabi != 0 {
-        return Verdict::Refused(ElfError::WrongAbi);
+        return Err(ElfError::WrongAbi);
     }
     if (h.e_machine != EM_BPF) & (h.e_machine != EM_SBPF) {
-        return Verdict::Refused(ElfError::WrongMachine);
+        return Err(ElfError::WrongMachine);
     }
     if h.e_type != ET_DYN {
-        return Verdict::Refused(ElfError::WrongType);
+        return Err(ElfError::WrongType);
     }
     if version2 & !c.enable_sbpf_v2 {
-        return Verdict::Refused(ElfError::UnsupportedSBPFVersion);
+        return Err(ElfError::UnsupportedSBPFVersion);
     }
     if !version2 & !c.enable_sbpf_v1 {
-        return Verdict::Refused(ElfError::UnsupportedSBPFVersion);
+        return Err(ElfError::UnsupportedSBPFVersion);
     }
     if version2 & !c.optimize_rodata {
-        return Verdict::Refused(ElfError::UnsupportedSBPFVersion);
+        return Err(ElfError::UnsupportedSBPFVersion);
     }
     if version2 & (10 <= h.e_phnum) {
-        return Verdict::Refused(ElfError::FailedToParse(ElfParserError::InvalidProgramHeader));
+        return Err(ElfError::FailedToParse(ElfParserError::InvalidProgramHeader));
     }
-    Verdict::Pass
+    Ok(())
 }
 
 // The refusal of a section that is not supported, with its name's place.
@@ -130,44 +117,49 @@ fn writable_error(file: &[u8], layout: Layout, sh_name: u32) -> ElfError
     }
 }
 
-fn check_sections(file: &[u8], layout: Layout, v: Survey) -> Verdict
+fn check_sections(file: &[u8], layout: Layout, v: Survey) -> Result<(), ElfError>
     ensures { result ≡ sections_check file.now layout v }
 {
     if v.texts != 1 {
-        return Verdict::Refused(ElfError::NotOneTextSection);
+        return Err(ElfError::NotOneTextSection);
     }
     if v.writable {
-        return Verdict::Refused(writable_error(file, layout, v.writable_name));
+        return Err(writable_error(file, layout, v.writable_name));
     }
     if v.outside {
-        return Verdict::Refused(ElfError::ValueOutOfBounds);
+        return Err(ElfError::ValueOutOfBounds);
     }
-    Verdict::Pass
+    Ok(())
 }
 
 // The entry and the text's place.
-fn check_text(version2: bool, reject_broken: bool, e_entry: u64, h: Elf64Shdr) -> Verdict
+fn check_text(
+    version2: bool,
+    reject_broken: bool,
+    e_entry: u64,
+    h: Elf64Shdr,
+) -> Result<(), ElfError>
     ensures { result ≡ text_check version2 reject_broken e_entry h }
 {
     let addr = machine_addr(version2, h.sh_addr);
-    let end = saturating_add(h.sh_addr, h.sh_size);
-    let last = saturating_add(addr, h.sh_size);
+    let end = h.sh_addr.saturating_add(h.sh_size);
+    let last = addr.saturating_add(h.sh_size);
     if e_entry < h.sh_addr {
-        return Verdict::Refused(ElfError::EntrypointOutOfBounds);
+        return Err(ElfError::EntrypointOutOfBounds);
     }
     if end <= e_entry {
-        return Verdict::Refused(ElfError::EntrypointOutOfBounds);
+        return Err(ElfError::EntrypointOutOfBounds);
     }
     if (reject_broken & !version2) & (h.sh_addr != h.sh_offset) {
-        return Verdict::Refused(ElfError::ValueOutOfBounds);
+        return Err(ElfError::ValueOutOfBounds);
     }
     if version2 & (MM_STACK_START < last) {
-        return Verdict::Refused(ElfError::ValueOutOfBounds);
+        return Err(ElfError::ValueOutOfBounds);
     }
     if !version2 & (MM_STACK_START < addr) {
-        return Verdict::Refused(ElfError::ValueOutOfBounds);
+        return Err(ElfError::ValueOutOfBounds);
     }
-    Verdict::Pass
+    Ok(())
 }
 
 // What a load needs, where every check passed.
@@ -177,7 +169,7 @@ fn job_of(
     layout: Layout,
     e_entry: u64,
     h: Elf64Shdr,
-    placing: Placing,
+    placing: Result<Placing, ElfError>,
 ) -> Job
     ensures { result ≡ job_of c version2 layout e_entry h placing }
 {
@@ -192,20 +184,11 @@ fn job_of(
         e_entry,
         sh_addr: h.sh_addr,
         sh_size: h.sh_size,
-        start: pick_size(nobits, h.sh_offset),
-        length: pick_size(nobits, h.sh_size),
+        start: pick(nobits, 0, h.sh_offset) as usize,
+        length: pick(nobits, 0, h.sh_size) as usize,
         addr,
         placing,
     }
-}
-
-fn pick_size(nobits: bool, x: u64) -> usize
-    ensures { result ≡ (0 if nobits else x) }
-{
-    if nobits {
-        return 0;
-    }
-    x as usize
 }
 
 // The header's and the sections' checks.
@@ -216,22 +199,19 @@ fn check_file(
     h: Elf64Ehdr,
     version2: bool,
     v: Survey,
-) -> Verdict
+) -> Result<(), ElfError>
     ensures { result ≡ file_check file.now c layout h version2 v }
 {
-    if let Verdict::Refused(r) = check_header(h, c, version2) {
-        return Verdict::Refused(r);
-    }
-    if let Verdict::Refused(r) = check_sections(file, layout, v) {
-        return Verdict::Refused(r);
-    }
+    check_header(h, c, version2)?;
+    check_sections(file, layout, v)?;
     let text = section_at(file, layout, v.text);
     check_text(version2, c.reject_broken_elfs, h.e_entry, text)
 }
 
 // A parsed file's checks, and what they leave. How the read-only sections are placed is worked out
 // here too, since it needs no byte of them; where it refuses, that counts last.
-fn validate(file: &[u8], c: Config, layout: Layout) -> Prepared
+#[tactic(auto, unfolding(crate::specs::Validate::validated, crate::specs::ReadOnly::placing))]
+fn validate(file: &[u8], c: Config, layout: Layout) -> Result<Job, ElfError>
     ensures { result ≡ validated file.now c layout }
 {
     let h = file_header(file);
@@ -245,34 +225,35 @@ fn validate(file: &[u8], c: Config, layout: Layout) -> Prepared
     );
     let v = seen.survey;
     let g = seen.gathering;
-    match check_file(file, c, layout, h, version2, v) {
-        Verdict::Refused(r) => Prepared::Refused(r),
-        Verdict::Pass => {
-            let text = section_at(file, layout, v.text);
-            let placing = place_gathered(
-                file.len() as u64,
-                version2,
-                c.reject_broken_elfs,
-                c.optimize_rodata,
-                g,
-            );
-            Prepared::Ready(job_of(c, version2, layout, h.e_entry, text, placing))
-        }
-    }
+    check_file(file, c, layout, h, version2, v)?;
+    let text = section_at(file, layout, v.text);
+    let placing = place_gathered(
+        file.len() as u64,
+        version2,
+        c.reject_broken_elfs,
+        c.optimize_rodata,
+        g,
+    );
+    Ok(job_of(c, version2, layout, h.e_entry, text, placing))
 }
 
 // Everything ahead of the first registration.
-pub(crate) fn prepare(file: &[u8], builtins: &[u32], c: Config, image: usize, ro: usize) -> Prepared
+#[tactic(auto, using(ebpf::specs::Choice::choices), unfolding(crate::specs::Validate::prepared))]
+pub(crate) fn prepare(
+    file: &[u8],
+    builtins: &[u32],
+    c: Config,
+    image: usize,
+    ro: usize,
+) -> Result<Job, ElfError>
     ensures { result ≡ prepared file.now builtins.now c image ro }
 {
-    if let Verdict::Refused(r) = check_sizes(file.len() as u64, image as u64, ro as u64) {
-        return Prepared::Refused(r);
-    }
+    check_sizes(file.len() as u64, image as u64, ro as u64)?;
     if !is_ascending(builtins) {
-        return Prepared::Refused(ElfError::BuiltinsNotAscending);
+        return Err(ElfError::BuiltinsNotAscending);
     }
     match parse(file) {
-        Parsed::Refused(e) => Prepared::Refused(from_parser(e)),
+        Parsed::Refused(e) => Err(from_parser(e)),
         Parsed::File(layout) => validate(file, c, layout),
     }
 }

@@ -6,6 +6,7 @@ use mathlib.Core.List.{List, [], ◌++◌}
 use lib.ListN.{length, get_or, replicate}
 use lib.Dec.{ltb, leb, eqb}
 use borrow.Author.Tests.{le-ltb}
+use Rattle.std.specs.Prelude.{Ok, Result, Err}
 use Rattle.ebpf.specs.Choice.{◌if◌else◌, not_first, row_rest, row_cases}
 use Rattle.program.specs.declared.Row.{Row}
 use Rattle.program.proofs.Cases.{zero_one}
@@ -16,15 +17,13 @@ use Rattle.elf_parser.specs.declared.types.Elf64Ehdr.{Elf64Ehdr}
 use Rattle.elf_parser.specs.Parse.{parsed}
 use Rattle.elf_parser.specs.Sound.{parse_steps}
 use Rattle.elf_parser.specs.Types.{file_header}
-use Rattle.loader.specs.declared.answer.Accepted.{Accepted}
-use Rattle.loader.specs.declared.answer.Load.TheVariants.{Accepted as Accepts}
+use Rattle.loader.specs.declared.read_only.Placing.TheVariants.{Borrowed, Owned}
 use Rattle.loader.specs.declared.read_only.Placing.{Placing}
-use Rattle.loader.specs.declared.read_only.Placing.TheVariants.{Borrowed, Owned, Refused as NotPlaced}
+use Rattle.loader.specs.declared.error.ElfError.{ElfError}
+use Rattle.loader.specs.declared.answer.Accepted.{Accepted}
 use Rattle.loader.specs.declared.validate.Config.{Config}
 use Rattle.loader.specs.declared.validate.Job.{Job}
-use Rattle.loader.specs.declared.validate.Prepared.{Prepared}
-use Rattle.loader.specs.declared.validate.Prepared.TheVariants.{Ready, Refused as NotReady}
-use Rattle.loader.specs.declared.validate.Verdict.TheVariants.{Pass}
+use Rattle.loader.specs.Results.{not_ok, then_both, then_ok}
 use Rattle.loader.specs.InnerContracts.{InFile}
 use Rattle.loader.specs.Load.{accepted_as, held_by, on_trace, on_prepared, load_of, answer_of, image_of}
 use Rattle.loader.specs.Parts.{job_trace}
@@ -34,7 +33,7 @@ use Rattle.loader.specs.Trace.{Settled, accepted, refused, settle}
 use Rattle.loader.specs.Validate.{size_check, header_check, job_of, file_check, is_version2, validated, parsed_then, prepared}
 use Rattle.loader.proofs.Ends.{Ends}
 use Rattle.loader.proofs.Imaged.{zeros_behind}
-use Rattle.loader.proofs.Readied.{not_passed, not_ready, then_first, ready_by_lem, prepared_by_lem, readied}
+use Rattle.loader.proofs.Readied.{readied}
 use Rattle.loader.proofs.Traces.{settle_ends}
 use Rattle.writers.specs.declared.Writer.TheVariants.{File}
 use Rattle.writers.specs.declared.Wrote.TheVariants.{By, NoSuchIndex}
@@ -50,37 +49,37 @@ pub record Read (s : List ℕ) (j : Job) : Type 0 where
   pub layout_is : parsed s ≡ Reads j.layout
   pub few : (j.version2 && leb 10 (file_header s).e_phnum) ≡ false
 
-header_passes : (h : Elf64Ehdr) (c : Config) (version2 : Bool) → header_check h c version2 ≡ Pass → (version2 && leb 10 h.e_phnum) ≡ false
+header_passes : (h : Elf64Ehdr) (c : Config) (version2 : Bool) → header_check h c version2 ≡ Ok tt → (version2 && leb 10 h.e_phnum) ≡ false
 unfolding header_check
 header_passes h c version2 e =
-    let e2 = row_rest _ _ _ _ (not_passed _) e in
-    let e3 = row_rest _ _ _ _ (not_passed _) e2 in
-    let e4 = row_rest _ _ _ _ (not_passed _) e3 in
-    let e5 = row_rest _ _ _ _ (not_passed _) e4 in
-    let e6 = row_rest _ _ _ _ (not_passed _) e5 in
-    let e7 = row_rest _ _ _ _ (not_passed _) e6 in
-    not_first _ _ _ _ (not_passed _) e7
+    let e2 = row_rest _ _ _ _ (not_ok _ _) e in
+    let e3 = row_rest _ _ _ _ (not_ok _ _) e2 in
+    let e4 = row_rest _ _ _ _ (not_ok _ _) e3 in
+    let e5 = row_rest _ _ _ _ (not_ok _ _) e4 in
+    let e6 = row_rest _ _ _ _ (not_ok _ _) e5 in
+    let e7 = row_rest _ _ _ _ (not_ok _ _) e6 in
+    not_first _ _ _ _ (not_ok _ _) e7
 
-validated_read : (s : List ℕ) (c : Config) (l : Layout) (j : Job) → parsed s ≡ Reads l → validated s c l ≡ Ready j → Read s j
+validated_read : (s : List ℕ) (c : Config) (l : Layout) (j : Job) → parsed s ≡ Reads l → validated s c l ≡ Ok j → Read s j
 unfolding validated job_of
 validated_read s c l j q e =
     let h = file_header s in
     let v = survey s l h.e_shnum in
     let text = section_at s l v.text in
     let place = placing s l h.e_shnum (is_version2 h) c.reject_broken_elfs c.optimize_rodata in
-    let done = ready_by_lem (file_check s c l h (is_version2 h) v) (job_of c (is_version2 h) l h.e_entry text place) j e in
+    let done = then_ok (file_check s c l h (is_version2 h) v) (job_of c (is_version2 h) l h.e_entry text place) j e in
     let is : job_of c (is_version2 h) l h.e_entry text place ≡ j = done.1 in
-    rw (← is) (record { layout_is = q; few = header_passes h c (is_version2 h) (then_first _ _ done.0) })
+    rw (← is) (record { layout_is = q; few = header_passes h c (is_version2 h) (then_both (header_check h c (is_version2 h)) _ tt done.0).0 })
 
-parsed_read : (s : List ℕ) (c : Config) (p : Parsed) (j : Job) → parsed s ≡ p → parsed_then s c p ≡ Ready j → Read s j
-parsed_read s c (NoFile r) j q e = absurd (not_ready _ _ e)
+parsed_read : (s : List ℕ) (c : Config) (p : Parsed) (j : Job) → parsed s ≡ p → parsed_then s c p ≡ Ok j → Read s j
+parsed_read s c (NoFile r) j q e = absurd (not_ok _ _ e)
 parsed_read s c (Reads l) j q e = validated_read s c l j q e
 
-was_read : (s builtins : List ℕ) (c : Config) (image ro : ℕ) (j : Job) → prepared s builtins c image ro ≡ Ready j → Read s j
+was_read : (s builtins : List ℕ) (c : Config) (image ro : ℕ) (j : Job) → prepared s builtins c image ro ≡ Ok j → Read s j
 unfolding prepared
 was_read s builtins c image ro j e =
-    let w = prepared_by_lem (size_check (length s) image ro) _ j e in
-    parsed_read s c (parsed s) j refl (row_rest _ _ _ _ (not_ready _ _) w.1)
+    let w = then_both (size_check (length s) image ro) _ j e in
+    parsed_read s c (parsed s) j refl (row_rest _ _ _ _ (not_ok _ _) w.1)
 
 -- as many as e_phnum says
 abbrev count_read : Parsed → ℕ
@@ -109,7 +108,7 @@ text_told s j a inside read v p n =
 
 module _ (file builtins : List ℕ) (c : Config) (n m rows b : ℕ) where
   -- of an accepted load
-  module _ (j : Job) (ready : prepared file builtins c n m ≡ Ready j) (im : List ℕ) (held : List Row) (moves : ℕ) (settles : settle rows (job_trace file builtins j file) [] 0 ≡ accepted im held moves) where
+  module _ (j : Job) (ready : prepared file builtins c n m ≡ Ok j) (im : List ℕ) (held : List Row) (moves : ℕ) (settles : settle rows (job_trace file builtins j file) [] 0 ≡ accepted im held moves) where
     inside : InFile file j
     inside = (readied file builtins c n m j ready).0
 
@@ -117,7 +116,7 @@ module _ (file builtins : List ℕ) (c : Config) (n m rows b : ℕ) where
     ends = settle_ends rows im held moves (job_trace file builtins j file) [] 0 settles
 
     told : (a : Accepted) → a.version ≡ (2 if j.version2 else 1) → a.text_start ≡ j.start → a.text_length ≡ j.length
-        → asked file (Accepts a) b ≡ (By (writer_of file builtins j b) if ltb b (length file) else NoSuchIndex)
+        → asked file (Ok a) b ≡ (By (writer_of file builtins j b) if ltb b (length file) else NoSuchIndex)
     told a v p k = rw (text_told file j a inside (was_read file builtins c n m j ready) v p k, ← writer_named file builtins j inside im ends b) refl
 
     byte : (By (writer_of file builtins j b) if ltb b (length file) else NoSuchIndex) ≡ By File → get_or (im ++ replicate (n - length im) 0) b 0 ≡ get_or file b 0
@@ -126,47 +125,47 @@ module _ (file builtins : List ℕ) (c : Config) (n m rows b : ℕ) where
         ∙ unwritten file builtins j inside im ends b
         (row_cases (ltb b (length file)) (By (writer_of file builtins j b)) NoSuchIndex (By File) (writer_of file builtins j b ≡ File) (λ h q. cc) (λ h q. absurd (zero_one (cc))) e)
 
-    placed_told : (p : Placing) → asked file (answer_of (held_by file j m p im held moves)) b ≡ wrote_by file builtins (length file) b (held_by file j m p im held moves) (Ready j)
-    placed_told (Borrowed offset start k) = told (accepted_as j false offset start k (length held) moves) refl refl refl
-    placed_told (Owned offset lowest k) = told (accepted_as j true offset 0 k (length held) moves) refl refl refl
-    placed_told (NotPlaced r) = refl
+    placed_told : (p : Result Placing ElfError) → asked file (answer_of (held_by file j m p im held moves)) b ≡ wrote_by file builtins (length file) b (held_by file j m p im held moves) (Ok j)
+    placed_told (Ok (Borrowed offset start k)) = told (accepted_as j false offset start k (length held) moves) refl refl refl
+    placed_told (Ok (Owned offset lowest k)) = told (accepted_as j true offset 0 k (length held) moves) refl refl refl
+    placed_told (Err r) = refl
 
-    placed_kept : (p : Placing) → wrote_by file builtins (length file) b (held_by file j m p im held moves) (Ready j) ≡ By File → get_or (image_of n (held_by file j m p im held moves)) b 0 ≡ get_or file b 0
-    placed_kept (Borrowed offset start k) e = byte e
-    placed_kept (Owned offset lowest k) e = byte e
-    placed_kept (NotPlaced r) e = absurd (zero_one (cc))
+    placed_kept : (p : Result Placing ElfError) → wrote_by file builtins (length file) b (held_by file j m p im held moves) (Ok j) ≡ By File → get_or (image_of n (held_by file j m p im held moves)) b 0 ≡ get_or file b 0
+    placed_kept (Ok (Borrowed offset start k)) e = byte e
+    placed_kept (Ok (Owned offset lowest k)) e = byte e
+    placed_kept (Err r) e = absurd (zero_one (cc))
 
   -- THE QUESTION ABOUT A LOAD ALREADY MADE, by that load's answer, is what its parts wrote
   pub agrees : asked file (answer_of (load_of file builtins c n m rows)) b ≡ wrote_of file builtins c n m rows b
   unfolding load_of wrote_of
   agrees = by_prepared (prepared file builtins c n m) refl
     where
-      by_settled : (j : Job) → prepared file builtins c n m ≡ Ready j
+      by_settled : (j : Job) → prepared file builtins c n m ≡ Ok j
           → (s : Settled)
           → settle rows (job_trace file builtins j file) [] 0 ≡ s
-          → asked file (answer_of (on_trace file j m s)) b ≡ wrote_by file builtins (length file) b (on_trace file j m s) (Ready j)
+          → asked file (answer_of (on_trace file j m s)) b ≡ wrote_by file builtins (length file) b (on_trace file j m s) (Ok j)
       by_settled j e (refused r) q = refl
       by_settled j e (accepted im held moves) q = placed_told j e im held moves q j.placing
 
-      by_prepared : (p : Prepared) → prepared file builtins c n m ≡ p → asked file (answer_of (on_prepared file builtins m rows p)) b ≡ wrote_by file builtins (length file) b (on_prepared file builtins m rows p) p
-      by_prepared (NotReady r) e = refl
-      by_prepared (Ready j) e = by_settled j e (settle rows (job_trace file builtins j file) [] 0) refl
+      by_prepared : (p : Result Job ElfError) → prepared file builtins c n m ≡ p → asked file (answer_of (on_prepared file builtins m rows p)) b ≡ wrote_by file builtins (length file) b (on_prepared file builtins m rows p) p
+      by_prepared (Err r) e = refl
+      by_prepared (Ok j) e = by_settled j e (settle rows (job_trace file builtins j file) [] 0) refl
 
   -- A BYTE THAT NOTHING WROTE is the file's, in the lent image
   pub kept : wrote_of file builtins c n m rows b ≡ By File → get_or (image_of n (load_of file builtins c n m rows)) b 0 ≡ get_or file b 0
   unfolding load_of wrote_of
   kept e = by_prepared (prepared file builtins c n m) refl e
     where
-      by_settled : (j : Job) → prepared file builtins c n m ≡ Ready j
+      by_settled : (j : Job) → prepared file builtins c n m ≡ Ok j
           → (s : Settled)
           → settle rows (job_trace file builtins j file) [] 0 ≡ s
-          → wrote_by file builtins (length file) b (on_trace file j m s) (Ready j) ≡ By File
+          → wrote_by file builtins (length file) b (on_trace file j m s) (Ok j) ≡ By File
           → get_or (image_of n (on_trace file j m s)) b 0 ≡ get_or file b 0
       by_settled j e (refused r) q h = absurd (zero_one (cc))
       by_settled j e (accepted im held moves) q h = placed_kept j e im held moves q j.placing h
 
-      by_prepared : (p : Prepared) → prepared file builtins c n m ≡ p
+      by_prepared : (p : Result Job ElfError) → prepared file builtins c n m ≡ p
           → wrote_by file builtins (length file) b (on_prepared file builtins m rows p) p ≡ By File
           → get_or (image_of n (on_prepared file builtins m rows p)) b 0 ≡ get_or file b 0
-      by_prepared (NotReady r) e h = absurd (zero_one (cc))
-      by_prepared (Ready j) e h = by_settled j e (settle rows (job_trace file builtins j file) [] 0) refl h
+      by_prepared (Err r) e h = absurd (zero_one (cc))
+      by_prepared (Ok j) e h = by_settled j e (settle rows (job_trace file builtins j file) [] 0) refl h

@@ -12,7 +12,9 @@ use lib.Seq.{get_or-set_same}
 use lib.Dec.{ltb}
 use Rattle.program.proofs.Cases.{by_le, by_lt}
 use Rattle.loader.specs.declared.deeds.Deed.{Deed}
-use Rattle.loader.specs.declared.deeds.Deed.TheVariants.{Skip, Refuse, Halves, Word, Key, Register, RegisterOnly, RegisterOutside}
+use Rattle.loader.specs.declared.deeds.Deed.TheVariants.{Skip, Halves, Word, Key, Register, RegisterOnly, RegisterOutside}
+use Rattle.std.specs.Prelude.{Result, Ok, Err}
+use Rattle.loader.specs.declared.error.ElfError.{ElfError}
 use Rattle.loader.specs.Bytes.{put, length_put}
 use Rattle.loader.specs.Deeds.{written, is_in, writes, DeedFits}
 use Rattle.loader.proofs.Kept.{apart, put_other}
@@ -62,12 +64,12 @@ both_there s l low high v w b p r q h = go (is_in high 4 b) refl
         first true k = refl
         first false k = k
 
-pub written_same : (d : Deed) (im l : List ℕ) (b : ℕ) → DeedFits (length im) d → length im ≡ length l → writes d b ≡ true → get_or (written d im) b 0 ≡ get_or (written d l) b 0
-written_same Skip im l b fits q h = never h
-written_same (Refuse r) im l b fits q h = never h
-written_same (Halves low high v) im l b fits q h = both_there im l low high (v % 2 ^ 32) (v / 2 ^ 32) b fits.0 fits.1 q h
-written_same (Word at v) im l b fits q h = both_there im l at (at + 4) (v % 2 ^ 32) (v / 2 ^ 32) b (omega arith) (omega arith) q (rw (parts at 4 4 b) at h)
-written_same (Key at k) im l b fits q h = let p = among at 4 b h in put_there 4 im l at k b p.0 p.1 fits q
-written_same (Register row at) im l b fits q h = let p = among at 4 b h in put_there 4 im l at row.key b p.0 p.1 fits q
-written_same (RegisterOnly row) im l b fits q h = never h
-written_same (RegisterOutside row) im l b fits q h = never h
+pub written_same : (d : Result Deed ElfError) (im l : List ℕ) (b : ℕ) → DeedFits (length im) d → length im ≡ length l → writes d b ≡ true → get_or (written d im) b 0 ≡ get_or (written d l) b 0
+written_same (Ok Skip) im l b fits q h = never h
+written_same (Err r) im l b fits q h = never h
+written_same (Ok (Halves low high v)) im l b fits q h = both_there im l low high (v % 2 ^ 32) (v / 2 ^ 32) b fits.0 fits.1 q h
+written_same (Ok (Word at v)) im l b fits q h = both_there im l at (at + 4) (v % 2 ^ 32) (v / 2 ^ 32) b (omega arith) (omega arith) q (rw (parts at 4 4 b) at h)
+written_same (Ok (Key at k)) im l b fits q h = let p = among at 4 b h in put_there 4 im l at k b p.0 p.1 fits q
+written_same (Ok (Register row at)) im l b fits q h = let p = among at 4 b h in put_there 4 im l at row.key b p.0 p.1 fits q
+written_same (Ok (RegisterOnly row)) im l b fits q h = never h
+written_same (Ok (RegisterOutside row)) im l b fits q h = never h

@@ -8,7 +8,9 @@ use mathlib.Core.List.{List}
 use lib.ListN.{length, get_or}
 use Rattle.ebpf.specs.Choice.{◌if◌else◌, row_cases}
 use Rattle.loader.specs.declared.deeds.Deed.{Deed}
-use Rattle.loader.specs.declared.deeds.Deed.TheVariants.{Skip, Refuse, Halves, Word, Key, Register, RegisterOnly, RegisterOutside}
+use Rattle.loader.specs.declared.deeds.Deed.TheVariants.{Skip, Halves, Word, Key, Register, RegisterOnly, RegisterOutside}
+use Rattle.std.specs.Prelude.{Result, Ok, Err}
+use Rattle.loader.specs.declared.error.ElfError.{ElfError}
 use Rattle.loader.specs.Deeds.{written, writes, deed_trace}
 use Rattle.loader.specs.Trace.{Trace, each}
 use Rattle.loader.proofs.Ends.{Ends, ends_then}
@@ -20,22 +22,22 @@ use Rattle.writers.specs.Named.{last_of}
 use Rattle.writers.specs.Writers.{image_after, writer_after}
 
 -- the load goes on behind it
-goes_on : (d : Deed) (im l : List ℕ) → Ends (deed_trace d im) l → stops d ≡ false
+goes_on : (d : Result Deed ElfError) (im l : List ℕ) → Ends (deed_trace d im) l → stops d ≡ false
 unfolding deed_trace
-goes_on Skip im l e = refl
-goes_on (Refuse r) im l e = absurd e
-goes_on (Halves low high v) im l e = refl
-goes_on (Word at v) im l e = refl
-goes_on (Key at k) im l e = refl
-goes_on (Register row at) im l e = refl
-goes_on (RegisterOnly row) im l e = refl
-goes_on (RegisterOutside row) im l e = absurd e
+goes_on (Ok Skip) im l e = refl
+goes_on (Err r) im l e = absurd e
+goes_on (Ok (Halves low high v)) im l e = refl
+goes_on (Ok (Word at v)) im l e = refl
+goes_on (Ok (Key at k)) im l e = refl
+goes_on (Ok (Register row at)) im l e = refl
+goes_on (Ok (RegisterOnly row)) im l e = refl
+goes_on (Ok (RegisterOutside row)) im l e = absurd e
 
 pub last_next : (who : ℕ → Writer) (P : ℕ → Bool) (n : ℕ) (w : Writer) → last_of who P (n + 1) w ≡ (who n if P n else last_of who P n w)
 unfolding last_of
 last_next who P n w = rw (add-one n) refl
 
-module _ (step : ℕ → List ℕ → Trace) (deed : ℕ → List ℕ → Deed) (is : (i : ℕ) (im : List ℕ) → step i im ≡ deed_trace (deed i im) im) where
+module _ (step : ℕ → List ℕ → Trace) (deed : ℕ → List ℕ → Result Deed ElfError) (is : (i : ℕ) (im : List ℕ) → step i im ≡ deed_trace (deed i im) im) where
   pub image_after_lem : (n i : ℕ) (im im' : List ℕ) → Ends (each step n i im) im' → im' ≡ image_after deed n i im
   unfolding each image_after
   image_after_lem zero i im im' e = sym e
@@ -62,7 +64,7 @@ module _ (step : ℕ → List ℕ → Trace) (deed : ℕ → List ℕ → Deed) 
         rw (← m, ← t, ← last_next who P i w) again
 
 -- a byte that none of the deeds wrote is as it was, and so is its writer
-module _ (deed : ℕ → List ℕ → Deed) (who : ℕ → Writer) (other : (i : ℕ) → who i ≡ File → ⊥) (b : ℕ) where
+module _ (deed : ℕ → List ℕ → Result Deed ElfError) (who : ℕ → Writer) (other : (i : ℕ) → who i ≡ File → ⊥) (b : ℕ) where
   pub kept_after : (n i : ℕ) (im : List ℕ) (w : Writer) → writer_after deed who b n i im w ≡ File → (get_or (image_after deed n i im) b 0 ≡ get_or im b 0) × (w ≡ File)
   unfolding writer_after image_after
   kept_after zero i im w e = (refl, e)

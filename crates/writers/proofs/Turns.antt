@@ -1,12 +1,12 @@
 -- One relocation behind another: the header used last, the bytes that it names, and the last that names a byte. Assumes nothing.
+use Rattle.std.specs.Prelude.{Option, None}
+use Rattle.loader.specs.declared.relocations.UsedHeader.{UsedHeader}
 use Prim.Native.Nat.{ℕ, ◌+◌}
 use mathlib.Core.Path.{◌≡◌, refl, sym, ◌∙◌}
 use mathlib.Core.Bool.{Bool}
 use mathlib.Core.List.{List}
 use Rattle.ebpf.specs.Choice.{◌if◌else◌}
 use Rattle.elf_parser.specs.declared.layout.Layout.{Layout}
-use Rattle.loader.specs.declared.relocations.Used.{Used}
-use Rattle.loader.specs.declared.relocations.Used.TheVariants.{None}
 use Rattle.loader.specs.Relocations.{used_before, used_next}
 use Rattle.writers.specs.declared.Writer.{Writer}
 use Rattle.writers.specs.declared.Writer.TheVariants.{Relocation}
@@ -23,7 +23,7 @@ pub none_used : (file : List ℕ) (l : Layout) (version2 : Bool) → None ≡ us
 unfolding used_before
 none_used file l version2 = refl
 
-module _ (file : List ℕ) (t : Text) (header : Used) (i : ℕ) (x : Next) (before : header ≡ used_before file t.layout t.version2 i) (goes : NamesNext file t header i x) where
+module _ (file : List ℕ) (t : Text) (header : Option UsedHeader) (i : ℕ) (x : Next) (before : header ≡ used_before file t.layout t.version2 i) (goes : NamesNext file t header i x) where
   -- the header used last, behind this one
   pub next_used : x.header ≡ used_before file t.layout t.version2 (i + 1)
   next_used = rw (goes.used, before) (sym (used_next file t.layout t.version2 i))

@@ -9,9 +9,9 @@ use Rattle.program.specs.HashedLegacy.{LegacyResult}
 use Rattle.std.specs.Prelude.{Ok, Err}
 use Rattle.program.specs.declared.FunctionName.TheVariants.{OfIndex}
 use Rattle.program.proofs.Cases.{zero_one}
-use Rattle.loader.specs.declared.calls.Call.{Call as Calling}
-use Rattle.loader.specs.declared.calls.Call.TheVariants.{None, To, Outside}
 use Rattle.loader.specs.declared.validate.Job.{Job}
+use Rattle.std.specs.Prelude.{Option, Some, None, Result, Ok, Err}
+use Rattle.loader.specs.declared.error.ElfError.{ElfError}
 use Rattle.loader.specs.Calls.{call_at, text_of, slot_count, immediate, call_row, call_by, call_deed, slot_trace}
 use Rattle.loader.specs.InnerContracts.{InFile}
 use Rattle.loader.specs.Deeds.{is_in, writes}
@@ -49,15 +49,15 @@ module _ (file builtins : List ℕ) (j : Job) where
       free (Ok row) e = refl
       free (Err taken) e = never e
 
-      no_call : (x : Bool) → is_call file (text_is j) i ≡ x → call_at (text_of file j) j.version2 i ≡ None → is_call file (text_is j) i ≡ false
+      no_call : (x : Bool) → is_call file (text_is j) i ≡ x → call_at (text_of file j) j.version2 i ≡ Ok None → is_call file (text_is j) i ≡ false
       no_call false q e = q
       no_call true q e = absurd (local_calls file j i (l, q) e)
 
-      go : (c : Calling) → call_at (text_of file j) j.version2 i ≡ c → stops (call_by builtins j i c) ≡ false
+      go : (c : Result (Option ℕ) ElfError) → call_at (text_of file j) j.version2 i ≡ c → stops (call_by builtins j i c) ≡ false
           → (is_in (immediate j i) 4 b && is_call file (text_is j) i) ≡ writes (call_by builtins j i c) b
-      go None e s = rw (no_call (is_call file (text_is j) i) refl e) (and_off (is_in (immediate j i) 4 b))
-      go Outside e s = never s
-      go (To to) e s = let q : is_call file (text_is j) i ≡ true = (calls_local file j i to (l, e)).1 in rw q (and_on (is_in (immediate j i) 4 b) ∙ free (row_for builtins j OfIndex to) s)
+      go (Ok None) e s = rw (no_call (is_call file (text_is j) i) refl e) (and_off (is_in (immediate j i) 4 b))
+      go (Err r) e s = never s
+      go (Ok (Some to)) e s = let q : is_call file (text_is j) i ≡ true = (calls_local file j i to (l, e)).1 in rw q (and_on (is_in (immediate j i) 4 b) ∙ free (row_for builtins j OfIndex to) s)
 
   module _ (inside : InFile file j) (im' : List ℕ) (ends : Ends (job_trace file builtins j file) im') where
     calls_image : (parts file builtins j inside im' ends).0 ≡ image_of_calls file builtins j

@@ -1,13 +1,13 @@
 -- The question about a load already made: its answer and the file. On every input, an answer too that no load of this file gave.
-use Rattle.std.specs.Prelude.{ℕ, ◌+◌, ◌*◌, ◌≤◌, ◌^◌, Bool, ◌&&◌, List, length, ltb, leb, eqb}
+use Rattle.std.specs.Prelude.{ℕ, ◌+◌, ◌*◌, ◌≤◌, ◌^◌, Bool, ◌&&◌, List, length, ltb, leb, eqb, Result, Ok, Err}
 use Rattle.ebpf.specs.Choice.{◌if◌else◌}
 use Rattle.elf_parser.specs.declared.error.ElfParserError.TheVariants.{InvalidProgramHeader}
 use Rattle.elf_parser.specs.declared.layout.Layout.{Layout}
 use Rattle.elf_parser.specs.declared.layout.Parsed.{Parsed}
 use Rattle.elf_parser.specs.declared.layout.Parsed.TheVariants.{File, Refused as NoFile}
 use Rattle.elf_parser.specs.Parse.{parsed}
-use Rattle.loader.specs.declared.answer.Load.{Load}
-use Rattle.loader.specs.declared.answer.Load.TheVariants.{Accepted as Accepts, Refused as Refuses}
+use Rattle.loader.specs.declared.error.ElfError.{ElfError}
+use Rattle.loader.specs.declared.answer.Accepted.{Accepted}
 use Rattle.loader.specs.declared.error.ElfError.TheVariants.{FailedToParse, FileTooLong, ValueOutOfBounds}
 use Rattle.loader.specs.Errors.{from_parser}
 use Rattle.writers.specs.declared.Wrote.{Wrote}
@@ -43,9 +43,9 @@ abbrev pub asked_by : List ℕ → Bool → ℕ → ℕ → ℕ → Wrote
 asked_by file version2 start n b = asked_in file b (text_of file version2 start n)
 
 -- WHO WROTE THE BYTE b, by a load's answer
-abbrev pub asked : List ℕ → Load → ℕ → Wrote
-asked file (Refuses r) b = Refused r
-asked file (Accepts a) b = asked_by file (eqb a.version 2) a.text_start a.text_length b
+abbrev pub asked : List ℕ → Result Accepted ElfError → ℕ → Wrote
+asked file (Err r) b = Refused r
+asked file (Ok a) b = asked_by file (eqb a.version 2) a.text_start a.text_length b
 
 -- what the functions behind `text_of` may count on
 pub record Askable (file : List ℕ) (t : Text) : Type 0 where

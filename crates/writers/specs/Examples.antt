@@ -21,6 +21,8 @@ use Rattle.elf_parser.specs.Types.{file_header, program_header, section_header, 
 use Rattle.program.specs.HashedLegacy.{legacy_key, kept_symbol, is_taken, legacy_row}
 use Rattle.program.specs.Rows.{rank, register, registered, unregister}
 use Rattle.program.specs.Search.{narrowed, binary_search, is_among}
+use Rattle.loader.specs.declared.error.ElfError.{ElfError}
+use Rattle.loader.specs.Results.{◌then◌}
 use Rattle.loader.specs.Addresses.{machine_addr}
 use Rattle.loader.specs.Bytes.{put}
 use Rattle.loader.specs.Calls.{inside, target, is_local_call, call_of, call_at, call_deed, slot_trace}
@@ -34,8 +36,8 @@ use Rattle.loader.specs.ReadOnly.{read_only, gives as loader-gives, invalid_by, 
 use Rattle.loader.specs.Relocations.{relocation_at, header_at, first_from, used_header, used_before, place_of, within, program_address, immediate_at, halves_deed, word_deed, address_deed, plan6464, relative_text, relative_value, plan_relative, function_call, builtin_call, call_by_name, plan6432, plan_at, relocation_trace}
 use Rattle.loader.specs.Sections.{section_at, starts_with, unsupported, outside_file, survey_step, survey_from}
 use Rattle.loader.specs.Trace.{and_then, each, settle}
-use Rattle.loader.specs.Validate.{size_check, ascends, header_check as loader-headerCheck, sections_check, text_check, job_of, ◌then◌, validated, prepared}
-use Rattle.std.specs.Prelude.{ℕ, zero, suc, List, [], ◌∷◌, map, ◌≡◌, refl}
+use Rattle.loader.specs.Validate.{size_check, ascends, header_check as loader-headerCheck, sections_check, text_check, job_of, validated, prepared}
+use Rattle.std.specs.Prelude.{ℕ, zero, suc, List, [], ◌∷◌, map, ◌≡◌, refl, Result, Ok}
 use Rattle.loader.specs.SmallFiles.{all_on, version_1, version_2}
 use Rattle.loader.specs.declared.deeds.Deed.{Deed}
 use Rattle.loader.specs.declared.deeds.Deed.TheVariants.{Halves, Word, Key}
@@ -53,10 +55,10 @@ use Rattle.writers.specs.Whole.{code_by, filled_of}
 -- ---- deeds one after another
 
 -- eight bytes at 0; a key at 4, over the word's upper half; and the halves of 0 at 0 and at 12, where zeros stand already
-abbrev three : ℕ → List ℕ → Deed
-three zero im = Word 0 0x8_0000_0007
-three (suc zero) im = Key 4 9
-three (suc (suc i)) im = Halves 0 12 0
+abbrev three : ℕ → List ℕ → Result Deed ElfError
+three zero im = Ok (Word 0 0x8_0000_0007)
+three (suc zero) im = Ok (Key 4 9)
+three (suc (suc i)) im = Ok (Halves 0 12 0)
 
 -- with the first, with the first two, and with all three of them, in sixteen zeros
 abbrev zeros : List ℕ

@@ -1,9 +1,9 @@
 -- The same by the bytes that calls and relocations name, in a file whose text is known.
-use Rattle.std.specs.Prelude.{ℕ, zero, suc, ◌+◌, ◌-◌, ◌*◌, ◌/◌, ◌%◌, ◌^◌, ◌≡◌, Bool, false, ◌&&◌, List, take, drop, ltb, leb}
+use Rattle.loader.specs.declared.relocations.UsedHeader.{UsedHeader}
+use Rattle.std.specs.Prelude.{ℕ, zero, suc, ◌+◌, ◌-◌, ◌*◌, ◌/◌, ◌%◌, ◌^◌, ◌≡◌, Bool, false, ◌&&◌, List, take, drop, ltb, leb, Option}
 use Rattle.ebpf.specs.Choice.{◌if◌else◌}
 use Rattle.ebpf.specs.Instructions.{insn_at}
 use Rattle.elf_parser.specs.declared.layout.Layout.{Layout}
-use Rattle.loader.specs.declared.relocations.Used.{Used}
 use Rattle.loader.specs.Calls.{local_call_in}
 use Rattle.loader.specs.Deeds.{is_in}
 use Rattle.loader.specs.Demand.{in_halves, named_in, names_in}
@@ -71,6 +71,6 @@ abbrev pub Names : Named → (ℕ → Bool) → Type 0
 Names x P = (b : ℕ) → is_named x b ≡ P b
 
 -- the relocation number i, behind those that used `header` last
-pub record NamesNext (file : List ℕ) (t : Text) (header : Used) (i : ℕ) (x : Next) : Type 0 where
+pub record NamesNext (file : List ℕ) (t : Text) (header : Option UsedHeader) (i : ℕ) (x : Next) : Type 0 where
   pub used : x.header ≡ used_header file t.layout t.version2 header (relocation_at file t.layout i).r_offset
   pub names : Names x.named (named_in t.version2 t.start t.length (place_of t.version2 x.header (relocation_at file t.layout i).r_offset) ((relocation_at file t.layout i).r_info % 2 ^ 32))

@@ -1,9 +1,9 @@
 -- Who wrote each byte of the file, as one number a byte.
-use Rattle.std.specs.Prelude.{ℕ, ◌+◌, ◌≡◌, Bool, ◌&&◌, List, length, get_or, ltb, eqb}
+use Rattle.std.specs.Prelude.{ℕ, ◌+◌, ◌≡◌, Bool, ◌&&◌, List, length, get_or, ltb, eqb, Result, Ok, Err}
 use Rattle.ebpf.specs.Choice.{◌if◌else◌}
 use Rattle.program.specs.Table.{Lent, Shared}
-use Rattle.loader.specs.declared.answer.Load.{Load}
-use Rattle.loader.specs.declared.answer.Load.TheVariants.{Accepted as Accepts, Refused as Refuses}
+use Rattle.loader.specs.declared.error.ElfError.{ElfError}
+use Rattle.loader.specs.declared.answer.Accepted.{Accepted}
 use Rattle.loader.specs.declared.error.ElfError.TheVariants.{BufferShort}
 use Rattle.writers.specs.declared.Filled.{Filled}
 use Rattle.writers.specs.declared.Filled.TheVariants.{Whole, Refused as NotFilled}
@@ -44,11 +44,11 @@ abbrev pub FillsBy : Shared → Bool → ℕ → ℕ → Lent → Filled → Typ
 FillsBy file version2 start n numbers r =
     Filling file numbers (asked_by file.entry.now version2 start n) (filled_in (length file.entry.now) (length numbers.entry.now) (text_of file.entry.now version2 start n)) r
 
-abbrev pub filled_of : List ℕ → ℕ → Load → Filled
-filled_of file n (Refuses r) = NotFilled r
-filled_of file n (Accepts a) = filled_in (length file) n (text_of file (eqb a.version 2) a.text_start a.text_length)
+abbrev pub filled_of : List ℕ → ℕ → Result Accepted ElfError → Filled
+filled_of file n (Err r) = NotFilled r
+filled_of file n (Ok a) = filled_in (length file) n (text_of file (eqb a.version 2) a.text_start a.text_length)
 
-abbrev pub Fills : Shared → Load → Lent → Filled → Type 0
+abbrev pub Fills : Shared → Result Accepted ElfError → Lent → Filled → Type 0
 Fills file answer numbers r = Filling file numbers (asked file.entry.now answer) (filled_of file.entry.now (length numbers.entry.now) answer) r
 
 -- ---- the steps

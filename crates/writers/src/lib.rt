@@ -6,7 +6,7 @@ ghost use Rattle.writers.specs.Asked.{asked_by, asked};
 ghost use Rattle.writers.specs.Whole.{OnlyZeros, FillsBy, Fills};
 ghost use Rattle.writers.specs.Loads.{LoadsAndTells};
 
-use loader::{Config, ElfError, Load, clear_words, load};
+use loader::{Accepted, Config, ElfError, clear_words, load};
 use naming::last_naming;
 use text::{TextOf, text_of};
 use whole::mark_all;
@@ -35,7 +35,7 @@ pub enum Wrote {
 // What a load answers, and who wrote the byte that was asked for.
 #[derive(Clone, Copy)]
 pub struct LoadWrote {
-    pub load: Load,
+    pub load: Result<Accepted, ElfError>,
     pub wrote: Wrote,
 }
 
@@ -62,18 +62,12 @@ pub fn who_wrote_by(file: &[u8], version2: bool, start: usize, length: usize, of
 }
 
 // The same by the whole answer, which may be a refusal. Nothing is lent but the file.
-pub fn who_wrote(file: &[u8], answer: Load, offset: u64) -> Wrote
+pub fn who_wrote(file: &[u8], answer: Result<Accepted, ElfError>, offset: u64) -> Wrote
     ensures { result ≡ asked file.now answer offset }
 {
     match answer {
-        Load::Refused(r) => Wrote::Refused(r),
-        Load::Accepted(a) => who_wrote_by(
-            file,
-            a.version == 2,
-            a.text_start,
-            a.text_length,
-            offset,
-        ),
+        Err(r) => Wrote::Refused(r),
+        Ok(a) => who_wrote_by(file, a.version == 2, a.text_start, a.text_length, offset),
     }
 }
 
@@ -136,16 +130,14 @@ pub fn who_wrote_all_by(
 }
 
 // The same by the whole answer.
-pub fn who_wrote_all(numbers: &mut [u32], file: &[u8], answer: Load) -> Filled
+pub fn who_wrote_all(numbers: &mut [u32], file: &[u8], answer: Result<Accepted, ElfError>) -> Filled
     ensures { Fills file answer numbers result }
 {
     match answer {
-        Load::Refused(r) => {
+        Err(r) => {
             clear_words(numbers);
             Filled::Refused(r)
         }
-        Load::Accepted(a) => {
-            who_wrote_all_by(numbers, file, a.version == 2, a.text_start, a.text_length)
-        }
+        Ok(a) => { who_wrote_all_by(numbers, file, a.version == 2, a.text_start, a.text_length) }
     }
 }

@@ -11,7 +11,7 @@ use crate::Writer;
 use crate::calls::call_writer;
 use crate::text::Text;
 use elf_parser::Layout;
-use loader::{Mapped, Used, is_within, r_place, relocation_at, used_header};
+use loader::{UsedHeader, is_within, r_place, relocation_at, used_header};
 
 const R_BPF_64_64: u32 = 1;
 
@@ -53,12 +53,12 @@ fn named_by(version2: bool, in_text: bool, kind: u32, r: u64) -> Named
     Named::None
 }
 
-fn named_in(text: Text, place: Mapped, r_info: u64) -> Named
+fn named_in(text: Text, place: Option<u64>, r_info: u64) -> Named
     ensures { Names result (named_in text.version2 text.start text.length place (r_info % 2 ^ 32)) }
 {
     match place {
-        Mapped::Refused => Named::None,
-        Mapped::At(r) => {
+        None => Named::None,
+        Some(r) => {
             let in_text = is_within(text.start as u64, text.length as u64, r);
             let kind = (r_info % 0x1_0000_0000) as u32;
             named_by(text.version2, in_text, kind, r)
@@ -69,12 +69,12 @@ fn named_in(text: Text, place: Mapped, r_info: u64) -> Named
 // The program header used last, and the bytes that a relocation names.
 #[derive(Clone, Copy)]
 pub struct Next {
-    pub header: Used,
+    pub header: Option<UsedHeader>,
     pub named: Named,
 }
 
 // Of the relocation number `i`, behind those that used `header` last.
-pub(crate) fn named_next(file: &[u8], text: Text, header: Used, i: u32) -> Next
+pub(crate) fn named_next(file: &[u8], text: Text, header: Option<UsedHeader>, i: u32) -> Next
     ensures { NamesNext file.now text header i result }
 {
     let layout = text.layout;
@@ -136,7 +136,7 @@ pub(crate) fn last_naming(file: &[u8], text: Text, b: u64) -> Writer
 {
     let count = relocation_count(text.layout);
     let mut writer = call_writer(file, text, b);
-    let mut header = Used::None;
+    let mut header = None;
     let mut i: u32 = 0;
     while i < count {
         let next = named_next(file, text, header, i);

@@ -8,7 +8,6 @@ ghost use Rattle.writers.specs.Whole.{Marks, OnlyZeros, HoldsCalls, HoldsAll};
 use crate::calls::is_call;
 use crate::naming::{Named, named_next, relocation_count};
 use crate::text::Text;
-use loader::Used;
 
 // `code` at a place below `len`.
 fn mark_one(numbers: &mut [u32], len: usize, at: usize, code: u32)
@@ -91,7 +90,7 @@ pub(crate) fn mark_all(numbers: &mut [u32], file: &[u8], text: Text)
     mark_calls(numbers, file, text);
     let len = file.len();
     let count = relocation_count(text.layout);
-    let mut header = Used::None;
+    let mut header = None;
     let mut i: u32 = 0;
     while i < count {
         let next = named_next(file, text, header, i);

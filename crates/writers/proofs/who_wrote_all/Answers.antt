@@ -7,19 +7,19 @@ use Rattle.writers.proofs.Marking.{only_zero}
 use Rattle.writers.proofs.Telling.{cleared, as_long}
 use Rattle.writers.proofs.who_wrote_all.Goals as goal
 
-pub returns-in-Refused : goal.returns-in-Refused
-returns-in-Refused c =
+pub returns-in-Err : goal.returns-in-Err
+returns-in-Err c =
     let n = length c.args.numbers.now in
     record {
-      answers = rw c.in-Refused.is refl;
+      answers = rw c.in-Err.is refl;
       length_as = as_long n c.clear_words.new.s c.clear_words.ensures;
-      tells = λ b. rw c.in-Refused.is (cleared n c.clear_words.new.s c.clear_words.ensures b ∙ only_zero (ltb n (length c.args.file.now)));
+      tells = λ b. rw c.in-Err.is (cleared n c.clear_words.new.s c.clear_words.ensures b ∙ only_zero (ltb n (length c.args.file.now)));
     }
 
-pub returns-in-Accepted : goal.returns-in-Accepted
-returns-in-Accepted c =
+pub returns-in-Ok : goal.returns-in-Ok
+returns-in-Ok c =
     record {
-      answers = rw c.in-Accepted.is c.who_wrote_all_by.ensures.answers;
+      answers = rw c.in-Ok.is c.who_wrote_all_by.ensures.answers;
       length_as = c.who_wrote_all_by.ensures.length_as;
-      tells = λ b. rw c.in-Accepted.is (c.who_wrote_all_by.ensures.tells b);
+      tells = λ b. rw c.in-Ok.is (c.who_wrote_all_by.ensures.tells b);
     }

@@ -5,10 +5,10 @@ use Rattle.listing.proofs.Listed.{refused_stored, accepted_stored}
 use Rattle.listing.proofs.lines.put_load.Goals as goal
 
 pub put_rows-requires : goal.put_rows-requires
-put_rows-requires c = (omega (arith, c.put_accepted-next.ensures.near), rw c.in-Accepted.is at c.requires)
+put_rows-requires c = (omega (arith, c.put_accepted-next.ensures.near), rw c.in-Ok.is at c.requires)
 
-pub returns-in-Refused : goal.returns-in-Refused
-returns-in-Refused c = refused_stored _ _ _ _ _ _ c.in-Refused.is c.put_refused.ensures
+pub returns-in-Err : goal.returns-in-Err
+returns-in-Err c = refused_stored _ _ _ _ _ _ c.in-Err.is c.put_refused.ensures
 
-pub returns-in-Accepted : goal.returns-in-Accepted
-returns-in-Accepted c = accepted_stored _ _ _ _ _ _ _ _ c.in-Accepted.is c.put_accepted-next.ensures c.put_rows.ensures
+pub returns-in-Ok : goal.returns-in-Ok
+returns-in-Ok c = accepted_stored _ _ _ _ _ _ _ _ c.in-Ok.is c.put_accepted-next.ensures c.put_rows.ensures

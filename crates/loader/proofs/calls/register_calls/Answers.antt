@@ -9,8 +9,11 @@ use lib.ListN.{length, drop, length-replicate}
 use lib.Seq.{paste}
 use Rattle.program.specs.Table.{Slices, slices}
 use Rattle.program.proofs.Tables.{SameLens, same_trans}
-use Rattle.loader.specs.declared.deeds.Outcome.{Outcome}
-use Rattle.loader.specs.declared.deeds.Outcome.TheVariants.{Holds}
+use Rattle.loader.specs.declared.deeds.Held.{Held}
+use Rattle.loader.specs.declared.error.ElfError.{ElfError}
+use Rattle.std.specs.Prelude.{Result, Ok}
+use Rattle.std.proofs.lemmas.Result.{err_from_is_err_and}
+use Rattle.loader.specs.Deeds.{holding}
 use Rattle.loader.specs.Trace.{Trace}
 use Rattle.loader.specs.Calls.{slot_count, slot_trace, calls_trace}
 use Rattle.loader.specs.CallLoop.{ahead, StillHeld, Leads}
@@ -75,79 +78,27 @@ register_slots-requires c =
       began.0,
       omega (arith, bounds.0),
       bounds.1,
-      in_begins_run step (slot_count c.args.job) 0 (slot_count c.args.job) (omega arith) c.args.file.now (A c.loop-i.i c.loop-i.image) T₀ T c.args.rows 0 0 c.loop-i.used c.loop-i.moves c.loop-i.i all c.loop-i.invariant.0 c.run_end-to.result (omega (arith, bounds.0)) bounds.1 c.args.file.now T,
+      in_begins_run step (slot_count c.args.job) 0 (slot_count c.args.job) (omega arith) c.args.file.now (A c.loop-i.i c.loop-i.image) T₀ T c.args.rows 0 0 c.loop-i.held.used c.loop-i.held.moves c.loop-i.i all c.loop-i.invariant.0 c.run_end-to.result (omega (arith, bounds.0)) bounds.1 c.args.file.now T,
       c.loop-i.invariant.2,
     )
 
-pub shape_of-image-in-Refused : goal.shape_of-image-in-Refused
-shape_of-image-in-Refused c =
-    let A : ℕ → List ℕ → List ℕ = λ i im. ahead (c.args.job.start + 8 * i) im c.args.file.now in
-    let inside : (i : ℕ) → i ≤ slot_count c.args.job → c.args.job.start + 8 * i ≤ length c.args.file.now = λ i l. text_in c.args.job.start c.args.job.length i _ c.requires.0.text l in
-    let began : (length c.copy_bytes-in-loop-i.new.to ≡ length c.args.file.now) × (A c.run_end-to.result c.copy_bytes-in-loop-i.new.to ≡ A c.loop-i.i c.loop-i.image) = let bounds = ran (goal.at.shape_of-image-in-Refused c).After-run_end-to in
-    (c.copy_bytes-in-loop-i.auto.to ∙ c.loop-i.invariant.1, copied c.args.file.now c.loop-i.image _ c.args.job.start c.loop-i.i c.run_end-to.result (omega (arith, bounds.0)) c.loop-i.invariant.1 (inside _ bounds.1) c.copy_bytes-in-loop-i.ensures) in
-    c.register_slots.auto.image ∙ began.0 ∙ sym c.requires.2
-
-pub shape_of-keys-in-Refused : goal.shape_of-keys-in-Refused
-shape_of-keys-in-Refused c =
-    let T₀ : Slices = slices c.args.keys.now c.args.indices.now c.args.kinds.now c.args.starts.now c.args.lengths.now in
-    let U : Slices = slices c.register_slots.new.keys c.register_slots.new.indices c.register_slots.new.kinds c.register_slots.new.starts c.register_slots.new.lengths in
-    let T : Slices = slices c.loop-i.keys c.loop-i.indices c.loop-i.kinds c.loop-i.starts c.loop-i.lengths in
-    let lens : SameLens (T) (U) = record { keys_as = c.register_slots.auto.keys; indices_as = c.register_slots.auto.indices; kinds_as = c.register_slots.auto.kinds; starts_as = c.register_slots.auto.starts; lengths_as = c.register_slots.auto.lengths } in
-    let cols : SameLens (T₀) (U) = same_trans (T₀) (T) (U) c.loop-i.invariant.0.same (lens) in
-    cols.keys_as
-
-pub shape_of-indices-in-Refused : goal.shape_of-indices-in-Refused
-shape_of-indices-in-Refused c =
-    let T₀ : Slices = slices c.args.keys.now c.args.indices.now c.args.kinds.now c.args.starts.now c.args.lengths.now in
-    let U : Slices = slices c.register_slots.new.keys c.register_slots.new.indices c.register_slots.new.kinds c.register_slots.new.starts c.register_slots.new.lengths in
-    let T : Slices = slices c.loop-i.keys c.loop-i.indices c.loop-i.kinds c.loop-i.starts c.loop-i.lengths in
-    let lens : SameLens (T) (U) = record { keys_as = c.register_slots.auto.keys; indices_as = c.register_slots.auto.indices; kinds_as = c.register_slots.auto.kinds; starts_as = c.register_slots.auto.starts; lengths_as = c.register_slots.auto.lengths } in
-    let cols : SameLens (T₀) (U) = same_trans (T₀) (T) (U) c.loop-i.invariant.0.same (lens) in
-    cols.indices_as
-
-pub shape_of-kinds-in-Refused : goal.shape_of-kinds-in-Refused
-shape_of-kinds-in-Refused c =
-    let T₀ : Slices = slices c.args.keys.now c.args.indices.now c.args.kinds.now c.args.starts.now c.args.lengths.now in
-    let U : Slices = slices c.register_slots.new.keys c.register_slots.new.indices c.register_slots.new.kinds c.register_slots.new.starts c.register_slots.new.lengths in
-    let T : Slices = slices c.loop-i.keys c.loop-i.indices c.loop-i.kinds c.loop-i.starts c.loop-i.lengths in
-    let lens : SameLens (T) (U) = record { keys_as = c.register_slots.auto.keys; indices_as = c.register_slots.auto.indices; kinds_as = c.register_slots.auto.kinds; starts_as = c.register_slots.auto.starts; lengths_as = c.register_slots.auto.lengths } in
-    let cols : SameLens (T₀) (U) = same_trans (T₀) (T) (U) c.loop-i.invariant.0.same (lens) in
-    cols.kinds_as
-
-pub shape_of-starts-in-Refused : goal.shape_of-starts-in-Refused
-shape_of-starts-in-Refused c =
-    let T₀ : Slices = slices c.args.keys.now c.args.indices.now c.args.kinds.now c.args.starts.now c.args.lengths.now in
-    let U : Slices = slices c.register_slots.new.keys c.register_slots.new.indices c.register_slots.new.kinds c.register_slots.new.starts c.register_slots.new.lengths in
-    let T : Slices = slices c.loop-i.keys c.loop-i.indices c.loop-i.kinds c.loop-i.starts c.loop-i.lengths in
-    let lens : SameLens (T) (U) = record { keys_as = c.register_slots.auto.keys; indices_as = c.register_slots.auto.indices; kinds_as = c.register_slots.auto.kinds; starts_as = c.register_slots.auto.starts; lengths_as = c.register_slots.auto.lengths } in
-    let cols : SameLens (T₀) (U) = same_trans (T₀) (T) (U) c.loop-i.invariant.0.same (lens) in
-    cols.starts_as
-
-pub shape_of-lengths-in-Refused : goal.shape_of-lengths-in-Refused
-shape_of-lengths-in-Refused c =
-    let T₀ : Slices = slices c.args.keys.now c.args.indices.now c.args.kinds.now c.args.starts.now c.args.lengths.now in
-    let U : Slices = slices c.register_slots.new.keys c.register_slots.new.indices c.register_slots.new.kinds c.register_slots.new.starts c.register_slots.new.lengths in
-    let T : Slices = slices c.loop-i.keys c.loop-i.indices c.loop-i.kinds c.loop-i.starts c.loop-i.lengths in
-    let lens : SameLens (T) (U) = record { keys_as = c.register_slots.auto.keys; indices_as = c.register_slots.auto.indices; kinds_as = c.register_slots.auto.kinds; starts_as = c.register_slots.auto.starts; lengths_as = c.register_slots.auto.lengths } in
-    let cols : SameLens (T₀) (U) = same_trans (T₀) (T) (U) c.loop-i.invariant.0.same (lens) in
-    cols.lengths_as
-
-pub returns-in-Refused : goal.returns-in-Refused
-returns-in-Refused c =
+pub returns-in_err-held : goal.returns-in_err-held
+returns-in_err-held c =
     let step : ℕ → List ℕ → Trace = slot_trace c.args.file.now c.args.builtins.now c.args.job in
     let T₀ : Slices = slices c.args.keys.now c.args.indices.now c.args.kinds.now c.args.starts.now c.args.lengths.now in
     let U : Slices = slices c.register_slots.new.keys c.register_slots.new.indices c.register_slots.new.kinds c.register_slots.new.starts c.register_slots.new.lengths in
     let A : ℕ → List ℕ → List ℕ = λ i im. ahead (c.args.job.start + 8 * i) im c.args.file.now in
     let T : Slices = slices c.loop-i.keys c.loop-i.indices c.loop-i.kinds c.loop-i.starts c.loop-i.lengths in
     let all : Begins (slot_count c.args.job - 0) (T₀) c.args.rows 0 0 = all_begin (slot_count c.args.job) (T₀) c.args.rows 0 0 c.requires.3 in
-    let Did : Outcome → Type 0 = λ a. Leads (step) (slot_count c.args.job) c.loop-i.i c.run_end-to.result (A c.loop-i.i c.loop-i.image) (A c.run_end-to.result c.register_slots.new.image) (T) (U) c.loop-i.used c.loop-i.moves a in
+    let Did : Result Held ElfError → Type 0 = λ a. Leads (step) (slot_count c.args.job) c.loop-i.i c.run_end-to.result (A c.loop-i.i c.loop-i.image) (A c.run_end-to.result c.register_slots.new.image) (T) (U) c.loop-i.held.used c.loop-i.held.moves a in
     let inside : (i : ℕ) → i ≤ slot_count c.args.job → c.args.job.start + 8 * i ≤ length c.args.file.now = λ i l. text_in c.args.job.start c.args.job.length i _ c.requires.0.text l in
-    let began : (length c.copy_bytes-in-loop-i.new.to ≡ length c.args.file.now) × (A c.run_end-to.result c.copy_bytes-in-loop-i.new.to ≡ A c.loop-i.i c.loop-i.image) = let bounds = ran (goal.at.returns-in-Refused c).After-run_end-to in
+    let began : (length c.copy_bytes-in-loop-i.new.to ≡ length c.args.file.now) × (A c.run_end-to.result c.copy_bytes-in-loop-i.new.to ≡ A c.loop-i.i c.loop-i.image) = let bounds = ran (goal.at.returns-in_err-held c).After-run_end-to in
     (c.copy_bytes-in-loop-i.auto.to ∙ c.loop-i.invariant.1, copied c.args.file.now c.loop-i.image _ c.args.job.start c.loop-i.i c.run_end-to.result (omega (arith, bounds.0)) c.loop-i.invariant.1 (inside _ bounds.1) c.copy_bytes-in-loop-i.ensures) in
-    let did : (b : Outcome) → c.register_slots.result ≡ b → Did b = λ b e. subst (Did) e (rw (began).1 at c.register_slots.ensures.0) in
-    let bounds = ran (goal.at.returns-in-Refused c).After-run_end-to in
-    all_lead step (slot_count c.args.job) c.args.file.now _ T₀ U 0 0 _
-    (in_run_stop step (slot_count c.args.job) 0 (slot_count c.args.job) (omega arith) c.args.file.now (A c.loop-i.i c.loop-i.image) T₀ T c.args.rows 0 0 c.loop-i.used c.loop-i.moves c.loop-i.i all c.loop-i.invariant.0 c.run_end-to.result (omega (arith, bounds.0)) bounds.1 _ U _ _ (did _ c.in-Refused.is))
+    let did : (b : Result Held ElfError) → c.register_slots.result ≡ b → Did b = λ b e. subst (Did) e (rw (began).1 at c.register_slots.ensures.0) in
+    let bounds = ran (goal.at.returns-in_err-held c).After-run_end-to in
+    let p = err_from_is_err_and c.from_residual.result c.from_residual.ensures.1 in
+    rw (p.1, p.2) (all_lead step (slot_count c.args.job) c.args.file.now _ T₀ U 0 0 _
+    (in_run_stop step (slot_count c.args.job) 0 (slot_count c.args.job) (omega arith) c.args.file.now (A c.loop-i.i c.loop-i.image) T₀ T c.args.rows 0 0 c.loop-i.held.used c.loop-i.held.moves c.loop-i.i all c.loop-i.invariant.0 c.run_end-to.result (omega (arith, bounds.0)) bounds.1 _ U _ _ (did _ c.in_err-held.was)))
 
 pub loop-i-smaller : goal.loop-i-smaller
 loop-i-smaller c =
@@ -166,15 +117,15 @@ loop-i-preserved c =
     let all : Begins (slot_count c.args.job - 0) (T₀) c.args.rows 0 0 = all_begin (slot_count c.args.job) (T₀) c.args.rows 0 0 c.requires.3 in
     let U : Slices = slices c.register_slots.new.keys c.register_slots.new.indices c.register_slots.new.kinds c.register_slots.new.starts c.register_slots.new.lengths in
     let lens : SameLens (T) (U) = record { keys_as = c.register_slots.auto.keys; indices_as = c.register_slots.auto.indices; kinds_as = c.register_slots.auto.kinds; starts_as = c.register_slots.auto.starts; lengths_as = c.register_slots.auto.lengths } in
-    let Did : Outcome → Type 0 = λ a. Leads (step) (slot_count c.args.job) c.loop-i.i c.run_end-to.result (A c.loop-i.i c.loop-i.image) (A c.run_end-to.result c.register_slots.new.image) (T) (U) c.loop-i.used c.loop-i.moves a in
-    let did : (b : Outcome) → c.register_slots.result ≡ b → Did b = λ b e. subst (Did) e (rw (began).1 at c.register_slots.ensures.0) in
-    let still : (b : Outcome) → c.register_slots.result ≡ b → StillHeld c.args.builtins.now c.args.job c.register_slots.new.seen (U) b = λ b e. subst (StillHeld c.args.builtins.now c.args.job c.register_slots.new.seen (U)) e c.register_slots.ensures.1 in
+    let Did : Result Held ElfError → Type 0 = λ a. Leads (step) (slot_count c.args.job) c.loop-i.i c.run_end-to.result (A c.loop-i.i c.loop-i.image) (A c.run_end-to.result c.register_slots.new.image) (T) (U) c.loop-i.held.used c.loop-i.held.moves a in
+    let did : (b : Result Held ElfError) → c.register_slots.result ≡ b → Did b = λ b e. subst (Did) e (rw (began).1 at c.register_slots.ensures.0) in
+    let still : (b : Result Held ElfError) → c.register_slots.result ≡ b → StillHeld c.args.builtins.now c.args.job c.register_slots.new.seen (U) b = λ b e. subst (StillHeld c.args.builtins.now c.args.job c.register_slots.new.seen (U)) e c.register_slots.ensures.1 in
     let bounds = ran (goal.at.loop-i-preserved c).After-run_end-to in
     let len : length c.register_slots.new.image ≡ length c.args.file.now = c.register_slots.auto.image ∙ began.0 in
     let same : length (A c.run_end-to.result c.register_slots.new.image) ≡ length (A c.loop-i.i c.loop-i.image) = ahead_length c.register_slots.new.image c.args.file.now (c.args.job.start + 8 * c.run_end-to.result) len ∙ len ∙ sym (ahead_length c.loop-i.image c.args.file.now (c.args.job.start + 8 * c.loop-i.i) c.loop-i.invariant.1 ∙ c.loop-i.invariant.1) in (
-      in_run step (slot_count c.args.job) 0 (slot_count c.args.job) (omega arith) c.args.file.now (A c.loop-i.i c.loop-i.image) T₀ T c.args.rows 0 0 c.loop-i.used c.loop-i.moves c.loop-i.i all c.loop-i.invariant.0 c.run_end-to.result (omega (arith, bounds.0)) bounds.1 (A c.run_end-to.result c.register_slots.new.image) U c.in-Holds.u c.in-Holds.m lens same (did (Holds c.in-Holds.u c.in-Holds.m) c.in-Holds.is),
+      in_run step (slot_count c.args.job) 0 (slot_count c.args.job) (omega arith) c.args.file.now (A c.loop-i.i c.loop-i.image) T₀ T c.args.rows 0 0 c.loop-i.held.used c.loop-i.held.moves c.loop-i.i all c.loop-i.invariant.0 c.run_end-to.result (omega (arith, bounds.0)) bounds.1 (A c.run_end-to.result c.register_slots.new.image) U c.in_ok-held.held.used c.in_ok-held.held.moves lens same (did (Ok c.in_ok-held.held) c.in_ok-held.was),
       len,
-      still (Holds c.in-Holds.u c.in-Holds.m) c.in-Holds.is,
+      still (Ok c.in_ok-held.held) c.in_ok-held.was,
       c.register_slots.auto.seen ∙ c.loop-i.invariant.3,
     )
 
@@ -211,4 +162,4 @@ returns c =
     let step : ℕ → List ℕ → Trace = slot_trace c.args.file.now c.args.builtins.now c.args.job in
     let end : c.loop-i.i ≡ slot_count c.args.job = omega (arith, c.loop-i.invariant.0.passed, c.loop-i-test.false) in
     let im : c.copy_bytes-2.new.to ≡ A c.loop-i.i c.loop-i.image = rest c.args.file.now c.loop-i.image c.copy_bytes-2.new.to c.args.job.start c.loop-i.i (slot_count c.args.job) end c.loop-i.invariant.1 (inside (slot_count c.args.job) (omega arith)) c.copy_bytes-2.ensures in
-    subst (λ (x : List ℕ). Settles (calls_trace c.args.file.now c.args.builtins.now c.args.job c.args.file.now) x T₀ T (slot_count c.args.job) 0 0 (Holds c.loop-i.used c.loop-i.moves)) (sym im) (going_done step (slot_count c.args.job) c.args.file.now (A c.loop-i.i c.loop-i.image) T₀ T c.args.rows 0 0 c.loop-i.used c.loop-i.moves c.loop-i.i c.requires.3 c.loop-i.invariant.0 c.loop-i-test.false)
+    subst (λ (x : List ℕ). Settles (calls_trace c.args.file.now c.args.builtins.now c.args.job c.args.file.now) x T₀ T (slot_count c.args.job) 0 0 (holding c.loop-i.held.used c.loop-i.held.moves)) (sym im) (going_done step (slot_count c.args.job) c.args.file.now (A c.loop-i.i c.loop-i.image) T₀ T c.args.rows 0 0 c.loop-i.held.used c.loop-i.held.moves c.loop-i.i c.requires.3 c.loop-i.invariant.0 c.loop-i-test.false)

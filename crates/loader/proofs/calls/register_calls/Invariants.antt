@@ -12,9 +12,9 @@ use Rattle.loader.proofs.calls.register_calls.Given as goal
 
 abbrev pub invariant-loop-i : goal.invariant-loop-i
 invariant-loop-i l =
-    (Going (slot_trace l.file l.builtins l.job) (slot_count l.job) l.file (ahead (l.job.start + 8 * l.i) l.image l.file) (slices l.initial.keys l.initial.indices l.initial.kinds l.initial.starts l.initial.lengths) (slices l.keys l.indices l.kinds l.starts l.lengths) 0 0 l.used l.moves l.i)
+    (Going (slot_trace l.file l.builtins l.job) (slot_count l.job) l.file (ahead (l.job.start + 8 * l.i) l.image l.file) (slices l.initial.keys l.initial.indices l.initial.kinds l.initial.starts l.initial.lengths) (slices l.keys l.indices l.kinds l.starts l.lengths) 0 0 l.held.used l.held.moves l.i)
     × (length l.image ≡ length l.file)
-    × CallsHeld l.builtins l.job l.seen (slices l.keys l.indices l.kinds l.starts l.lengths) l.used
+    × CallsHeld l.builtins l.job l.seen (slices l.keys l.indices l.kinds l.starts l.lengths) l.held.used
     × (length l.seen ≡ 1024)
 
 abbrev pub decreases-loop-i : goal.decreases-loop-i

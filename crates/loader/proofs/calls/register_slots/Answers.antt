@@ -10,8 +10,11 @@ use native.Mathlib.Omega.{arith}
 use lib.ListN.{length}
 use Rattle.program.specs.Table.{Slices, slices}
 use Rattle.program.proofs.Tables.{SameLens}
-use Rattle.loader.specs.declared.deeds.Outcome.{Outcome}
-use Rattle.loader.specs.declared.deeds.Outcome.TheVariants.{Holds, Refused}
+use Rattle.loader.specs.declared.deeds.Held.{Held}
+use Rattle.loader.specs.declared.error.ElfError.{ElfError}
+use Rattle.std.specs.Prelude.{Result, Err, Ok}
+use Rattle.std.proofs.lemmas.Result.{err_from_is_err_and}
+use Rattle.loader.specs.Deeds.{holding}
 use Rattle.loader.specs.Trace.{Trace}
 use Rattle.loader.specs.Calls.{slot_count, slot_trace}
 use Rattle.loader.specs.CallLoop.{ahead, StillHeld}
@@ -37,8 +40,8 @@ loop-i-init c =
     let T₀ : Slices = slices c.args.keys.now c.args.indices.now c.args.kinds.now c.args.starts.now c.args.lengths.now in
     let step : ℕ → List ℕ → Trace = slot_trace c.args.file.now c.args.builtins.now c.args.job in
     let im = A c.args.image.now in (
-      calls_ahead c.args.file.now c.args.builtins.now c.args.job c.requires.0 c.args.from c.args.to c.requires.4 im im T₀ T₀ c.args.rows c.args.held c.args.moved c.args.held c.args.moved c.args.from c.next_call-i.result c.requires.5
-          (in_start step (slot_count c.args.job) c.args.from c.args.to c.requires.4 im T₀ c.args.rows c.args.held c.args.moved c.requires.3 c.requires.5)
+      calls_ahead c.args.file.now c.args.builtins.now c.args.job c.requires.0 c.args.from c.args.to c.requires.4 im im T₀ T₀ c.args.rows c.args.used c.args.moves c.args.used c.args.moves c.args.from c.next_call-i.result c.requires.5
+          (in_start step (slot_count c.args.job) c.args.from c.args.to c.requires.4 im T₀ c.args.rows c.args.used c.args.moves c.requires.3 c.requires.5)
           c.next_call-i.ensures,
       refl,
       c.requires.6,
@@ -56,12 +59,12 @@ call_step-requires c =
       c.requires.1,
       c.loop-i.invariant.1 ∙ c.requires.2,
       omega (arith, c.loop-i-test.true, c.requires.4),
-      in_begins step (slot_count c.args.job) c.args.from c.args.to c.requires.4 (A c.args.image.now) (A c.loop-i.image) T₀ T c.args.rows c.args.held c.args.moved c.loop-i.used c.loop-i.moves c.loop-i.i c.requires.5 c.loop-i.invariant.0 c.loop-i-test.true,
+      in_begins step (slot_count c.args.job) c.args.from c.args.to c.requires.4 (A c.args.image.now) (A c.loop-i.image) T₀ T c.args.rows c.args.used c.args.moves c.loop-i.held.used c.loop-i.held.moves c.loop-i.i c.requires.5 c.loop-i.invariant.0 c.loop-i-test.true,
       c.loop-i.invariant.2,
     )
 
-pub returns-in-Refused : goal.returns-in-Refused
-returns-in-Refused c =
+pub returns-in_err-held : goal.returns-in_err-held
+returns-in_err-held c =
     let step : ℕ → List ℕ → Trace = slot_trace c.args.file.now c.args.builtins.now c.args.job in
     let q : ℕ = c.args.job.start + 8 * c.args.to in
     let A : List ℕ → List ℕ = λ im. ahead (q) im c.args.file.now in
@@ -69,24 +72,25 @@ returns-in-Refused c =
     let T : Slices = slices c.loop-i.keys c.loop-i.indices c.loop-i.kinds c.loop-i.starts c.loop-i.lengths in
     let im' : List ℕ = c.call_step.new.image in
     let U : Slices = slices c.call_step.new.keys c.call_step.new.indices c.call_step.new.kinds c.call_step.new.starts c.call_step.new.lengths in
-    let Did : Outcome → Type 0 = λ a. Settles (step c.loop-i.i (A c.loop-i.image)) (A (im')) (T) (U) 1 c.loop-i.used c.loop-i.moves a in
+    let Did : Result Held ElfError → Type 0 = λ a. Settles (step c.loop-i.i (A c.loop-i.image)) (A (im')) (T) (U) 1 c.loop-i.held.used c.loop-i.held.moves a in
     let inside : q ≤ length c.args.file.now = text_in c.args.job.start c.args.job.length c.args.to _ c.requires.0.text c.requires.4 in
-    let did : (b : Outcome) → c.call_step.result ≡ b → Did b = λ b e. subst (Did) e (slot_ahead c.args.file.now (q) c.args.builtins.now c.args.job c.loop-i.i c.loop-i.image (im') (T) (U) c.loop-i.used c.loop-i.moves _ (omega (arith, c.loop-i-test.true)) (omega (arith, inside, c.loop-i.invariant.1, c.requires.2)) c.call_step.ensures.0) in
-    (in_stop step (slot_count c.args.job) c.args.from c.args.to c.requires.4 (A c.args.image.now) (A c.loop-i.image) T₀ T c.args.rows c.args.held c.args.moved c.loop-i.used c.loop-i.moves c.loop-i.i c.requires.5 c.loop-i.invariant.0 c.loop-i-test.true (A im') U _ _ (did (Refused c.in-Refused.r) c.in-Refused.is), tt)
+    let did : (b : Result Held ElfError) → c.call_step.result ≡ b → Did b = λ b e. subst (Did) e (slot_ahead c.args.file.now (q) c.args.builtins.now c.args.job c.loop-i.i c.loop-i.image (im') (T) (U) c.loop-i.held.used c.loop-i.held.moves _ (omega (arith, c.loop-i-test.true)) (omega (arith, inside, c.loop-i.invariant.1, c.requires.2)) c.call_step.ensures.0) in
+    let p = err_from_is_err_and c.from_residual.result c.from_residual.ensures.1 in
+    rw (p.1, p.2) ((in_stop step (slot_count c.args.job) c.args.from c.args.to c.requires.4 (A c.args.image.now) (A c.loop-i.image) T₀ T c.args.rows c.args.used c.args.moves c.loop-i.held.used c.loop-i.held.moves c.loop-i.i c.requires.5 c.loop-i.invariant.0 c.loop-i-test.true (A im') U _ _ (did _ c.in_err-held.was), tt))
 
 pub overflow_add-i : goal.overflow_add-i
 overflow_add-i c =
     small c.loop-i.i c.args.to c.args.job.length _ c.args.job.start c.loop-i-test.true c.requires.4 c.requires.0.text c.requires.0.short
 
-pub next_call-i-requires-in-Holds : goal.next_call-i-requires-in-Holds
-next_call-i-requires-in-Holds c =
+pub next_call-i-requires-in-loop-i : goal.next_call-i-requires-in-loop-i
+next_call-i-requires-in-loop-i c =
     let q : ℕ = c.args.job.start + 8 * c.args.to in
     let inside : q ≤ length c.args.file.now = text_in c.args.job.start c.args.job.length c.args.to _ c.requires.0.text c.requires.4 in
     (omega (arith, c.loop-i-test.true), inside, c.requires.0.short)
 
 pub loop-i-smaller : goal.loop-i-smaller
 loop-i-smaller c =
-    omega (arith, c.loop-i-test.true, (next_bounds c.args.file.now c.args.job.start (c.args.to - (c.loop-i.i + 1)) (c.loop-i.i + 1)).0, c.next_call-i-in-Holds.ensures)
+    omega (arith, c.loop-i-test.true, (next_bounds c.args.file.now c.args.job.start (c.args.to - (c.loop-i.i + 1)) (c.loop-i.i + 1)).0, c.next_call-i-in-loop-i.ensures)
 
 pub loop-i-preserved : goal.loop-i-preserved
 loop-i-preserved c =
@@ -98,16 +102,16 @@ loop-i-preserved c =
     let T : Slices = slices c.loop-i.keys c.loop-i.indices c.loop-i.kinds c.loop-i.starts c.loop-i.lengths in
     let U : Slices = slices c.call_step.new.keys c.call_step.new.indices c.call_step.new.kinds c.call_step.new.starts c.call_step.new.lengths in
     let lens : SameLens (T) (U) = record { keys_as = c.call_step.auto.keys; indices_as = c.call_step.auto.indices; kinds_as = c.call_step.auto.kinds; starts_as = c.call_step.auto.starts; lengths_as = c.call_step.auto.lengths } in
-    let Did : Outcome → Type 0 = λ a. Settles (step c.loop-i.i (A c.loop-i.image)) (A (im')) (T) (U) 1 c.loop-i.used c.loop-i.moves a in
+    let Did : Result Held ElfError → Type 0 = λ a. Settles (step c.loop-i.i (A c.loop-i.image)) (A (im')) (T) (U) 1 c.loop-i.held.used c.loop-i.held.moves a in
     let inside : q ≤ length c.args.file.now = text_in c.args.job.start c.args.job.length c.args.to _ c.requires.0.text c.requires.4 in
-    let did : (b : Outcome) → c.call_step.result ≡ b → Did b = λ b e. subst (Did) e (slot_ahead c.args.file.now (q) c.args.builtins.now c.args.job c.loop-i.i c.loop-i.image (im') (T) (U) c.loop-i.used c.loop-i.moves _ (omega (arith, c.loop-i-test.true)) (omega (arith, inside, c.loop-i.invariant.1, c.requires.2)) c.call_step.ensures.0) in
-    let still : (b : Outcome) → c.call_step.result ≡ b → StillHeld c.args.builtins.now c.args.job c.call_step.new.seen (U) b = λ b e. subst (StillHeld c.args.builtins.now c.args.job c.call_step.new.seen (U)) e c.call_step.ensures.1 in
+    let did : (b : Result Held ElfError) → c.call_step.result ≡ b → Did b = λ b e. subst (Did) e (slot_ahead c.args.file.now (q) c.args.builtins.now c.args.job c.loop-i.i c.loop-i.image (im') (T) (U) c.loop-i.held.used c.loop-i.held.moves _ (omega (arith, c.loop-i-test.true)) (omega (arith, inside, c.loop-i.invariant.1, c.requires.2)) c.call_step.ensures.0) in
+    let still : (b : Result Held ElfError) → c.call_step.result ≡ b → StillHeld c.args.builtins.now c.args.job c.call_step.new.seen (U) b = λ b e. subst (StillHeld c.args.builtins.now c.args.job c.call_step.new.seen (U)) e c.call_step.ensures.1 in
     let len : length im' ≡ length c.args.image.now = c.call_step.auto.image ∙ c.loop-i.invariant.1 in
     let same : length (A im') ≡ length (A c.loop-i.image) = ahead_length im' c.args.file.now q (len ∙ c.requires.2) ∙ c.call_step.auto.image ∙ sym (ahead_length c.loop-i.image c.args.file.now q (c.loop-i.invariant.1 ∙ c.requires.2)) in
-    let on = in_on step (slot_count c.args.job) c.args.from c.args.to c.requires.4 (A c.args.image.now) (A c.loop-i.image) T₀ T c.args.rows c.args.held c.args.moved c.loop-i.used c.loop-i.moves c.loop-i.i c.requires.5 c.loop-i.invariant.0 c.loop-i-test.true (A im') U _ _ lens same (did (Holds c.in-Holds.u c.in-Holds.m) c.in-Holds.is) in (
-      calls_ahead c.args.file.now c.args.builtins.now c.args.job c.requires.0 c.args.from c.args.to c.requires.4 (A c.args.image.now) (A im') T₀ U c.args.rows c.args.held c.args.moved _ _ (c.loop-i.i + 1) c.next_call-i-in-Holds.result c.requires.5 on c.next_call-i-in-Holds.ensures,
+    let on = in_on step (slot_count c.args.job) c.args.from c.args.to c.requires.4 (A c.args.image.now) (A c.loop-i.image) T₀ T c.args.rows c.args.used c.args.moves c.loop-i.held.used c.loop-i.held.moves c.loop-i.i c.requires.5 c.loop-i.invariant.0 c.loop-i-test.true (A im') U _ _ lens same (did (Ok c.in_ok-held.held) c.in_ok-held.was) in (
+      calls_ahead c.args.file.now c.args.builtins.now c.args.job c.requires.0 c.args.from c.args.to c.requires.4 (A c.args.image.now) (A im') T₀ U c.args.rows c.args.used c.args.moves _ _ (c.loop-i.i + 1) c.next_call-i-in-loop-i.result c.requires.5 on c.next_call-i-in-loop-i.ensures,
       len,
-      still (Holds c.in-Holds.u c.in-Holds.m) c.in-Holds.is,
+      still (Ok c.in_ok-held.held) c.in_ok-held.was,
       c.call_step.auto.seen ∙ c.loop-i.invariant.3,
     )
 
@@ -118,4 +122,4 @@ returns c =
     let A : List ℕ → List ℕ = λ im. ahead (q) im c.args.file.now in
     let T₀ : Slices = slices c.args.keys.now c.args.indices.now c.args.kinds.now c.args.starts.now c.args.lengths.now in
     let T : Slices = slices c.loop-i.keys c.loop-i.indices c.loop-i.kinds c.loop-i.starts c.loop-i.lengths in
-    (in_done step (slot_count c.args.job) c.args.from c.args.to c.requires.4 (A c.args.image.now) (A c.loop-i.image) T₀ T c.args.rows c.args.held c.args.moved c.loop-i.used c.loop-i.moves c.loop-i.i c.requires.5 c.loop-i.invariant.0 c.loop-i-test.false, c.loop-i.invariant.2)
+    (in_done step (slot_count c.args.job) c.args.from c.args.to c.requires.4 (A c.args.image.now) (A c.loop-i.image) T₀ T c.args.rows c.args.used c.args.moves c.loop-i.held.used c.loop-i.held.moves c.loop-i.i c.requires.5 c.loop-i.invariant.0 c.loop-i-test.false, c.loop-i.invariant.2)

@@ -19,12 +19,6 @@ store_u32-requires c = rw c.in-Key.is at c.requires
 pub store_u32-requires-in-Register : goal.store_u32-requires-in-Register
 store_u32-requires-in-Register c = rw c.in-Register.is at c.requires
 
-pub returns-in-Skip : goal.returns-in-Skip
-returns-in-Skip c = search rules
-
-pub returns-in-Refuse : goal.returns-in-Refuse
-returns-in-Refuse c = search rules
-
 pub returns-in-Halves : goal.returns-in-Halves
 returns-in-Halves c = rw c.in-Halves.is c.store_halves.ensures
 
@@ -36,9 +30,3 @@ returns-in-Key c = rw c.in-Key.is c.store_u32.ensures
 
 pub returns-in-Register : goal.returns-in-Register
 returns-in-Register c = rw c.in-Register.is c.store_u32-in-Register.ensures
-
-pub returns-in-RegisterOnly : goal.returns-in-RegisterOnly
-returns-in-RegisterOnly c = search rules
-
-pub returns-in-RegisterOutside : goal.returns-in-RegisterOutside
-returns-in-RegisterOutside c = search rules

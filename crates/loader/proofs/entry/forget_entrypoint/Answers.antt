@@ -4,7 +4,7 @@ use Rattle.program.specs.Table.{Slices, slices, columns_of}
 use mathlib.Core.Path.{sym, subst}
 use mathlib.Core.Bool.{Bool}
 use borrow.Author.Rules.{rules}
-use Rattle.loader.specs.declared.deeds.Outcome.TheVariants.{Holds}
+use Rattle.loader.specs.Deeds.{holding}
 use Rattle.loader.specs.InnerContracts.{Forgets}
 use Rattle.loader.proofs.Forgetting.{forgets_nothing, gone_sums, forgets}
 use Rattle.loader.proofs.entry.forget_entrypoint.Goals as goal
@@ -12,7 +12,7 @@ use Rattle.loader.proofs.entry.forget_entrypoint.Goals as goal
 pub returns-then-version2 : goal.returns-then-version2
 returns-then-version2 c =
     let T : Slices = slices c.args.keys.now c.args.indices.now c.args.kinds.now c.args.starts.now c.args.lengths.now in
-    subst (λ (b : Bool). Forgets b T T c.args.used c.args.moves (Holds c.args.used c.args.moves)) (sym c.if-version2.true) (forgets_nothing T c.args.rows c.args.used c.args.moves c.requires)
+    subst (λ (b : Bool). Forgets b T T c.args.used c.args.moves (holding c.args.used c.args.moves)) (sym c.if-version2.true) (forgets_nothing T c.args.rows c.args.used c.args.moves c.requires)
 
 pub forgotten-requires : goal.forgotten-requires
 forgotten-requires c =

@@ -10,7 +10,7 @@ use Rattle.loader.proofs.relocating.apply_relocations.Given as goal
 
 abbrev pub invariant-loop-i : goal.invariant-loop-i
 invariant-loop-i l =
-    (Going (relocation_trace l.file l.builtins l.job) (relocation_count l.job) l.initial.image l.image (slices l.initial.keys l.initial.indices l.initial.kinds l.initial.starts l.initial.lengths) (slices l.keys l.indices l.kinds l.starts l.lengths) l.held l.moved l.used l.moves l.i) × (l.header ≡ used_before l.file l.job.layout l.job.version2 l.i)
+    (Going (relocation_trace l.file l.builtins l.job) (relocation_count l.job) l.initial.image l.image (slices l.initial.keys l.initial.indices l.initial.kinds l.initial.starts l.initial.lengths) (slices l.keys l.indices l.kinds l.starts l.lengths) l.used l.moves l.held.used l.held.moves l.i) × (l.header ≡ used_before l.file l.job.layout l.job.version2 l.i)
 
 abbrev pub decreases-loop-i : goal.decreases-loop-i
 decreases-loop-i l = l.count - l.i

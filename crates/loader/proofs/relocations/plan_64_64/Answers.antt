@@ -11,4 +11,4 @@ returns-then-past c = rw (← c.immediate_at.ensures, ← c.pick-at.ensures, ←
 pub returns : goal.returns
 unfolding plan6464
 returns c =
-    rw (← c.immediate_at.ensures, ← c.pick-at.ensures, ← c.past.ensures, ← c.read.ensures, ← c.addend_or.ensures) (no_go _ _ _ _ c.if-past.false c.symbol_deed.ensures)
+    rw (← c.immediate_at.ensures, ← c.pick-at.ensures, ← c.past.ensures, ← c.read.ensures, ← c.unwrap_or.ensures) (no_go _ _ _ _ c.if-past.false c.symbol_deed.ensures)

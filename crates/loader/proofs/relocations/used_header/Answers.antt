@@ -15,9 +15,9 @@ returns-then-does_contain c = rw (← c.does_contain.ensures) (search choices de
 
 pub overflow_cast-count : goal.overflow_cast-count
 unfolding used_header
-overflow_cast-count c = omega (arith, c.lesser-count.ensures)
+overflow_cast-count c = omega (arith, c.min-count.ensures)
 
 pub returns : goal.returns
 unfolding used_header
 returns c =
-    rw (← c.does_contain.ensures, ← c.lesser-count.ensures) (no_go _ _ _ _ c.if-not-version2.false-raw (no_go _ _ _ _ c.if-does_contain.false c.first_header.ensures))
+    rw (← c.does_contain.ensures, ← c.min-count.ensures) (no_go _ _ _ _ c.if-not-version2.false-raw (no_go _ _ _ _ c.if-does_contain.false c.first_header.ensures))
