@@ -77,28 +77,8 @@ impl From<ElfParserError> for ElfError {
 
     fn from(e: ElfParserError) -> ElfError {
         match e {
-            ElfParserError::InvalidFileHeader => ElfError::FailedToParse(e),
-            ElfParserError::InvalidProgramHeader => ElfError::FailedToParse(e),
-            ElfParserError::InvalidSectionHeader => ElfError::FailedToParse(e),
-            ElfParserError::StringTooLong {
-                start: _,
-                length: _,
-            } => ElfError::FailedToParse(e),
             ElfParserError::OutOfBounds => ElfError::ValueOutOfBounds,
-            ElfParserError::InvalidSize => ElfError::FailedToParse(e),
-            ElfParserError::Overlap => ElfError::FailedToParse(e),
-            ElfParserError::SectionNotInOrder => ElfError::FailedToParse(e),
-            ElfParserError::NoSectionNameStringTable => ElfError::FailedToParse(e),
-            ElfParserError::InvalidDynamicSectionTable => ElfError::FailedToParse(e),
-            ElfParserError::InvalidAlignment => ElfError::FailedToParse(e),
-            ElfParserError::NoStringTable => ElfError::FailedToParse(e),
-            ElfParserError::NoDynamicStringTable => ElfError::FailedToParse(e),
-            ElfParserError::NoSuchIndex => ElfError::FailedToParse(e),
-            ElfParserError::NotASection => ElfError::FailedToParse(e),
-            ElfParserError::StringUnterminated {
-                start: _,
-                length: _,
-            } => ElfError::FailedToParse(e),
+            _ => ElfError::FailedToParse(e),
         }
     }
 }
