@@ -72,32 +72,14 @@ fn with_name(number: u32, value: u64, start: usize, length: usize) -> Report
 }
 
 // A parse's refusal in a load.
-pub fn from_parser(e: ElfParserError) -> ElfError
-    ensures { result ≡ from_parser e }
-{
-    match e {
-        ElfParserError::InvalidFileHeader => ElfError::FailedToParse(e),
-        ElfParserError::InvalidProgramHeader => ElfError::FailedToParse(e),
-        ElfParserError::InvalidSectionHeader => ElfError::FailedToParse(e),
-        ElfParserError::StringTooLong {
-            start: _,
-            length: _,
-        } => ElfError::FailedToParse(e),
-        ElfParserError::OutOfBounds => ElfError::ValueOutOfBounds,
-        ElfParserError::InvalidSize => ElfError::FailedToParse(e),
-        ElfParserError::Overlap => ElfError::FailedToParse(e),
-        ElfParserError::SectionNotInOrder => ElfError::FailedToParse(e),
-        ElfParserError::NoSectionNameStringTable => ElfError::FailedToParse(e),
-        ElfParserError::InvalidDynamicSectionTable => ElfError::FailedToParse(e),
-        ElfParserError::InvalidAlignment => ElfError::FailedToParse(e),
-        ElfParserError::NoStringTable => ElfError::FailedToParse(e),
-        ElfParserError::NoDynamicStringTable => ElfError::FailedToParse(e),
-        ElfParserError::NoSuchIndex => ElfError::FailedToParse(e),
-        ElfParserError::NotASection => ElfError::FailedToParse(e),
-        ElfParserError::StringUnterminated {
-            start: _,
-            length: _,
-        } => ElfError::FailedToParse(e),
+impl From<ElfParserError> for ElfError {
+    ghost from_gives = { λ e r. r ≡ from_parser e };
+
+    fn from(e: ElfParserError) -> ElfError {
+        match e {
+            ElfParserError::OutOfBounds => ElfError::ValueOutOfBounds,
+            _ => ElfError::FailedToParse(e),
+        }
     }
 }
 

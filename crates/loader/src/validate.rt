@@ -4,7 +4,7 @@ ghost use Rattle.std.specs.Prelude.{◌≡◌};
 ghost use Rattle.loader.specs.Validate.{size_check, ascends, header_check, writable_error, sections_check, text_check, job_of, file_check, validated, prepared};
 
 use crate::addresses::{machine_addr, pick};
-use crate::error::{ElfError, from_parser};
+use crate::error::ElfError;
 use crate::overview::look_over;
 use crate::read_only::{Placing, place_gathered};
 use crate::sections::{Survey, section_at};
@@ -253,7 +253,7 @@ pub(crate) fn prepare(
         return Err(ElfError::BuiltinsNotAscending);
     }
     match parse(file) {
-        Parsed::Refused(e) => Err(from_parser(e)),
+        Parsed::Refused(e) => Err(ElfError::from(e)),
         Parsed::File(layout) => validate(file, c, layout),
     }
 }

@@ -3,7 +3,7 @@ ghost use Rattle.std.specs.Prelude.{◌≡◌};
 ghost use Rattle.writers.specs.Asked.{text_in, text_of};
 
 use elf_parser::{ElfParserError, Layout, Parsed, parse, past};
-use loader::{ElfError, from_parser};
+use loader::ElfError;
 
 // The file's layout, the version, and the text's place in the file.
 #[derive(Clone, Copy)]
@@ -49,7 +49,7 @@ pub(crate) fn text_of(file: &[u8], version2: bool, start: usize, length: usize) 
         return TextOf::Refused(ElfError::ValueOutOfBounds);
     }
     match parse(file) {
-        Parsed::Refused(r) => TextOf::Refused(from_parser(r)),
+        Parsed::Refused(r) => TextOf::Refused(ElfError::from(r)),
         Parsed::File(layout) => text_in(layout, version2, start, length),
     }
 }
