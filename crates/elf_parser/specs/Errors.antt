@@ -37,7 +37,7 @@ abbrev pub Check : Type 0
 Check = Result (Unit {0}) ElfParserError
 
 -- one step, and what follows where it passes: the first refusal counts
-abbrev pub and_then : {A B : Type 0} → Result A ElfParserError → (A → Result B ElfParserError) → Result B ElfParserError
+abbrev pub and_then : {A B E : Type 0} → Result A E → (A → Result B E) → Result B E
 and_then (Ok x) f = f x
 and_then (Err r) f = Err r
 
@@ -53,7 +53,7 @@ pub then_go : (a b x : Check) → a ≡ Ok tt → x ≡ b → x ≡ (a then b)
 then_go a b x e p = rw e p
 
 -- a refusal is no answer
-pub apart : {A : Type 0} (r : ElfParserError) (x : A) → Err r ≡ Ok x → ⊥
+pub apart : {A E : Type 0} (r : E) (x : A) → ◌≡◌ {A = Result A E} (Err r) (Ok x) → ⊥
 apart r x e = let z : ◌≡◌ {A = ℕ} 0 1 = cc in absurd_zero z
   where
     absurd_zero : ◌≡◌ {A = ℕ} 0 1 → ⊥
@@ -71,11 +71,11 @@ pub ok_is : {A E : Type 0} (x y : A) → ◌≡◌ {A = Result A E} (Ok x) (Ok y
 ok_is x y e = cc
 
 -- what an answer says of the steps that led to it
-pub record Went {A B : Type 0} (a : Result A ElfParserError) (f : A → Result B ElfParserError) (y : B) : Type 0 where
+pub record Went {A B E : Type 0} (a : Result A E) (f : A → Result B E) (y : B) : Type 0 where
   pub value : A
   pub first : a ≡ Ok value
   pub second : f value ≡ Ok y
 
-pub went : {A B : Type 0} (a : Result A ElfParserError) (f : A → Result B ElfParserError) (y : B) → and_then a f ≡ Ok y → Went a f y
+pub went : {A B E : Type 0} (a : Result A E) (f : A → Result B E) (y : B) → and_then a f ≡ Ok y → Went a f y
 went (Ok x) f y e = record { value = x; first = refl; second = e }
 went (Err r) f y e = absurd (apart r y e)

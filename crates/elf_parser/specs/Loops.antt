@@ -3,7 +3,6 @@ use Prim.Native.Nat.{ℕ, zero, suc, ◌+◌, ◌-◌, ◌*◌, ◌≤◌, ◌<�
 use native.Mathlib.Omega.{arith}
 use Rattle.std.proofs.Common.{mul-suc, mul-zero, add-one, ap, sym}
 use Rattle.std.specs.Prelude.{◌≡◌, Result, Ok, Err}
-use Rattle.elf_parser.specs.declared.error.ElfParserError.{ElfParserError}
 use Rattle.elf_parser.specs.Errors.{and_then}
 
 -- of count entries from number i on, one and the others
@@ -13,15 +12,15 @@ less_one count i h = omega arith
 pub one_further : (from w i : ℕ) → from + w * (i + 1) ≡ from + w * i + w
 one_further from w i = rw (add-one, mul-suc) (omega arith)
 
-module _ {A : Type 0} (step : ℕ → A → Result A ElfParserError) (w : ℕ) where
+module _ {A E : Type 0} (step : ℕ → A → Result A E) (w : ℕ) where
   -- n entries of w bytes each, from `at` on, with the state x
-  unfoldable pub over : ℕ → ℕ → A → Result A ElfParserError
+  unfoldable pub over : ℕ → ℕ → A → Result A E
   over zero at x = Ok x
   over (suc n) at x = and_then (step at x) (over n (at + w))
 
   module _ (count from : ℕ) where
     -- those from number i on
-    abbrev pub rest : ℕ → A → Result A ElfParserError
+    abbrev pub rest : ℕ → A → Result A E
     rest i x = over (count - i) (from + w * i) x
 
     pub rest_all : (x : A) → over count from x ≡ rest 0 x
@@ -34,7 +33,7 @@ module _ {A : Type 0} (step : ℕ → A → Result A ElfParserError) (w : ℕ) w
     pub rest_next : (i : ℕ) (x y : A) → i < count → step (from + w * i) x ≡ Ok y → rest i x ≡ rest (i + 1) y
     rest_next i x y h e = rw (rest_of i x h, e)
 
-    pub rest_stop : (i : ℕ) (x : A) (r : ElfParserError) → i < count → step (from + w * i) x ≡ Err r → rest i x ≡ Err r
+    pub rest_stop : (i : ℕ) (x : A) (r : E) → i < count → step (from + w * i) x ≡ Err r → rest i x ≡ Err r
     rest_stop i x r h e = rw (rest_of i x h, e)
 
     pub rest_end : (i : ℕ) (x : A) → count ≤ i → rest i x ≡ Ok x

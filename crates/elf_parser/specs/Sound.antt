@@ -28,7 +28,7 @@ use Rattle.elf_parser.specs.Parse.{ranges_of, tables_of, first_check, file_check
 
 -- ---- a loop that went through went through at each entry
 
-module _ {A : Type 0} (step : ℕ → A → Result A ElfParserError) (w : ℕ) where
+module _ {A E : Type 0} (step : ℕ → A → Result A E) (w : ℕ) where
   pub record WentAt (at : ℕ) : Type 0 where
     pub from : A
     pub to : A

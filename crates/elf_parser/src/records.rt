@@ -17,7 +17,8 @@ pub struct Entries {
     pub count: u64,
 }
 
-pub(crate) const NO_ENTRIES: Entries = Entries {
+// None at all.
+pub const NO_ENTRIES: Entries = Entries {
     offset: 0,
     count: 0,
 };

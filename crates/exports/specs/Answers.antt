@@ -4,12 +4,6 @@ use Rattle.std.specs.Prelude.{ℕ, zero, suc, ◌-◌, ◌/◌, ◌%◌, ◌^◌
 use Rattle.elf_parser.specs.declared.error.ElfParserError.{ElfParserError}
 use Rattle.elf_parser.specs.declared.error.Report.{Report}
 use Rattle.elf_parser.specs.declared.layout.Layout.{Layout}
-use Rattle.elf_parser.specs.declared.layout.Parsed.{Parsed}
-use Rattle.elf_parser.specs.declared.layout.Parsed.TheVariants.{File, Refused as NoFile}
-use Rattle.elf_parser.specs.declared.parts.Place.{Place}
-use Rattle.elf_parser.specs.declared.parts.Place.TheVariants.{At as Stands, Refused as NoPlace}
-use Rattle.elf_parser.specs.declared.records.Sliced.{Sliced}
-use Rattle.elf_parser.specs.declared.records.Sliced.TheVariants.{At as Slice, Refused as NoSlice}
 use Rattle.elf_parser.specs.Errors.{report_of}
 use Rattle.elf_parser.specs.Parse.{parsed}
 use Rattle.hash_table.specs.declared.FoundSymbol.{FoundSymbol}
@@ -23,6 +17,8 @@ use Rattle.loader.specs.Errors as load
 use Rattle.loader.specs.Load.{load_of_lent, answer_of}
 use Rattle.loader.specs.Loads.{Loads}
 use Rattle.exports.specs.declared.answers.Answer.{Answer}
+use Rattle.elf_parser.specs.declared.parts.Place.{Place}
+use Rattle.elf_parser.specs.declared.records.Entries.{Entries}
 
 -- the words of an answer, all 24
 abbrev pub words_of : Answer → List ℕ
@@ -80,24 +76,24 @@ laid_out l =
     ∷ l.hash_table
     ∷ [])
 
-abbrev pub parse_answer : Parsed → Answer
-parse_answer (File l) = laid_out l
-parse_answer (NoFile e) = refused e
+abbrev pub parse_answer : Result Layout ElfParserError → Answer
+parse_answer (Ok l) = laid_out l
+parse_answer (Err e) = refused e
 
 -- a place in the file: its start and its length
-abbrev pub place_answer : Place → Answer
-place_answer (Stands start n) = accepted (start ∷ n ∷ [])
-place_answer (NoPlace e) = refused e
+abbrev pub place_answer : Result Place ElfParserError → Answer
+place_answer (Ok p) = accepted (p.start ∷ p.length ∷ [])
+place_answer (Err e) = refused e
 
 -- a table: its offset and its number of entries
-abbrev pub table_answer : Sliced → Answer
-table_answer (Slice t) = accepted (t.offset ∷ t.count ∷ [])
-table_answer (NoSlice e) = refused e
+abbrev pub table_answer : Result Entries ElfParserError → Answer
+table_answer (Ok t) = accepted (t.offset ∷ t.count ∷ [])
+table_answer (Err e) = refused e
 
 -- a question to a file that parses; else the refusal of the parse
-abbrev pub asked : Parsed → (Layout → Answer) → Answer
-asked (File l) question = question l
-asked (NoFile e) question = refused e
+abbrev pub asked : Result Layout ElfParserError → (Layout → Answer) → Answer
+asked (Ok l) question = question l
+asked (Err e) question = refused e
 
 -- WHAT A QUESTION TO A FILE GIVES
 abbrev pub GivesAsked : Shared → (List ℕ → Layout → Answer) → Lent → ℕ → Type 0

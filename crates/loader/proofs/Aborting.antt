@@ -16,11 +16,6 @@ use Rattle.ebpf.specs.Choice.{◌if◌else◌, yes, no_go, not_first, row_rest, 
 use Rattle.elf_parser.specs.declared.types.Elf64Ehdr.{Elf64Ehdr}
 use Rattle.elf_parser.specs.declared.types.Elf64Shdr.{Elf64Shdr}
 use Rattle.elf_parser.specs.declared.layout.Layout.{Layout}
-use Rattle.elf_parser.specs.declared.layout.Parsed.{Parsed}
-use Rattle.elf_parser.specs.declared.layout.Parsed.TheVariants.{File, Refused as NoFile}
-use Rattle.elf_parser.specs.declared.parts.Place.TheVariants.{At as Stands}
-use Rattle.elf_parser.specs.declared.records.Shdr.{Shdr}
-use Rattle.elf_parser.specs.declared.records.Shdr.TheVariants.{Header, Refused as NoShdr}
 use Rattle.elf_parser.specs.Types.{file_header, SHT_NOBITS}
 use Rattle.elf_parser.specs.Parse.{parsed}
 use Rattle.elf_parser.specs.Records.{range_by, section_header_of, file_range_of, range_stands}
@@ -46,6 +41,8 @@ use Rattle.loader.specs.Load.{accepted_as, answer_by, load_of, answer_of}
 use Rattle.loader.proofs.Answered.{by_load}
 use Rattle.loader.proofs.Readied.{Lies, pick_in, in_file, sections_pass, text_passes, readied, placed_as}
 use Rattle.loader.proofs.Gathered.{Spans, spans, copied_offset, Stays, stays, copied_lowest}
+use Rattle.elf_parser.specs.declared.error.ElfParserError.{ElfParserError}
+use Rattle.elf_parser.specs.Parts.{stands}
 
 -- ---- the text's section is one of those surveyed, with that name, and all of them lie in the file
 
@@ -90,10 +87,10 @@ text_read_only name e = rw e refl
 
 -- ---- the text's bytes have a place: no section without a header holds the entry
 
-text_stands : (len e : ℕ) (h : Shdr) → e < (header_or h).sh_addr + (header_or h).sh_size → (header_or h).sh_offset + (header_or h).sh_size ≤ len
-    → range_by len h ≡ Stands (0 if eqb (header_or h).sh_type SHT_NOBITS else (header_or h).sh_offset) (0 if eqb (header_or h).sh_type SHT_NOBITS else (header_or h).sh_size)
-text_stands len e (Header h) below lies = range_stands len h lies
-text_stands len e (NoShdr r) below lies = absurd (omega (arith, below))
+text_stands : (len e : ℕ) (h : Result Elf64Shdr ElfParserError) → e < (header_or h).sh_addr + (header_or h).sh_size → (header_or h).sh_offset + (header_or h).sh_size ≤ len
+    → range_by len h ≡ stands (0 if eqb (header_or h).sh_type SHT_NOBITS else (header_or h).sh_offset) (0 if eqb (header_or h).sh_type SHT_NOBITS else (header_or h).sh_size)
+text_stands len e (Ok h) below lies = range_stands len h lies
+text_stands len e (Err r) below lies = absurd (omega (arith, below))
 
 -- ---- the checks
 
@@ -135,7 +132,7 @@ record Texts (s : List ℕ) (c : Config) (j : Job) : Type 0 where
   index : ℕ
   listed : index < (file_header s).e_shnum
   named : read_only (name_of s j.layout (section_at s j.layout index)) ≡ true
-  stands : file_range_of s j.layout index ≡ Stands j.start j.length
+  stands : file_range_of s j.layout index ≡ stands j.start j.length
   addr_is : j.sh_addr ≡ (section_at s j.layout index).sh_addr
   machine : j.addr ≡ machine_addr j.version2 j.sh_addr
   low : j.version2 ≡ false → j.sh_addr ≤ MM_PROGRAM_START
@@ -191,9 +188,9 @@ validated_text s c l j e = subst (Texts s c) done.1 (record {
     below : h.e_entry < text.sh_addr + text.sh_size
     below = text_passes version2 c.reject_broken_elfs h.e_entry text (then_both (sections_check s l v) (text_check version2 c.reject_broken_elfs h.e_entry text) tt rest).1
 
-parsed_text : (s : List ℕ) (c : Config) (p : Parsed) (j : Job) → parsed_then s c p ≡ Ok j → Texts s c j
-parsed_text s c (NoFile r) j e = absurd (not_ok _ _ e)
-parsed_text s c (File l) j e = validated_text s c l j e
+parsed_text : (s : List ℕ) (c : Config) (p : Result Layout ElfParserError) (j : Job) → parsed_then s c p ≡ Ok j → Texts s c j
+parsed_text s c (Err r) j e = absurd (not_ok _ _ e)
+parsed_text s c (Ok l) j e = validated_text s c l j e
 
 prepared_text : (s builtins : List ℕ) (c : Config) (n m : ℕ) (j : Job) → prepared s builtins c n m ≡ Ok j → Texts s c j
 unfolding prepared

@@ -17,10 +17,6 @@ use Rattle.ebpf.proofs.Table.{key_in_none}
 use Rattle.ebpf.specs.Murmur3.{murmur3}
 use Rattle.elf_parser.specs.declared.types.Elf64Sym.{Elf64Sym}
 use Rattle.elf_parser.specs.declared.layout.Layout.{Layout}
-use Rattle.elf_parser.specs.declared.parts.Place.{Place}
-use Rattle.elf_parser.specs.declared.parts.Place.TheVariants.{At as Stands, Refused as NoPlace}
-use Rattle.elf_parser.specs.declared.records.Sym.{Sym}
-use Rattle.elf_parser.specs.declared.records.Sym.TheVariants.{Symbol, Refused as NoSym}
 use Rattle.elf_parser.specs.Names.{symbol_name, dynamic_symbol_name}
 use Rattle.elf_parser.specs.Records.{sym_of, dynamic_symbol_of}
 use Rattle.program.specs.declared.FunctionName.{FunctionName}
@@ -47,6 +43,8 @@ use Rattle.loader.specs.Demand.{name_key, key_of, early_trace}
 use Rattle.loader.proofs.Targets.{to_slot, outside_is}
 use Rattle.loader.proofs.Plain.{Plain, picks}
 use Rattle.loader.proofs.Reaching.{Steady, steady_then, steady_each}
+use Rattle.elf_parser.specs.declared.error.ElfParserError.{ElfParserError}
+use Rattle.elf_parser.specs.declared.parts.Place.{Place}
 
 -- an index below 2 ^ 32, with its own key, or in version 1 the name's
 abbrev pub Good : Bool → Row → Type 0
@@ -169,9 +167,9 @@ module _ (file builtins : List ℕ) (j : Job) (off : j.check_collision ≡ false
   unfolding address_deed
   address_steady len split at value = refuse_or G _ _ _ (halves_steady len at (sum_up_to at 8) value) (word_steady len at value)
 
-  symbol_steady : (len : ℕ) (split : Bool) (at addend number : ℕ) (y : Sym) → SteadyDeed G (symbol_deed len split at addend number y)
-  symbol_steady len split at addend number (Symbol y) = address_steady len split at _
-  symbol_steady len split at addend number (NoSym e) = refl
+  symbol_steady : (len : ℕ) (split : Bool) (at addend number : ℕ) (y : Result Elf64Sym ElfParserError) → SteadyDeed G (symbol_deed len split at addend number y)
+  symbol_steady len split at addend number (Ok y) = address_steady len split at _
+  symbol_steady len split at addend number (Err e) = refl
 
   steady6464 : (im : List ℕ) (l : Layout) (split : Bool) (r number : ℕ) (addend : Option ℕ) → SteadyDeed G (plan6464 file im l split r number addend)
   unfolding plan6464
@@ -199,13 +197,13 @@ module _ (file builtins : List ℕ) (j : Job) (off : j.check_collision ≡ false
   unfolding call_by_name
   name_steady part len r y start n = refuse_or G _ _ _ (function_steady len _ _ _) (builtin_steady _ len _ r start n _)
 
-  named_steady : (len r : ℕ) (y : Elf64Sym) (p : Place) → SteadyDeed G (named_call file builtins j len r y p)
-  named_steady len r y (Stands start n) = name_steady (take n (drop start file)) len r y start n
-  named_steady len r y (NoPlace e) = refl
+  named_steady : (len r : ℕ) (y : Elf64Sym) (p : Result Place ElfParserError) → SteadyDeed G (named_call file builtins j len r y p)
+  named_steady len r y (Ok p) = name_steady (take p.length (drop p.start file)) len r y p.start p.length
+  named_steady len r y (Err e) = refl
 
-  called_steady : (len r number : ℕ) (y : Sym) → SteadyDeed G (symbol_call file builtins j len r number y)
-  called_steady len r number (Symbol y) = named_steady len r y (dynamic_symbol_name file j.layout y.st_name)
-  called_steady len r number (NoSym e) = refl
+  called_steady : (len r number : ℕ) (y : Result Elf64Sym ElfParserError) → SteadyDeed G (symbol_call file builtins j len r number y)
+  called_steady len r number (Ok y) = named_steady len r y (dynamic_symbol_name file j.layout y.st_name)
+  called_steady len r number (Err e) = refl
 
   steady6432 : (len r number : ℕ) → SteadyDeed G (plan6432 file builtins j len r number)
   unfolding plan6432
@@ -230,18 +228,18 @@ module _ (file builtins : List ℕ) (j : Job) (off : j.check_collision ≡ false
   relocations_steady im = steady_each G (relocation_trace file builtins j) relocation_steady (relocation_count j) 0 im
 
   -- labels
-  named_label_lem : (index st-name : ℕ) → index < 2 ^ 32 → (p : Place) → SteadyDeed G (named_label file builtins j index st-name p)
-  named_label_lem index st-name l (Stands start n) = by_row label_row (symbol_function (take n (drop start file)) start n) index l (λ row g. g)
-  named_label_lem index st-name l (NoPlace e) = refl
+  named_label_lem : (index st-name : ℕ) → index < 2 ^ 32 → (p : Result Place ElfParserError) → SteadyDeed G (named_label file builtins j index st-name p)
+  named_label_lem index st-name l (Ok p) = by_row label_row (symbol_function (take p.length (drop p.start file)) p.start p.length) index l (λ row g. g)
+  named_label_lem index st-name l (Err e) = refl
 
   label_of_lem : (y : Elf64Sym) → SteadyDeed G (label_of file builtins j y)
   unfolding label_of
   label_of_lem y = refuse_or G _ _ _ tt (picks (SteadyDeed G) _ _ _ (λ _. refl) (λ e.
       named_label_lem (index_of j y.st_value) y.st_name (index_in j y.st_value within.size (not-false (in_text j y.st_value) e)) (symbol_name file j.layout y.st_name)))
 
-  label_by_lem : (y : Sym) → SteadyDeed G (label_by file builtins j y)
-  label_by_lem (Symbol y) = label_of_lem y
-  label_by_lem (NoSym e) = tt
+  label_by_lem : (y : Result Elf64Sym ElfParserError) → SteadyDeed G (label_by file builtins j y)
+  label_by_lem (Ok y) = label_of_lem y
+  label_by_lem (Err e) = tt
 
   label_steady : (i : ℕ) (im : List ℕ) → Steady G (label_trace file builtins j i im)
   unfolding label_trace label_deed

@@ -10,12 +10,14 @@ use lib.ListN.{length, take, drop, replicate, length-append, length-replicate, r
 use lib.Seq.{paste, take-append-le, drop-append-le}
 use Rattle.ebpf.specs.Choice.{◌if◌else◌}
 use Rattle.elf_parser.specs.declared.layout.Layout.{Layout}
-use Rattle.elf_parser.specs.declared.parts.Place.{Place}
-use Rattle.elf_parser.specs.declared.parts.Place.TheVariants.{At, Refused as NoPlace}
 use Rattle.elf_parser.specs.Records.{file_range_of}
 use Rattle.loader.specs.Sections.{section_at, name_of}
 use Rattle.loader.specs.ReadOnly.{read_only, placing, copy_step, copied_from}
 use Rattle.loader.specs.Placed.{step_length, owned_fits, owned_room, copy_is_paste}
+use Rattle.std.specs.Prelude.{Result, Err}
+use Rattle.elf_parser.specs.declared.error.ElfParserError.{ElfParserError}
+use Rattle.elf_parser.specs.declared.parts.Place.{Place}
+use Rattle.elf_parser.specs.Parts.{stands}
 
 paste_front : (ro rest s : List ℕ) (at k : ℕ) → at + k ≤ length ro → paste (ro ++ rest) at s k ≡ paste ro at s k ++ rest
 paste_front ro rest s at k h =
@@ -30,10 +32,10 @@ module _ (image s : List ℕ) (l : Layout) (count : ℕ) (version2 reject-broken
   unfolding copy_step ◌if◌else◌
   front_step i below ro rest len = go (read_only (name_of s l (section_at s l i))) refl (file_range_of s l i) refl
     where
-      go : (b : Bool) → read_only (name_of s l (section_at s l i)) ≡ b → (p : Place) → file_range_of s l i ≡ p → copy_step image s l lowest i (ro ++ rest) ≡ copy_step image s l lowest i ro ++ rest
+      go : (b : Bool) → read_only (name_of s l (section_at s l i)) ≡ b → (p : Result Place ElfParserError) → file_range_of s l i ≡ p → copy_step image s l lowest i (ro ++ rest) ≡ copy_step image s l lowest i ro ++ rest
       go false e p q = rw e refl
-      go true e (NoPlace r) q = rw (e, q) refl
-      go true e (At start k) q =
+      go true e (Err r) q = rw (e, q) refl
+      go true e (stands start k) q =
           let room = owned_room s l count version2 reject-broken optimize offset lowest n short owned i below e start k q in
           let fits : n ≤ length (ro ++ rest) = rw (length-append ro rest) (omega (arith, len)) in
           let inside : ((section_at s l i).sh_addr - lowest) + k ≤ length ro = omega (arith, room.room, len) in

@@ -14,10 +14,6 @@ use borrow.Author.Tests.{ltb-false, eqb-true, le-leb, not-false, not-true}
 use Rattle.std.specs.Prelude.{Result, Ok, Err}
 use Rattle.ebpf.specs.Choice.{◌if◌else◌, not_first, row_rest, and_left, and_right, or_false, yes, and_false, row_cases}
 use Rattle.elf_parser.specs.declared.layout.Layout.{Layout}
-use Rattle.elf_parser.specs.declared.parts.Place.{Place}
-use Rattle.elf_parser.specs.declared.parts.Place.TheVariants.{At, Refused as NoPlace}
-use Rattle.elf_parser.specs.declared.records.Shdr.{Shdr}
-use Rattle.elf_parser.specs.declared.records.Shdr.TheVariants.{Header, Refused as NoShdr}
 use Rattle.elf_parser.specs.declared.types.Elf64Shdr.{Elf64Shdr}
 use Rattle.elf_parser.specs.Loops.{Turn, goes, ends, ◌into◌, over, not_ends}
 use Rattle.elf_parser.specs.Parts.{no_place}
@@ -32,6 +28,9 @@ use Rattle.loader.specs.Sections.{header_or, section_at, name_of}
 use Rattle.loader.specs.ReadOnly.{read_only, gives, invalid_by, end_of, grown, taken, taken_at, gather_step, nothing, gather_turn, gather_by, gathered, from_start, can_borrow, borrowed, owned, placed, placing_by, placing}
 use Rattle.loader.specs.Placed.{Inside, not_borrowed, end_ahead}
 use Rattle.loader.proofs.Readied.{Lies}
+use Rattle.elf_parser.specs.declared.error.ElfParserError.{ElfParserError}
+use Rattle.elf_parser.specs.declared.parts.Place.{Place}
+use Rattle.elf_parser.specs.Parts.{stands}
 
 -- ---- rows and tests
 
@@ -122,9 +121,9 @@ grown_keeps false i addr offset n len x lies ahead s = grown_plain i addr offset
 -- ---- where a section stands that was taken
 
 -- its bytes end in the file where its whole range does
-by_lies : (len : ℕ) (h : Shdr) (start k : ℕ) → (header_or h).sh_offset + (header_or h).sh_size ≤ len → range_by len h ≡ At start k → (header_or h).sh_offset + k ≤ len
-by_lies len (Header h) start k lies e = range_lies len h start k lies e
-by_lies len (NoShdr r) start k lies e = absurd (no_place _ _ _ e)
+by_lies : (len : ℕ) (h : Result Elf64Shdr ElfParserError) (start k : ℕ) → (header_or h).sh_offset + (header_or h).sh_size ≤ len → range_by len h ≡ stands start k → (header_or h).sh_offset + k ≤ len
+by_lies len (Ok h) start k lies e = range_lies len h start k lies e
+by_lies len (Err r) start k lies e = absurd (no_place _ _ _ e)
 
 module _ (version2 : Bool) (i : ℕ) (h : Elf64Shdr) (n : ℕ) (x : Extent) where
   -- the section taken has its bytes between the lowest and the highest address
@@ -155,15 +154,15 @@ pub record Spans (s : List ℕ) (l : Layout) (version2 : Bool) (t k i : ℕ) (x 
   pub shifts : Shifts version2 (length s) x
   pub text : t < i → Inside (section_at s l t) k x
 
-module _ (s : List ℕ) (l : Layout) (version2 reject-broken : Bool) (count t start k : ℕ) (lie : (i : ℕ) → i < count → Lies s l i) (named : read_only (name_of s l (section_at s l t)) ≡ true) (stands : file_range_of s l t ≡ At start k) where
+module _ (s : List ℕ) (l : Layout) (version2 reject-broken : Bool) (count t start k : ℕ) (lie : (i : ℕ) → i < count → Lies s l i) (named : read_only (name_of s l (section_at s l t)) ≡ true) (stands : file_range_of s l t ≡ stands start k) where
   place_spans : (i : ℕ) (x z : Extent) → i < count
-      → (p : Place)
+      → (p : Result Place ElfParserError)
       → file_range_of s l i ≡ p
       → taken_at version2 reject-broken i (section_at s l i) x p ≡ Ok z
       → Spans s l version2 t k i x
       → Spans s l version2 t k (i + 1) z
   unfolding section_at
-  place_spans i x z below (At a b) at e g =
+  place_spans i x z below (stands a b) at e g =
       let h = section_at s l i in
       let lies : h.sh_offset + b ≤ length s = by_lies (length s) (section_header_of s l i) a b (lie i below) at in
       let w = taken_grows version2 i h b x reject-broken z e in
@@ -179,12 +178,12 @@ module _ (s : List ℕ) (l : Layout) (version2 reject-broken : Bool) (count t st
       at_most : t < i + 1 → t ≤ i
       at_most lt = omega (arith, lt)
 
-      own : t ≡ i → (a b : ℕ) → file_range_of s l i ≡ At a b → (section_at s l i).sh_addr ≤ MM_STACK_START → Inside (section_at s l t) k (grown version2 i (section_at s l i).sh_addr (section_at s l i).sh_offset b x)
+      own : t ≡ i → (a b : ℕ) → file_range_of s l i ≡ stands a b → (section_at s l i).sh_addr ≤ MM_STACK_START → Inside (section_at s l t) k (grown version2 i (section_at s l i).sh_addr (section_at s l i).sh_offset b x)
       own same a b at ahead =
-          let q : At start k ≡ At a b = sym stands ∙ ap (file_range_of s l) same ∙ at in
+          let q : stands start k ≡ stands a b = sym stands ∙ ap (file_range_of s l) same ∙ at in
           let r : k ≡ b = cc in
           rw (same, r) (grown_inside version2 i (section_at s l i) b x ahead)
-  place_spans i x z below (NoPlace r) at e g = absurd (not_ok _ _ e)
+  place_spans i x z below (Err r) at e g = absurd (not_ok _ _ e)
 
   step_spans : (i : ℕ) (x z : Extent) → i < count → gather_step s l version2 reject-broken i x ≡ Ok z → Spans s l version2 t k i x → Spans s l version2 t k (i + 1) z
   unfolding gather_step
@@ -206,7 +205,7 @@ module _ (s : List ℕ) (l : Layout) (version2 reject-broken : Bool) (count t st
           })
 
   all_span : (n i : ℕ) (x y : Extent) → i + n ≡ count → over (λ j z. gather_turn (gather_step s l version2 reject-broken j z)) 1 n i x ≡ goes y → Spans s l version2 t k i x → Spans s l version2 t k count y
-  unfolding over ◌into◌
+  unfolding over
   all_span zero i x y all e g =
       let p : x ≡ y = cc in
       let q : i ≡ count = omega (arith, all) in

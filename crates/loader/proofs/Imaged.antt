@@ -12,11 +12,7 @@ use Rattle.std.specs.Prelude.{Ok, Err, Result, Option, Some, None}
 use Rattle.ebpf.specs.Choice.{◌if◌else◌}
 use Rattle.ebpf.specs.LittleEndian.{le}
 use Rattle.elf_parser.specs.declared.types.Elf64Sym.{Elf64Sym}
-use Rattle.elf_parser.specs.declared.parts.Place.{Place}
-use Rattle.elf_parser.specs.declared.parts.Place.TheVariants.{At as Stands, Refused as NoPlace}
 use Rattle.elf_parser.specs.declared.records.Entries.{Entries}
-use Rattle.elf_parser.specs.declared.records.Sym.{Sym}
-use Rattle.elf_parser.specs.declared.records.Sym.TheVariants.{Symbol, Refused as NoSym}
 use Rattle.elf_parser.specs.Names.{symbol_name}
 use Rattle.elf_parser.specs.Records.{sym_of}
 use Rattle.program.specs.declared.FunctionName.TheVariants.{OfIndex, Entrypoint}
@@ -38,6 +34,8 @@ use Rattle.loader.proofs.Ends.{Ends, ends_then, ends_each}
 use Rattle.loader.proofs.Kept.{not_in, in_places, le_put, le_same, written_other, deed_ends, step_ends, step_length, deeds_length, deeds_other, deeds_nothing}
 use Rattle.loader.proofs.Named.{unnamed_clear}
 use Rattle.loader.proofs.Targets.{calls_local, to_small, key_word, row_key}
+use Rattle.elf_parser.specs.declared.error.ElfParserError.{ElfParserError}
+use Rattle.elf_parser.specs.declared.parts.Place.{Place}
 
 -- ---- labels, the entry and the placing write nothing
 
@@ -52,17 +50,17 @@ choice_nothing true x y im p q = p
 choice_nothing false x y im p q = q
 
 module _ (s builtins : List ℕ) (j : Job) (im : List ℕ) where
-  named_nothing : (index st-name : ℕ) (p : Place) → written (named_label s builtins j index st-name p) im ≡ im
-  named_nothing index st-name (Stands start n) = row_nothing (row_for builtins j (symbol_function (take n (drop start s)) start n) index) im
-  named_nothing index st-name (NoPlace e) = refl
+  named_nothing : (index st-name : ℕ) (p : Result Place ElfParserError) → written (named_label s builtins j index st-name p) im ≡ im
+  named_nothing index st-name (Ok p) = row_nothing (row_for builtins j (symbol_function (take p.length (drop p.start s)) p.start p.length) index) im
+  named_nothing index st-name (Err e) = refl
 
   of_nothing : (y : Elf64Sym) → written (label_of s builtins j y) im ≡ im
   unfolding label_of
   of_nothing y = choice_nothing _ _ _ im refl (choice_nothing _ _ _ im refl (named_nothing (index_of j y.st_value) y.st_name (symbol_name s j.layout y.st_name)))
 
-  by_nothing : (y : Sym) → written (label_by s builtins j y) im ≡ im
-  by_nothing (Symbol y) = of_nothing y
-  by_nothing (NoSym e) = refl
+  by_nothing : (y : Result Elf64Sym ElfParserError) → written (label_by s builtins j y) im ≡ im
+  by_nothing (Ok y) = of_nothing y
+  by_nothing (Err e) = refl
 
   label_nothing : (symbols : Entries) (i : ℕ) → written (label_deed s builtins j symbols i) im ≡ im
   unfolding label_deed

@@ -14,10 +14,6 @@ use Rattle.std.specs.Prelude.{Ok, Err, Option, Some, None, Result}
 use Rattle.ebpf.specs.Choice.{◌if◌else◌}
 use Rattle.elf_parser.specs.declared.types.Elf64Sym.{Elf64Sym}
 use Rattle.elf_parser.specs.declared.layout.Layout.{Layout}
-use Rattle.elf_parser.specs.declared.parts.Place.{Place}
-use Rattle.elf_parser.specs.declared.parts.Place.TheVariants.{At as Stands, Refused as NoPlace}
-use Rattle.elf_parser.specs.declared.records.Sym.{Sym}
-use Rattle.elf_parser.specs.declared.records.Sym.TheVariants.{Symbol, Refused as NoSym}
 use Rattle.elf_parser.specs.Names.{dynamic_symbol_name}
 use Rattle.elf_parser.specs.Records.{dynamic_symbol_of}
 use Rattle.program.specs.declared.FunctionName.{FunctionName}
@@ -31,6 +27,8 @@ use Rattle.loader.specs.Functions.{row_for, index_of}
 use Rattle.loader.specs.Relocations.{immediate_at, halves_deed, word_deed, address_deed, symbol_deed, plan6464, relative_text, plan_relative, register_deed, function_call, builtin_call, call_by_name, named_call, symbol_call, plan6432, plan_at, plan_of, text_holds}
 use Rattle.loader.specs.Deeds.{is_in, writes}
 use Rattle.loader.specs.Demand.{in_halves, named_by, named_at}
+use Rattle.elf_parser.specs.declared.error.ElfParserError.{ElfParserError}
+use Rattle.elf_parser.specs.declared.parts.Place.{Place}
 
 -- the load stops at it
 abbrev pub stops : Result Deed ElfError → Bool
@@ -119,13 +117,13 @@ module _ (b : ℕ) where
     unfolding call_by_name
     name_clear part builtins j y start k = one _ _ _ _ (function_clear builtins j _ _) (λ e. builtin_clear builtins _ start k _)
 
-    place_clear : (s builtins : List ℕ) (j : Job) (y : Elf64Sym) (p : Place) → Clear (is_in (r + 4) 4 b) (named_call s builtins j n r y p)
-    place_clear s builtins j y (Stands start k) = name_clear (take k (drop start s)) builtins j y start k
-    place_clear s builtins j y (NoPlace e) = never
+    place_clear : (s builtins : List ℕ) (j : Job) (y : Elf64Sym) (p : Result Place ElfParserError) → Clear (is_in (r + 4) 4 b) (named_call s builtins j n r y p)
+    place_clear s builtins j y (Ok p) = name_clear (take p.length (drop p.start s)) builtins j y p.start p.length
+    place_clear s builtins j y (Err e) = never
 
-    call_clear : (s builtins : List ℕ) (j : Job) (number : ℕ) (y : Sym) → Clear (is_in (r + 4) 4 b) (symbol_call s builtins j n r number y)
-    call_clear s builtins j number (Symbol y) = place_clear s builtins j y (dynamic_symbol_name s j.layout y.st_name)
-    call_clear s builtins j number (NoSym e) = never
+    call_clear : (s builtins : List ℕ) (j : Job) (number : ℕ) (y : Result Elf64Sym ElfParserError) → Clear (is_in (r + 4) 4 b) (symbol_call s builtins j n r number y)
+    call_clear s builtins j number (Ok y) = place_clear s builtins j y (dynamic_symbol_name s j.layout y.st_name)
+    call_clear s builtins j number (Err e) = never
 
     clear6432 : (s builtins : List ℕ) (j : Job) (number : ℕ) → Clear (is_in (r + 4) 4 b) (plan6432 s builtins j n r number)
     unfolding plan6432
@@ -137,10 +135,10 @@ module _ (b : ℕ) where
     address_clear true v = halves_clear v
     address_clear false v = word_clear v
 
-    symbol_clear : (split : Bool) (addend number : ℕ) (y : Sym)
+    symbol_clear : (split : Bool) (addend number : ℕ) (y : Result Elf64Sym ElfParserError)
         → Clear (in_halves r b if split else is_in r 8 b) (symbol_deed n split (immediate_at r if split else r) addend number y)
-    symbol_clear split addend number (Symbol y) = address_clear split _
-    symbol_clear split addend number (NoSym e) = never
+    symbol_clear split addend number (Ok y) = address_clear split _
+    symbol_clear split addend number (Err e) = never
 
   module _ (s im : List ℕ) (short : length im ≤ 2 ^ 24) (r : ℕ) where
     clear6464 : (l : Layout) (split : Bool) (number : ℕ) (addend : Option ℕ) → Clear (in_halves r b if split else is_in r 8 b) (plan6464 s im l split r number addend)

@@ -14,13 +14,13 @@ use Rattle.loader.specs.ReadOnly.{gather_step, gather_next, nothing, gather_turn
 
 module _ {R A : Type 0} (step : ℕ → A → Turn R A) (w : ℕ) where
   into_next : (n at : ℕ) (t : Turn R A) → 0 < n → (t into over step w n at) ≡ ((t into step at) into over step w (n - 1) (at + w))
-  unfolding over ◌into◌
+  unfolding over
   into_next n at (ends r) h = refl
   into_next zero at (goes x) h = absurd (omega arith)
   into_next (suc n) at (goes x) h = let k : suc n - 1 ≡ n = omega arith in rw k refl
 
   into_end : (n at : ℕ) (t : Turn R A) → n ≤ 0 → (t into over step w n at) ≡ t
-  unfolding over ◌into◌
+  unfolding over
   into_end n at (ends r) h = refl
   into_end zero at (goes x) h = refl
   into_end (suc n) at (goes x) h = absurd (omega arith)
@@ -35,11 +35,11 @@ module _ (s : List ℕ) (l : Layout) (version2 reject-broken : Bool) where
   gather_from n i g = gather_by (gather_turn g into over (λ j x. gather_turn (gather_step s l version2 reject-broken j x)) 1 n i)
 
   pub gather_all : (count : ℕ) → gathered s l count version2 reject-broken ≡ gather_from count 0 (Ok nothing)
-  unfolding gather_from ◌into◌
+  unfolding gather_from
   gather_all count = refl
 
   next_turn : (i : ℕ) (g : Result Extent ElfError) → (gather_turn g into (λ x. gather_turn (gather_step s l version2 reject-broken i x))) ≡ gather_turn (gather_next s l version2 reject-broken i (section_at s l i) (name_of s l (section_at s l i)) g)
-  unfolding gather_step ◌into◌
+  unfolding gather_step
   next_turn i (Ok x) = refl
   next_turn i (Err r) = refl
 

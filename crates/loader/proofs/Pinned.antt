@@ -6,19 +6,18 @@ use Rattle.ebpf.specs.IndexKeys.{index_key, key_in}
 use Rattle.ebpf.specs.Instructions.{slot_at, insn_at}
 use Rattle.ebpf.specs.LittleEndian.{le, bytes_of}
 use Rattle.ebpf.specs.Murmur3.{body, murmur3}
-use Rattle.elf_parser.specs.Dynamic.{first_with, segment_slice, section_slice, or_else, with_tag, values_from, section_offset, or_section, relocations_at, relocations_by, relocations_of, symbols_by, symbols_of, linking, dynamic_in}
-use Rattle.elf_parser.specs.Errors.{◌then◌ as ◌then-reader◌}
+use Rattle.elf_parser.specs.Dynamic.{first_with, segment_slice, section_slice, or_else, with_tag, values_from, relocations_at, relocations_by, relocations_of, symbols_by, symbols_of}
 use Rattle.elf_parser.specs.FileHeader.{header_fixed, header_right, header_check as reader-headerCheck, tables_check}
-use Rattle.elf_parser.specs.Loops.{◌into◌, over}
+use Rattle.elf_parser.specs.Loops.{over}
 use Rattle.elf_parser.specs.Names.{name_by}
 use Rattle.elf_parser.specs.Parse.{first_check, file_check, named_layout, parsed}
 use Rattle.elf_parser.specs.Parts.{bytes_at}
-use Rattle.elf_parser.specs.ProgramHeaders.{load_step, contains_step}
-use Rattle.elf_parser.specs.Records.{entry_at, sliced, symbol_table_in, symbol_table_of, file_range}
-use Rattle.elf_parser.specs.SectionHeaders.{section_check, leaves, section_step}
-use Rattle.elf_parser.specs.SectionNames.{same_bytes, role_of, placed as reader-placed, named}
-use Rattle.elf_parser.specs.Strings.{string_check, before_zero, terminated, gives as reader-gives, string_in}
-use Rattle.elf_parser.specs.Types.{file_header, program_header, section_header, sym, rel}
+use Rattle.elf_parser.specs.ProgramHeaders.{load_step, contains_step, header_for_vaddr}
+use Rattle.elf_parser.specs.Records.{entry_at, sliced, symbol_table_in, symbol_table_of, symbols_at, file_range}
+use Rattle.elf_parser.specs.SectionHeaders.{section_check, section_step}
+use Rattle.elf_parser.specs.SectionNames.{same_bytes, role_of}
+use Rattle.elf_parser.specs.Strings.{string_check, before_zero, terminated, string_in}
+use Rattle.elf_parser.specs.Types.{file_header, program_header, section_header, sym, rel, dynamic}
 use Rattle.program.specs.HashedLegacy.{legacy_key, kept_symbol, is_taken, legacy_row}
 use Rattle.program.specs.Rows.{rank, register, registered, unregister}
 use Rattle.program.specs.Search.{narrowed, binary_search, is_among}
@@ -155,7 +154,7 @@ record Computed : Type 0 where
   name_key_lem : name_key ≡ 0x71e3_cf81
 
 computed : Computed
-unfolding ◌if◌else◌ index_key key_in slot_at insn_at le bytes_of body murmur3 first_with segment_slice section_slice or_else with_tag values_from section_offset or_section relocations_at relocations_by relocations_of symbols_by symbols_of linking dynamic_in ◌then-reader◌ header_fixed header_right reader-headerCheck tables_check ◌into◌ over name_by first_check file_check named_layout parsed bytes_at load_step contains_step entry_at sliced symbol_table_in symbol_table_of file_range section_check leaves section_step same_bytes role_of reader-placed named string_check before_zero terminated reader-gives string_in file_header program_header section_header sym rel legacy_key kept_symbol is_taken legacy_row rank register registered unregister narrowed binary_search is_among machine_addr put inside target is_local_call call_of call_at call_deed slot_trace deed_trace entry_deed row_for label_of label_deed label_symbols label_trace load_of job_trace read_only loader-gives invalid_by end_of grown taken gather_step from_start can_borrow borrowed owned loader-placed placing copied_to copy_step copied_from relocation_at header_at first_from used_header used_before place_of within program_address immediate_at halves_deed word_deed address_deed plan6464 relative_text relative_value plan_relative function_call builtin_call call_by_name plan6432 plan_at relocation_trace section_at starts_with unsupported outside_file survey_step survey_from and_then each settle size_check ascends loader-headerCheck sections_check text_check job_of ◌then◌ validated prepared reached
+unfolding ◌if◌else◌ index_key key_in slot_at insn_at le bytes_of body murmur3 first_with segment_slice section_slice or_else with_tag values_from relocations_at relocations_by relocations_of symbols_by symbols_of header_fixed header_right reader-headerCheck tables_check over name_by first_check file_check named_layout parsed bytes_at load_step contains_step entry_at sliced symbol_table_in symbol_table_of file_range section_check section_step same_bytes role_of string_check before_zero terminated string_in file_header program_header section_header sym rel legacy_key kept_symbol is_taken legacy_row rank register registered unregister narrowed binary_search is_among machine_addr put inside target is_local_call call_of call_at call_deed slot_trace deed_trace entry_deed row_for label_of label_deed label_symbols label_trace load_of job_trace read_only loader-gives invalid_by end_of grown taken gather_step from_start can_borrow borrowed owned loader-placed placing copied_to copy_step copied_from relocation_at header_at first_from used_header used_before place_of within program_address immediate_at halves_deed word_deed address_deed plan6464 relative_text relative_value plan_relative function_call builtin_call call_by_name plan6432 plan_at relocation_trace section_at starts_with unsupported outside_file survey_step survey_from and_then each settle size_check ascends loader-headerCheck sections_check text_check job_of ◌then◌ validated prepared reached dynamic header_for_vaddr symbols_at
 computed =
     record {
       ready_2 = refl;

@@ -12,10 +12,6 @@ use Rattle.elf_parser.specs.declared.error.ElfParserError.TheVariants.{InvalidFi
 use Rattle.elf_parser.specs.declared.types.Elf64Ehdr.{Elf64Ehdr}
 use Rattle.elf_parser.specs.declared.types.Elf64Shdr.{Elf64Shdr}
 use Rattle.elf_parser.specs.declared.layout.Layout.{Layout}
-use Rattle.elf_parser.specs.declared.layout.Parsed.{Parsed}
-use Rattle.elf_parser.specs.declared.layout.Parsed.TheVariants.{File, Refused as NoFile}
-use Rattle.elf_parser.specs.declared.parts.Place.{Place}
-use Rattle.elf_parser.specs.declared.parts.Place.TheVariants.{At, Refused as NoPlace}
 use Rattle.elf_parser.specs.Loops.{Turn, goes, ends, ◌into◌, over}
 use Rattle.elf_parser.specs.Names.{section_name}
 use Rattle.elf_parser.specs.Parse.{parsed}
@@ -34,6 +30,7 @@ use Rattle.loader.specs.Errors.{from_parser}
 use Rattle.loader.specs.Sections.{section_at, survey}
 use Rattle.loader.specs.ReadOnly.{taken, taken_at, gather_step, gather_turn, gather_by, nothing, gathered, borrowed, owned, placed, placing_by, placing}
 use Rattle.loader.specs.Validate.{size_check, ascends, header_check, writable_by, sections_check, text_check, job_of, file_check, is_version2, validated, parsed_then, prepared}
+use Rattle.elf_parser.specs.declared.parts.Place.{Place}
 
 -- the refusals that a registration gives
 abbrev pub of_table : ElfError → Bool
@@ -91,9 +88,9 @@ unfolding header_check
 header_plain h c version2 =
     refuse_or _ _ _ refl (refuse_or _ _ _ refl (refuse_or _ _ _ refl (refuse_or _ _ _ refl (refuse_or _ _ _ refl (refuse_or _ _ _ refl (refuse_or _ _ _ refl tt))))))
 
-writable_plain : (p : Place) → Plain (writable_by p)
-writable_plain (At start n) = refl
-writable_plain (NoPlace r) = refl
+writable_plain : (p : Result Place ElfParserError) → Plain (writable_by p)
+writable_plain (Ok p) = refl
+writable_plain (Err r) = refl
 
 sections_plain : (s : List ℕ) (l : Layout) (v : Survey) → PlainVerdict (sections_check s l v)
 unfolding sections_check
@@ -138,7 +135,7 @@ PlainTurn (goes x) = Unit {0}
 PlainTurn (ends r) = Plain r
 
 into_plain : (t : Turn ElfError Extent) (f : Extent → Turn ElfError Extent) → PlainTurn t → ((x : Extent) → PlainTurn (f x)) → PlainTurn (t into f)
-unfolding ◌into◌
+unfolding 
 into_plain (goes x) f p q = q x
 into_plain (ends r) f p q = p
 
@@ -155,10 +152,10 @@ by_plain : (t : Turn ElfError Extent) → PlainTurn t → PlainGathering (gather
 by_plain (goes x) p = tt
 by_plain (ends r) p = p
 
-taken_plain : (version2 reject-broken : Bool) (i : ℕ) (h : Elf64Shdr) (x : Extent) (p : Place) → PlainGathering (taken_at version2 reject-broken i h x p)
+taken_plain : (version2 reject-broken : Bool) (i : ℕ) (h : Elf64Shdr) (x : Extent) (p : Result Place ElfParserError) → PlainGathering (taken_at version2 reject-broken i h x p)
 unfolding taken
-taken_plain version2 reject-broken i h x (At start n) = picks PlainGathering _ _ _ (λ _. refl) (λ _. picks PlainGathering _ _ _ (λ _. refl) (λ _. tt))
-taken_plain version2 reject-broken i h x (NoPlace r) = refl
+taken_plain version2 reject-broken i h x (Ok p) = picks PlainGathering _ _ _ (λ _. refl) (λ _. picks PlainGathering _ _ _ (λ _. refl) (λ _. tt))
+taken_plain version2 reject-broken i h x (Err r) = refl
 
 gather_plain : (s : List ℕ) (l : Layout) (version2 reject-broken : Bool) (i : ℕ) (x : Extent) → PlainGathering (gather_step s l version2 reject-broken i x)
 unfolding gather_step
@@ -234,9 +231,9 @@ validated_plain s c l = passed_plain c (file_check s c l h version2 v) (Ok (job_
     place : Result Placing ElfError
     place = placing s l h.e_shnum version2 c.reject_broken_elfs c.optimize_rodata
 
-parsed_plain : (s : List ℕ) (c : Config) (p : Parsed) → PlainlyPrepared c (parsed_then s c p)
-parsed_plain s c (NoFile e) = parser_plain e
-parsed_plain s c (File l) = validated_plain s c l
+parsed_plain : (s : List ℕ) (c : Config) (p : Result Layout ElfParserError) → PlainlyPrepared c (parsed_then s c p)
+parsed_plain s c (Err e) = parser_plain e
+parsed_plain s c (Ok l) = validated_plain s c l
 
 pub prepared_plain : (s builtins : List ℕ) (c : Config) (image ro : ℕ) → PlainlyPrepared c (prepared s builtins c image ro)
 unfolding prepared

@@ -13,8 +13,6 @@ use Rattle.ebpf.specs.Choice.{◌if◌else◌, not_first, row_rest, or_false}
 use Rattle.elf_parser.specs.declared.types.Elf64Ehdr.{Elf64Ehdr}
 use Rattle.elf_parser.specs.declared.types.Elf64Shdr.{Elf64Shdr}
 use Rattle.elf_parser.specs.declared.layout.Layout.{Layout}
-use Rattle.elf_parser.specs.declared.layout.Parsed.{Parsed}
-use Rattle.elf_parser.specs.declared.layout.Parsed.TheVariants.{File, Refused as NoFile}
 use Rattle.elf_parser.specs.Types.{file_header, SHT_NOBITS}
 use Rattle.elf_parser.specs.SectionNames.{same_bytes}
 use Rattle.elf_parser.specs.Parse.{parsed}
@@ -31,6 +29,7 @@ use Rattle.loader.specs.ReadOnly.{placing}
 use Rattle.loader.specs.Relocations.{few_relocations}
 use Rattle.loader.specs.Validate.{size_check, ascends, sections_check, text_check, job_of, file_check, is_version2, validated, parsed_then, prepared, header_check}
 use Rattle.loader.specs.InnerContracts.{InFile}
+use Rattle.elf_parser.specs.declared.error.ElfParserError.{ElfParserError}
 
 -- ---- the survey
 
@@ -104,7 +103,7 @@ both true x y n h = omega arith
 both false x y n h = h
 
 job_in : (s : List ℕ) (c : Config) (version2 : Bool) (l : Layout) (e_entry : ℕ) (h : Elf64Shdr) (p : Result Placing ElfError)
-    → parsed s ≡ File l
+    → parsed s ≡ Ok l
     → length s ≤ 2 ^ 24
     → h.sh_offset + h.sh_size ≤ length s
     → e_entry < h.sh_addr + h.sh_size
@@ -120,7 +119,7 @@ job_in s c version2 l e_entry h p q short lies below =
       entry = omega (arith, lies, short, below);
     }
 
-validated_in : (s : List ℕ) (c : Config) (l : Layout) (j : Job) → parsed s ≡ File l → length s ≤ 2 ^ 24 → validated s c l ≡ Ok j → InFile s j
+validated_in : (s : List ℕ) (c : Config) (l : Layout) (j : Job) → parsed s ≡ Ok l → length s ≤ 2 ^ 24 → validated s c l ≡ Ok j → InFile s j
 unfolding validated
 validated_in s c l j q short e = subst (InFile s) done.1 (job_in s c version2 l h.e_entry text place q short lies below)
   where
@@ -154,9 +153,9 @@ validated_in s c l j q short e = subst (InFile s) done.1 (job_in s c version2 l 
     below : h.e_entry < text.sh_addr + text.sh_size
     below = text_passes version2 c.reject_broken_elfs h.e_entry text (then_both (sections_check s l v) (text_check version2 c.reject_broken_elfs h.e_entry text) tt rest).1
 
-parsed_in : (s : List ℕ) (c : Config) (p : Parsed) (j : Job) → parsed s ≡ p → length s ≤ 2 ^ 24 → parsed_then s c p ≡ Ok j → InFile s j
-parsed_in s c (NoFile r) j q short e = absurd (not_ok _ _ e)
-parsed_in s c (File l) j q short e = validated_in s c l j q short e
+parsed_in : (s : List ℕ) (c : Config) (p : Result Layout ElfParserError) (j : Job) → parsed s ≡ p → length s ≤ 2 ^ 24 → parsed_then s c p ≡ Ok j → InFile s j
+parsed_in s c (Err r) j q short e = absurd (not_ok _ _ e)
+parsed_in s c (Ok l) j q short e = validated_in s c l j q short e
 
 pub readied : (s builtins : List ℕ) (c : Config) (image ro : ℕ) (j : Job)
     → prepared s builtins c image ro ≡ Ok j
@@ -182,10 +181,10 @@ validated_placed s c l j e =
     let is : job_of c (is_version2 h) l h.e_entry text place ≡ j = (then_ok (file_check s c l h (is_version2 h) v) (job_of c (is_version2 h) l h.e_entry text place) j e).1 in
     rw (← is) refl
 
-parsed_placed : (s : List ℕ) (c : Config) (p : Parsed) (j : Job) → parsed_then s c p ≡ Ok j
+parsed_placed : (s : List ℕ) (c : Config) (p : Result Layout ElfParserError) (j : Job) → parsed_then s c p ≡ Ok j
     → j.placing ≡ placing s j.layout (file_header s).e_shnum (is_version2 (file_header s)) c.reject_broken_elfs c.optimize_rodata
-parsed_placed s c (NoFile r) j e = absurd (not_ok _ _ e)
-parsed_placed s c (File l) j e = validated_placed s c l j e
+parsed_placed s c (Err r) j e = absurd (not_ok _ _ e)
+parsed_placed s c (Ok l) j e = validated_placed s c l j e
 
 pub placed_as : (s builtins : List ℕ) (c : Config) (image ro : ℕ) (j : Job) → prepared s builtins c image ro ≡ Ok j
     → j.placing ≡ placing s j.layout (file_header s).e_shnum (is_version2 (file_header s)) c.reject_broken_elfs c.optimize_rodata

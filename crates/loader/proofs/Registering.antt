@@ -14,10 +14,6 @@ use Rattle.program.specs.HashedLegacy.{LegacyResult}
 use Rattle.std.specs.Prelude.{Ok, Err, Option, Some, None, Result}
 use Rattle.ebpf.specs.Choice.{◌if◌else◌, eq_not}
 use Rattle.elf_parser.specs.declared.types.Elf64Sym.{Elf64Sym}
-use Rattle.elf_parser.specs.declared.parts.Place.{Place}
-use Rattle.elf_parser.specs.declared.parts.Place.TheVariants.{At as Stands, Refused as NoPlace}
-use Rattle.elf_parser.specs.declared.records.Sym.{Sym}
-use Rattle.elf_parser.specs.declared.records.Sym.TheVariants.{Symbol, Refused as NoSym}
 use Rattle.elf_parser.specs.Records.{dynamic_symbol_of, sym_of}
 use Rattle.elf_parser.specs.Names.{symbol_name, dynamic_symbol_name}
 use Rattle.program.specs.declared.Row.{Row}
@@ -42,6 +38,9 @@ use Rattle.loader.proofs.Asked.{Asks, Keeps, AsksFor}
 use Rattle.loader.proofs.Targets.{local_calls}
 use Rattle.loader.specs.Demand.{LocalCall, CallsTo, OfCall, OfRelocation, OfLabel, OfEntry, info_of, addend_of, entry_index, early_trace}
 use Rattle.loader.proofs.Traces.{asks_then, keeps_then, keeps_each, ends_turn, asks_each}
+use Rattle.elf_parser.specs.declared.error.ElfParserError.{ElfParserError}
+use Rattle.elf_parser.specs.declared.parts.Place.{Place}
+use Rattle.elf_parser.specs.Parts.{stands}
 
 -- ---- a deed
 
@@ -128,10 +127,10 @@ module _ (P : Row → Type 0) (none : (row : Row) → P row → ⊥) where
   unfolding word_deed
   word_none len at value = either _ _ _ P (λ e. tt) (λ e. none)
 
-  symbol_none : (len : ℕ) (split : Bool) (at addend number : ℕ) (y : Sym) → AsksFor (entry_of (symbol_deed len split at addend number y)) P
+  symbol_none : (len : ℕ) (split : Bool) (at addend number : ℕ) (y : Result Elf64Sym ElfParserError) → AsksFor (entry_of (symbol_deed len split at addend number y)) P
   unfolding address_deed
-  symbol_none len split at addend number (Symbol y) = either split _ _ P (λ e. halves_none len at (sum_up_to at 8) _) (λ e. word_none len at _)
-  symbol_none len split at addend number (NoSym r) = tt
+  symbol_none len split at addend number (Ok y) = either split _ _ P (λ e. halves_none len at (sum_up_to at 8) _) (λ e. word_none len at _)
+  symbol_none len split at addend number (Err r) = tt
 
   none6464 : (s im : List ℕ) (j : Job) (split : Bool) (r number : ℕ) (addend : Option ℕ) → AsksFor (entry_of (plan6464 s im j.layout split r number addend)) P
   unfolding plan6464
@@ -156,12 +155,12 @@ module _ (file builtins : List ℕ) (j : Job) (i : ℕ) (l : i < relocation_coun
   abbrev info : ℕ
   info = info_of file j i
 
-  module _ (ten : info % 2 ^ 32 ≡ 10) (y : Elf64Sym) (symbol : dynamic_symbol_of file j.layout (info / 2 ^ 32) ≡ Symbol y) where
+  module _ (ten : info % 2 ^ 32 ≡ 10) (y : Elf64Sym) (symbol : dynamic_symbol_of file j.layout (info / 2 ^ 32) ≡ Ok y) where
     -- the symbol is the one that the claim names
     same_symbol : (row : Row) (h : OfThis row) → h.2 ≡ y
-    same_symbol row h = let s : Symbol h.2 ≡ Symbol y = sym h.3 ∙ symbol in cc
+    same_symbol row h = let s : Ok h.2 ≡ Ok y = sym h.3 ∙ symbol in cc
 
-    module _ (start n : ℕ) (name : dynamic_symbol_name file j.layout y.st_name ≡ Stands start n) where
+    module _ (start n : ℕ) (name : dynamic_symbol_name file j.layout y.st_name ≡ stands start n) where
       abbrev row_of_this : ℕ → ℕ → Elf64Sym → LegacyResult
       row_of_this start n y = row_for builtins j (symbol_function (take n (drop start file)) start n) (index_of j y.st_value)
 
@@ -172,7 +171,7 @@ module _ (file builtins : List ℕ) (j : Job) (i : ℕ) (l : i < relocation_coun
           only : (row : Row) → OfThis row → row ≡ r
           only row h =
               let s : h.2 ≡ y = same_symbol row h in
-              let p : Stands h.5 h.6 ≡ Stands start n = sym h.7 ∙ ap (λ (y : Elf64Sym). dynamic_symbol_name file j.layout y.st_name) s ∙ name in
+              let p : stands h.5 h.6 ≡ stands start n = sym h.7 ∙ ap (λ (y : Elf64Sym). dynamic_symbol_name file j.layout y.st_name) s ∙ name in
               let a : h.5 ≡ start = cc in
               let b : h.6 ≡ n = cc in
               let q : Ok row ≡ Ok r = sym h.8 ∙ rw (s, a, b) e in
@@ -185,13 +184,13 @@ module _ (file builtins : List ℕ) (j : Job) (i : ℕ) (l : i < relocation_coun
           (λ f. either _ _ _ OfThis (λ _. tt) (λ _. function_row f len _ (row_of_this start n y) refl))
           (λ f. builtin_none OfThis (λ row h. let s : h.2 ≡ y = same_symbol row h in let g : is_function y ≡ true = rw s at h.4 in zero_one (cc)) builtins _ len _ r start n _)
 
-    named_asks : (len r : ℕ) (p : Place) → dynamic_symbol_name file j.layout y.st_name ≡ p → AsksFor (entry_of (named_call file builtins j len r y p)) OfThis
-    named_asks len r (Stands start n) e = called_asks start n e len r
-    named_asks len r (NoPlace x) e = tt
+    named_asks : (len r : ℕ) (p : Result Place ElfParserError) → dynamic_symbol_name file j.layout y.st_name ≡ p → AsksFor (entry_of (named_call file builtins j len r y p)) OfThis
+    named_asks len r (Ok p) e = called_asks p.start p.length e len r
+    named_asks len r (Err x) e = tt
 
-  symbol_asks : info % 2 ^ 32 ≡ 10 → (len r : ℕ) (y : Sym) → dynamic_symbol_of file j.layout (info / 2 ^ 32) ≡ y → AsksFor (entry_of (symbol_call file builtins j len r (info / 2 ^ 32) y)) OfThis
-  symbol_asks ten len r (Symbol y) e = named_asks ten y e len r (dynamic_symbol_name file j.layout y.st_name) refl
-  symbol_asks ten len r (NoSym x) e = tt
+  symbol_asks : info % 2 ^ 32 ≡ 10 → (len r : ℕ) (y : Result Elf64Sym ElfParserError) → dynamic_symbol_of file j.layout (info / 2 ^ 32) ≡ y → AsksFor (entry_of (symbol_call file builtins j len r (info / 2 ^ 32) y)) OfThis
+  symbol_asks ten len r (Ok y) e = named_asks ten y e len r (dynamic_symbol_name file j.layout y.st_name) refl
+  symbol_asks ten len r (Err x) e = tt
 
   -- another type
   other_none : (k : ℕ) → (k ≡ 10 → ⊥) → info % 2 ^ 32 ≡ k → (row : Row) → OfThis row → ⊥
@@ -227,18 +226,18 @@ module _ (file builtins : List ℕ) (j : Job) (i : ℕ) (l : i < (label_symbols 
   abbrev OfSymbol : Row → Type 0
   OfSymbol = OfLabel file builtins j i
 
-  module _ (y : Elf64Sym) (symbol : sym_of file (label_symbols file j) i ≡ Symbol y) where
+  module _ (y : Elf64Sym) (symbol : sym_of file (label_symbols file j) i ≡ Ok y) where
     same_label : (row : Row) (h : OfSymbol row) → h.1 ≡ y
-    same_label row h = let s : Symbol h.1 ≡ Symbol y = sym h.2 ∙ symbol in cc
+    same_label row h = let s : Ok h.1 ≡ Ok y = sym h.2 ∙ symbol in cc
 
-    named_label_lem : bit_and y.st_info 0xef ≡ 2 → (p : Place) → symbol_name file j.layout y.st_name ≡ p → AsksFor (entry_of (named_label file builtins j (index_of j y.st_value) y.st_name p)) OfSymbol
-    named_label_lem two (NoPlace x) e = tt
-    named_label_lem two (Stands start n) e = label_row_asks OfSymbol _ (λ row. (only row, λ r. (l, y, symbol, two, start, n, e, r)))
+    named_label_lem : bit_and y.st_info 0xef ≡ 2 → (p : Result Place ElfParserError) → symbol_name file j.layout y.st_name ≡ p → AsksFor (entry_of (named_label file builtins j (index_of j y.st_value) y.st_name p)) OfSymbol
+    named_label_lem two (Err x) e = tt
+    named_label_lem two (Ok p) e = label_row_asks OfSymbol _ (λ row. (only row, λ r. (l, y, symbol, two, p.start, p.length, e, r)))
       where
         only : (row : Row) → OfSymbol row → row_for builtins j (symbol_function (take n (drop start file)) start n) (index_of j y.st_value) ≡ Ok row
         only row h =
             let s : h.1 ≡ y = same_label row h in
-            let p : Stands h.4 h.5 ≡ Stands start n = sym h.6 ∙ ap (λ (y : Elf64Sym). symbol_name file j.layout y.st_name) s ∙ e in
+            let p : stands h.4 h.5 ≡ stands start n = sym h.6 ∙ ap (λ (y : Elf64Sym). symbol_name file j.layout y.st_name) s ∙ e in
             let a : h.4 ≡ start = cc in
             let b : h.5 ≡ n = cc in
             rw (← s, ← a, ← b) h.7
@@ -250,9 +249,9 @@ module _ (file builtins : List ℕ) (j : Job) (i : ℕ) (l : i < (label_symbols 
         (λ e row h. let s : h.1 ≡ y = same_label row h in let two : bit_and y.st_info 0xef ≡ 2 = rw s at h.3 in let f = eq_not (bit_and y.st_info 0xef) 2 two in zero_one (cc))
         (λ e. either _ _ _ OfSymbol (λ _. tt) (λ _. named_label_lem (told (bit_and y.st_info 0xef) 2 e) (symbol_name file j.layout y.st_name) refl))
 
-  label_by_asks : (y : Sym) → sym_of file (label_symbols file j) i ≡ y → AsksFor (entry_of (label_by file builtins j y)) OfSymbol
-  label_by_asks (Symbol y) e = label_of_asks y e
-  label_by_asks (NoSym x) e = λ row h. let s = h.2 in zero_one (cc)
+  label_by_asks : (y : Result Elf64Sym ElfParserError) → sym_of file (label_symbols file j) i ≡ y → AsksFor (entry_of (label_by file builtins j y)) OfSymbol
+  label_by_asks (Ok y) e = label_of_asks y e
+  label_by_asks (Err x) e = λ row h. let s = h.2 in zero_one (cc)
 
   label_asks : AsksFor (entry_of (label_deed file builtins j (label_symbols file j) i)) OfSymbol
   unfolding label_deed

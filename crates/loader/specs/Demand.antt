@@ -9,8 +9,6 @@ use Rattle.ebpf.specs.Instructions.{insn_at}
 use Rattle.ebpf.specs.IndexKeys.{index_key}
 use Rattle.ebpf.specs.Murmur3.{murmur3}
 use Rattle.elf_parser.specs.declared.layout.Layout.{Layout}
-use Rattle.elf_parser.specs.declared.parts.Place.TheVariants.{At as Stands}
-use Rattle.elf_parser.specs.declared.records.Sym.TheVariants.{Symbol}
 use Rattle.elf_parser.specs.declared.types.Elf64Sym.{Elf64Sym}
 use Rattle.elf_parser.specs.Names.{symbol_name, dynamic_symbol_name}
 use Rattle.elf_parser.specs.Records.{dynamic_symbol_of, sym_of}
@@ -33,6 +31,7 @@ use Rattle.loader.specs.Relocations.{relocation_at, relocation_count, place_in, 
 use Rattle.loader.specs.Parts.{writing_trace, job_trace}
 use Rattle.loader.specs.Trace.{Trace, done, stop, register, forget, and_then}
 use Rattle.loader.specs.Validate.{prepared}
+use Rattle.elf_parser.specs.Parts.{stands}
 
 -- ---- local calls
 
@@ -95,11 +94,11 @@ OfRelocation file builtins j i row =
     (i < relocation_count j)
     × (info_of file j i % 2 ^ 32 ≡ 10)
     × (y : Elf64Sym)
-    × (dynamic_symbol_of file j.layout (info_of file j i / 2 ^ 32) ≡ Symbol y)
+    × (dynamic_symbol_of file j.layout (info_of file j i / 2 ^ 32) ≡ Ok y)
     × (is_function y ≡ true)
     × (start : ℕ)
     × (n : ℕ)
-    × (dynamic_symbol_name file j.layout y.st_name ≡ Stands start n)
+    × (dynamic_symbol_name file j.layout y.st_name ≡ stands start n)
     × (row_for builtins j (symbol_function (take n (drop start file)) start n) (index_of j y.st_value) ≡ Ok row)
 
 -- with labels on, the symbol number i of .symtab, where st_info & 0xEF = 2
@@ -107,11 +106,11 @@ abbrev pub OfLabel : List ℕ → List ℕ → Job → ℕ → Row → Type 0
 OfLabel file builtins j i row =
     (i < (label_symbols file j).count)
     × (y : Elf64Sym)
-    × (sym_of file (label_symbols file j) i ≡ Symbol y)
+    × (sym_of file (label_symbols file j) i ≡ Ok y)
     × (bit_and y.st_info 0xef ≡ 2)
     × (start : ℕ)
     × (n : ℕ)
-    × (symbol_name file j.layout y.st_name ≡ Stands start n)
+    × (symbol_name file j.layout y.st_name ≡ stands start n)
     × (row_for builtins j (symbol_function (take n (drop start file)) start n) (index_of j y.st_value) ≡ Ok row)
 
 -- e_entry less the text's sh_addr, in slots

@@ -13,10 +13,9 @@ use Rattle.std.proofs.Math.Dec.{ltb}
 use borrow.Author.Tests.{ltb-false, le-ltb}
 use Rattle.ebpf.specs.Choice.{◌if◌else◌, no_go, not_first, row_rest, row_cases}
 use Rattle.elf_parser.specs.declared.layout.Layout.{Layout}
-use Rattle.elf_parser.specs.declared.parts.Place.{Place}
-use Rattle.elf_parser.specs.declared.parts.Place.TheVariants.{At, Refused as NoPlace}
 use Rattle.elf_parser.specs.declared.types.Elf64Shdr.{Elf64Shdr}
-use Rattle.elf_parser.specs.Loops.{Turn, goes, ends, ◌into◌, over, not_ends}
+use Rattle.elf_parser.specs.Loops.{over}
+use Rattle.elf_parser.specs.Errors.{went}
 use Rattle.elf_parser.specs.Records.{file_range_of, range_within}
 use Rattle.loader.specs.declared.read_only.Placing.TheVariants.{Owned}
 use Rattle.loader.specs.declared.error.ElfError.{ElfError}
@@ -24,7 +23,10 @@ use Rattle.loader.specs.declared.read_only.Extent.{Extent}
 use Rattle.loader.specs.Results.{not_ok}
 use Rattle.loader.specs.Addresses.{sum_up_to, machine_addr, MM_PROGRAM_START, MM_STACK_START}
 use Rattle.loader.specs.Sections.{section_at, name_of}
-use Rattle.loader.specs.ReadOnly.{read_only, end_of, grown, taken, taken_at, gather_step, nothing, gather_turn, gather_by, gathered, from_start, borrowed, owned, placed, placing_by, placing, copied_to, copied_at, copy_step}
+use Rattle.loader.specs.ReadOnly.{read_only, end_of, grown, taken, taken_at, gather_step, nothing, gathered, from_start, borrowed, owned, placed, placing_by, placing, copied_to, copied_at, copy_step}
+use Rattle.elf_parser.specs.declared.error.ElfParserError.{ElfParserError}
+use Rattle.elf_parser.specs.declared.parts.Place.{Place}
+use Rattle.elf_parser.specs.Parts.{stands}
 
 -- ---- the copy keeps the length
 
@@ -39,9 +41,9 @@ module _ (ro image : List ℕ) (at : ℕ) where
           let h : n ≤ length (drop start image) = simp length-drop (omega (arith, ltb-false (length image) (start + n) b)) in
           ap length (sym q) ∙ length-paste ro at (drop start image) n (ltb-false (length ro) (at + n) b2) h
 
-  at_length : (p : Place) → length (copied_at ro image at p) ≡ length ro
-  at_length (At start n) = to_length start n (copied_to ro image at start n) refl
-  at_length (NoPlace r) = refl
+  at_length : (p : Result Place ElfParserError) → length (copied_at ro image at p) ≡ length ro
+  at_length (Ok p) = to_length p.start p.length (copied_to ro image at p.start p.length) refl
+  at_length (Err r) = refl
 
 module _ (image s : List ℕ) (l : Layout) (lowest : ℕ) where
   pub step_length : (i : ℕ) (ro : List ℕ) → length (copy_step image s l lowest i ro) ≡ length ro
@@ -124,16 +126,16 @@ taken_inside version2 reject-broken i h k x z e =
     let f = ltb-false MM_STACK_START (end_of version2 h.sh_addr h.sh_size) (not_first _ _ _ _ (not_ok _ _) e1) in
     rw (← p) (record { lower = omega arith; higher = omega arith }, record { above = omega arith; below = omega arith; ahead = end_ahead version2 h.sh_addr h.sh_size _ refl f })
 
-at_inside : (version2 reject-broken : Bool) (i : ℕ) (h : Elf64Shdr) (x z : Extent) (p : Place) → taken_at version2 reject-broken i h x p ≡ Ok z
-    → Wider x z × ((start k : ℕ) → p ≡ At start k → Inside h k z)
-at_inside version2 reject-broken i h x z (At a b) e =
-    let t = taken_inside version2 reject-broken i h b x z e in
-    (t.0, λ start k q. let r : b ≡ k = cc in rw (← r) t.1)
-at_inside version2 reject-broken i h x z (NoPlace r) e = absurd (not_ok _ _ e)
+at_inside : (version2 reject-broken : Bool) (i : ℕ) (h : Elf64Shdr) (x z : Extent) (p : Result Place ElfParserError) → taken_at version2 reject-broken i h x p ≡ Ok z
+    → Wider x z × ((q : Place) → p ≡ Ok q → Inside h q.length z)
+at_inside version2 reject-broken i h x z (Ok p) e =
+    let t = taken_inside version2 reject-broken i h p.length x z e in
+    (t.0, λ q r. let w : p ≡ q = cc in rw (← w) t.1)
+at_inside version2 reject-broken i h x z (Err r) e = absurd (not_ok _ _ e)
 
 module _ (s : List ℕ) (l : Layout) (version2 reject-broken : Bool) where
   abbrev Has : ℕ → Extent → Type 0
-  Has i x = read_only (name_of s l (section_at s l i)) ≡ true → (start k : ℕ) → file_range_of s l i ≡ At start k → Inside (section_at s l i) k x
+  Has i x = read_only (name_of s l (section_at s l i)) ≡ true → (p : Place) → file_range_of s l i ≡ Ok p → Inside (section_at s l i) p.length x
 
   step_inside : (i : ℕ) (x z : Extent) → gather_step s l version2 reject-broken i x ≡ Ok z → Wider x z × Has i z
   unfolding gather_step
@@ -148,25 +150,19 @@ module _ (s : List ℕ) (l : Layout) (version2 reject-broken : Bool) where
   abbrev Passed : ℕ → ℕ → Extent → Extent → Type 0
   Passed n i x y = Wider x y × ((j : ℕ) → i ≤ j → j < i + n → Has j y)
 
-  all_inside : (n i : ℕ) (x y : Extent) → over (λ j z. gather_turn (gather_step s l version2 reject-broken j z)) 1 n i x ≡ goes y → Passed n i x y
-  unfolding over ◌into◌
+  all_inside : (n i : ℕ) (x y : Extent) → over (gather_step s l version2 reject-broken) 1 n i x ≡ Ok y → Passed n i x y
+  unfolding over
   all_inside zero i x y e =
       let p : x ≡ y = cc in
       (rw (← p) (record { lower = omega arith; higher = omega arith }), λ j lo hi. absurd (omega arith))
-  all_inside (suc n) i x y e = go (gather_step s l version2 reject-broken i x) refl e (λ z q. all_inside n (i + 1) z y q)
-    where
-      go : (t : Result Extent ElfError)
-          → gather_step s l version2 reject-broken i x ≡ t
-          → (gather_turn t into over (λ j z. gather_turn (gather_step s l version2 reject-broken j z)) 1 n (i + 1)) ≡ goes y
-          → ((z : Extent) → over (λ j w. gather_turn (gather_step s l version2 reject-broken j w)) 1 n (i + 1) z ≡ goes y → Passed n (i + 1) z y)
-          → Passed (suc n) i x y
-      go (Ok z) h q rec =
-          let a = step_inside i x z h in
-          let r = rec z q in
-          let w = a.0 in
-          let v = r.0 in
-          (record { lower = omega arith; higher = omega arith }, λ j lo hi. ⊎_elim (λ p. subst (λ (k : ℕ). Has k y) p (λ ro start k at. still (section_at s l i) k z y v (a.1 ro start k at))) (λ p. r.1 j (omega arith) (omega arith)) (eq-or-lt_of_le lo))
-      go (Err r) h q rec = absurd (not_ends r y q)
+  all_inside (suc n) i x y e =
+      let t = went (gather_step s l version2 reject-broken i x) (over (gather_step s l version2 reject-broken) 1 n (i + 1)) y e in
+      let z = t.value in
+      let a = step_inside i x z t.first in
+      let r = all_inside n (i + 1) z y t.second in
+      let w = a.0 in
+      let v = r.0 in
+      (record { lower = omega arith; higher = omega arith }, λ j lo hi. ⊎_elim (λ p. subst (λ (k : ℕ). Has k y) p (λ ro q at. still (section_at s l i) q.length z y v (a.1 ro q at))) (λ p. r.1 j (omega arith) (omega arith)) (eq-or-lt_of_le lo))
 
 -- ---- where the sections are copied, each has its bytes and its room, so that the copy passes over none
 
@@ -189,34 +185,34 @@ module _ (s : List ℕ) (l : Layout) (count : ℕ) (version2 reject-broken optim
       → (i : ℕ)
       → i < count
       → read_only (name_of s l (section_at s l i)) ≡ true
-      → (start k : ℕ)
-      → file_range_of s l i ≡ At start k
-      → Room s (section_at s l i) lowest n start k
+      → (p : Place)
+      → file_range_of s l i ≡ Ok p
+      → Room s (section_at s l i) lowest n p.start p.length
   unfolding placing
-  owned_room short e i below ro start k at = go (over (λ j y. gather_turn (gather_step s l version2 reject-broken j y)) 1 count 0 nothing) refl e
+  owned_room short e i below ro p at = go (gathered s l count version2 reject-broken) refl e
     where
-      go : (t : Turn ElfError Extent)
-          → over (λ j y. gather_turn (gather_step s l version2 reject-broken j y)) 1 count 0 nothing ≡ t
-          → placing_by (length s) version2 reject-broken optimize (gather_by t) ≡ Ok (Owned offset lowest n)
-          → Room s (section_at s l i) lowest n start k
-      go (goes x) h q =
+      go : (t : Result Extent ElfError)
+          → gathered s l count version2 reject-broken ≡ t
+          → placing_by (length s) version2 reject-broken optimize t ≡ Ok (Owned offset lowest n)
+          → Room s (section_at s l i) lowest n p.start p.length
+      go (Ok x) h q =
           let r = placed_runs (length s) version2 reject-broken optimize x offset lowest n q in
-          let m = (all_inside s l version2 reject-broken count 0 nothing x h).1 i (omega arith) (omega arith) ro start k at in
-          let f = range_within s l i start k at in
+          let m = (all_inside s l version2 reject-broken count 0 nothing x h).1 i (omega arith) (omega arith) ro p at in
+          let f = range_within s l i p at in
           record { in_file = f; not_below = omega arith; room = omega arith }
-      go (ends r) h q = absurd (not_ok _ _ q)
+      go (Err r) h q = absurd (not_ok _ _ q)
 
 -- so a turn of the copy is a paste
-pub copy_is_paste : (image s : List ℕ) (l : Layout) (lowest n i start k : ℕ) (ro : List ℕ)
+pub copy_is_paste : (image s : List ℕ) (l : Layout) (lowest n i : ℕ) (p : Place) (ro : List ℕ)
     → read_only (name_of s l (section_at s l i)) ≡ true
-    → file_range_of s l i ≡ At start k
-    → Room s (section_at s l i) lowest n start k
+    → file_range_of s l i ≡ Ok p
+    → Room s (section_at s l i) lowest n p.start p.length
     → length s ≤ length image
     → n ≤ length ro
-    → paste ro ((section_at s l i).sh_addr - lowest) (drop start image) k ≡ copy_step image s l lowest i ro
+    → paste ro ((section_at s l i).sh_addr - lowest) (drop p.start image) p.length ≡ copy_step image s l lowest i ro
 unfolding copy_step copied_to
-copy_is_paste image s l lowest n i start k ro yes-ro at r him hro =
+copy_is_paste image s l lowest n i p ro yes-ro at r him hro =
     let h = section_at s l i in
-    let f : ltb (length image) (start + k) ≡ false = le-ltb (length image) (start + k) (omega arith) in
-    let g : ltb (length ro) ((h.sh_addr - lowest) + k) ≡ false = le-ltb (length ro) ((h.sh_addr - lowest) + k) (omega arith) in
+    let f : ltb (length image) (p.start + p.length) ≡ false = le-ltb (length image) (p.start + p.length) (omega arith) in
+    let g : ltb (length ro) ((h.sh_addr - lowest) + p.length) ≡ false = le-ltb (length ro) ((h.sh_addr - lowest) + p.length) (omega arith) in
     no_go _ _ _ _ (ap not yes-ro) (rw at (no_go _ _ _ _ f (no_go _ _ _ _ g refl)))

@@ -6,10 +6,8 @@ use Rattle.std.proofs.Math.Path.{refl}
 use Rattle.std.proofs.Math.Seq.{paste}
 use Rattle.ebpf.specs.Choice.{◌if◌else◌}
 use Rattle.elf_parser.specs.declared.layout.Layout.{Layout}
-use Rattle.elf_parser.specs.declared.parts.Place.{Place}
-use Rattle.elf_parser.specs.declared.parts.Place.TheVariants.{At, Refused as NoPlace}
 use Rattle.elf_parser.specs.declared.types.Elf64Shdr.{Elf64Shdr}
-use Rattle.elf_parser.specs.Loops.{Turn, goes, ends, over}
+use Rattle.elf_parser.specs.Loops.{over}
 use Rattle.elf_parser.specs.Records.{file_range_of}
 use Rattle.elf_parser.specs.SectionNames.{same_bytes}
 use Rattle.loader.specs.declared.read_only.Placing.TheVariants.{Borrowed, Owned}
@@ -19,6 +17,9 @@ use Rattle.loader.specs.declared.error.ElfError.TheVariants.{ValueOutOfBounds}
 use Rattle.loader.specs.declared.read_only.Extent.{Extent}
 use Rattle.loader.specs.Addresses.{sum_up_to, machine_addr, MM_PROGRAM_START, MM_STACK_START}
 use Rattle.loader.specs.Sections.{section_at, name_of, dot_text, dot_rodata, dot_data_rel_ro, dot_eh_frame}
+use Rattle.elf_parser.specs.declared.error.ElfParserError.{ElfParserError}
+use Rattle.elf_parser.specs.declared.parts.Place.{Place}
+use Rattle.elf_parser.specs.Parts.{stands}
 
 -- .text, .rodata, .data.rel.ro, .eh_frame
 unfoldable pub read_only : List ℕ → Bool
@@ -66,9 +67,9 @@ taken version2 reject-broken i h n x =
     Ok (grown version2 i h.sh_addr h.sh_offset n x)
 
 -- its bytes in the file, none for SHT_NOBITS, have that place
-abbrev pub taken_at : Bool → Bool → ℕ → Elf64Shdr → Extent → Place → Result Extent ElfError
-taken_at version2 reject-broken i h x (At start n) = taken version2 reject-broken i h n x
-taken_at version2 reject-broken i h x (NoPlace r) = Err ValueOutOfBounds
+abbrev pub taken_at : Bool → Bool → ℕ → Elf64Shdr → Extent → Result Place ElfParserError → Result Extent ElfError
+taken_at version2 reject-broken i h x (Ok p) = taken version2 reject-broken i h p.length x
+taken_at version2 reject-broken i h x (Err r) = Err ValueOutOfBounds
 
 -- the section number i, of that header and name
 abbrev pub gather_named : List ℕ → Layout → Bool → Bool → ℕ → Elf64Shdr → List ℕ → Extent → Result Extent ElfError
@@ -99,16 +100,8 @@ nothing = record {
   many = 0;
 }
 
-abbrev pub gather_turn : Result Extent ElfError → Turn ElfError Extent
-gather_turn (Ok x) = goes x
-gather_turn (Err r) = ends r
-
-abbrev pub gather_by : Turn ElfError Extent → Result Extent ElfError
-gather_by (goes x) = Ok x
-gather_by (ends r) = Err r
-
 abbrev pub gathered : List ℕ → Layout → ℕ → Bool → Bool → Result Extent ElfError
-gathered s l count version2 reject-broken = gather_by (over (λ i x. gather_turn (gather_step s l version2 reject-broken i x)) 1 count 0 nothing)
+gathered s l count version2 reject-broken = over (gather_step s l version2 reject-broken) 1 count 0 nothing
 
 -- ---- the placing
 
@@ -158,9 +151,9 @@ copied_to ro image at start n =
     ro if ltb (length ro) (at + n) else
     paste ro at (drop start image) n
 
-abbrev pub copied_at : List ℕ → List ℕ → ℕ → Place → List ℕ
-copied_at ro image at (At start n) = copied_to ro image at start n
-copied_at ro image at (NoPlace r) = ro
+abbrev pub copied_at : List ℕ → List ℕ → ℕ → Result Place ElfParserError → List ℕ
+copied_at ro image at (Ok p) = copied_to ro image at p.start p.length
+copied_at ro image at (Err r) = ro
 
 -- the section number i is copied to its address less the lowest: header and name from the file s, bytes from the image
 unfoldable pub copy_step : List ℕ → List ℕ → Layout → ℕ → ℕ → List ℕ → List ℕ

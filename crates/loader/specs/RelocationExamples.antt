@@ -6,7 +6,7 @@ use Rattle.ebpf.specs.LittleEndian.{le, bytes_of}
 use Rattle.ebpf.specs.Murmur3.{body, murmur3}
 use Rattle.elf_parser.specs.declared.layout.Layout.{Layout}
 use Rattle.elf_parser.specs.Types.{program_header, section_header, rel, rela, sym}
-use Rattle.elf_parser.specs.Strings.{string_in, string_check, gives, terminated, before_zero}
+use Rattle.elf_parser.specs.Strings.{string_in, string_check, terminated, before_zero}
 use Rattle.elf_parser.specs.Names.{name_by}
 use Rattle.elf_parser.specs.SectionNames.{same_bytes}
 use Rattle.program.specs.declared.Row.{Row}
@@ -39,10 +39,10 @@ layout_with n m =
     record {
       program_headers = record { offset = 56; count = 2 };
       section_headers = record { offset = 0; count = 0 };
-      shstrtab = 0;
-      symtab = 0;
-      strtab = 168;
-      dynstr = 168;
+      shstrtab = None;
+      symtab = None;
+      strtab = Some 168;
+      dynstr = Some 168;
       dynamic_relocations = record { offset = 0; count = n };
       dynamic_relas = record { offset = 233; count = m };
       dynamic_symbols = record { offset = 32; count = 1 };
@@ -269,7 +269,7 @@ type_10 : called 2 8 0 [] ∷ called 2 8 0x18 [] ∷ called 2 16 0 [] ∷ called
     ∷ Err (UnresolvedSymbol 232 0 0x110)
     ∷ Ok (Key 4 0)
     ∷ []
-unfolding relocation_at header_at first_from used_before used_header place_of plan_at plan6432 call_by_name function_call builtin_call immediate_at within row_for legacy_row legacy_key kept_symbol is_taken is_among binary_search narrowed name_by string_in string_check gives terminated before_zero same_bytes body murmur3 ◌if◌else◌ le bytes_of entry_at rel sym program_header section_header
+unfolding relocation_at header_at first_from used_before used_header place_of plan_at plan6432 call_by_name function_call builtin_call immediate_at within row_for legacy_row legacy_key kept_symbol is_taken is_among binary_search narrowed name_by string_in string_check terminated before_zero same_bytes body murmur3 ◌if◌else◌ le bytes_of entry_at rel sym program_header section_header
 type_10 = refl
 
 -- labels: 2 and 0x12 are taken, value 0 too; 1 and 0x22 are passed over; a value at the text's end
@@ -284,5 +284,5 @@ labels : labelled 2 8 ∷ labelled 0x12 8 ∷ labelled 2 0 ∷ labelled 1 8 ∷ 
     ∷ Ok Skip
     ∷ Err ValueOutOfBounds
     ∷ []
-unfolding label_deed label_of row_for legacy_row legacy_key kept_symbol is_taken name_by string_in string_check gives terminated before_zero same_bytes ◌if◌else◌ le bytes_of entry_at sym section_header
+unfolding label_deed label_of row_for legacy_row legacy_key kept_symbol is_taken name_by string_in string_check terminated before_zero same_bytes ◌if◌else◌ le bytes_of entry_at sym section_header
 labels = refl

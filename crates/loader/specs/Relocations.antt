@@ -9,18 +9,6 @@ use Rattle.ebpf.specs.LittleEndian.{le, join}
 use Rattle.ebpf.specs.Murmur3.{murmur3}
 use Rattle.elf_parser.specs.declared.types.Elf64Sym.{Elf64Sym}
 use Rattle.elf_parser.specs.declared.layout.Layout.{Layout}
-use Rattle.elf_parser.specs.declared.layout.Parsed.TheVariants.{File}
-use Rattle.elf_parser.specs.declared.dynamic.Linking.TheVariants.{Found as Links}
-use Rattle.elf_parser.specs.declared.parts.Place.{Place}
-use Rattle.elf_parser.specs.declared.parts.Place.TheVariants.{At as Stands, Refused as NoPlace}
-use Rattle.elf_parser.specs.declared.records.Phdr.{Phdr}
-use Rattle.elf_parser.specs.declared.records.Phdr.TheVariants.{Header as PHeader, Refused as NoPhdr}
-use Rattle.elf_parser.specs.declared.records.Rel.{Rel}
-use Rattle.elf_parser.specs.declared.records.Rel.TheVariants.{Relocation as Plain, Refused as NoRel}
-use Rattle.elf_parser.specs.declared.records.Rela.{Rela}
-use Rattle.elf_parser.specs.declared.records.Rela.TheVariants.{Relocation as WithAddend, Refused as NoRela}
-use Rattle.elf_parser.specs.declared.records.Sym.{Sym}
-use Rattle.elf_parser.specs.declared.records.Sym.TheVariants.{Symbol, Refused as NoSym}
 use Rattle.elf_parser.specs.Records.{program_header_of, dynamic_relocation_of, dynamic_rela_of, dynamic_symbol_of}
 use Rattle.elf_parser.specs.Names.{dynamic_symbol_name}
 use Rattle.elf_parser.specs.Types.{file_header}
@@ -275,6 +263,8 @@ used_next s l version2 i = rw (add-one i)
 
 -- type 8 uses its addend
 pub uses_eight : (type : ℕ) (a : Option ℕ) → type ≡ 8 → (uses_addend type && is_negative a) ≡ false → is_negative a ≡ false
+use Rattle.elf_parser.specs.declared.error.ElfParserError.{ElfParserError}
+use Rattle.elf_parser.specs.declared.parts.Place.{Place}
 uses_eight type a e h = rw e at h
 
 -- an addend that is not negative, and a number that was read
@@ -304,9 +294,9 @@ address_fits : (len : ℕ) (split : Bool) (at value : ℕ) → DeedFits len (add
 unfolding address_deed
 address_fits len split at value = either len split _ _ (λ e. halves_fits len at (sum_up_to at 8) value) (λ e. word_fits len at value)
 
-symbol_fits : (len : ℕ) (split : Bool) (at addend number : ℕ) (y : Sym) → DeedFits len (symbol_deed len split at addend number y)
-symbol_fits len split at addend number (Symbol y) = address_fits len split at _
-symbol_fits len split at addend number (NoSym e) = tt
+symbol_fits : (len : ℕ) (split : Bool) (at addend number : ℕ) (y : Result Elf64Sym ElfParserError) → DeedFits len (symbol_deed len split at addend number y)
+symbol_fits len split at addend number (Ok y) = address_fits len split at _
+symbol_fits len split at addend number (Err e) = tt
 
 fits6464 : (s im : List ℕ) (l : Layout) (split : Bool) (r number : ℕ) (addend : Option ℕ) → DeedFits (length im) (plan6464 s im l split r number addend)
 unfolding plan6464
@@ -341,13 +331,13 @@ unfolding call_by_name
 call_fits part builtins j len r y start n =
     either len _ _ _ (λ e. function_fits builtins j len _ _ _) (λ e. builtin_fits builtins _ len _ r start n _)
 
-named_fits : (s builtins : List ℕ) (j : Job) (len r : ℕ) (y : Elf64Sym) (p : Place) → DeedFits len (named_call s builtins j len r y p)
-named_fits s builtins j len r y (Stands start n) = call_fits _ builtins j len r y start n
-named_fits s builtins j len r y (NoPlace e) = tt
+named_fits : (s builtins : List ℕ) (j : Job) (len r : ℕ) (y : Elf64Sym) (p : Result Place ElfParserError) → DeedFits len (named_call s builtins j len r y p)
+named_fits s builtins j len r y (Ok p) = call_fits _ builtins j len r y p.start p.length
+named_fits s builtins j len r y (Err e) = tt
 
-called_fits : (s builtins : List ℕ) (j : Job) (len r number : ℕ) (y : Sym) → DeedFits len (symbol_call s builtins j len r number y)
-called_fits s builtins j len r number (Symbol y) = named_fits s builtins j len r y (dynamic_symbol_name s j.layout y.st_name)
-called_fits s builtins j len r number (NoSym e) = tt
+called_fits : (s builtins : List ℕ) (j : Job) (len r number : ℕ) (y : Result Elf64Sym ElfParserError) → DeedFits len (symbol_call s builtins j len r number y)
+called_fits s builtins j len r number (Ok y) = named_fits s builtins j len r y (dynamic_symbol_name s j.layout y.st_name)
+called_fits s builtins j len r number (Err e) = tt
 
 fits6432 : (s builtins : List ℕ) (j : Job) (len r number : ℕ) → DeedFits len (plan6432 s builtins j len r number)
 unfolding plan6432
@@ -366,14 +356,5 @@ plan_fits s im builtins j (Some r) info addend = at_fits s im builtins j r info 
 plan_fits s im builtins j None info addend = tt
 
 -- a parsed file has few relocations
-steps_few : (s : List ℕ) (l : Layout) (x : Steps s l) (k : Layout)
-    → File k ≡ layout_of (file_header s) ((file_header s).e_shoff + (file_header s).e_shstrndx * 64) x.found (Links x.linked)
-    → (16 * k.dynamic_relocations.count ≤ length s) × (24 * k.dynamic_relas.count ≤ length s)
-steps_few s l x k e =
-    let p : k.dynamic_relocations ≡ x.linked.relocations = cc in
-    let q : k.dynamic_relas ≡ x.linked.relas = cc in
-    let inside = linked_inside s (tables_of (file_header s)) x.linked x.links in
-    (rw p (omega (arith, inside.relocations)), rw q (omega (arith, inside.relas)))
-
-pub few_relocations : (s : List ℕ) (l : Layout) → parsed s ≡ File l → (16 * l.dynamic_relocations.count ≤ length s) × (24 * l.dynamic_relas.count ≤ length s)
-few_relocations s l e = let x = parse_steps s l e in steps_few s l x l x.layout
+pub few_relocations : (s : List ℕ) (l : Layout) → parsed s ≡ Ok l → (16 * l.dynamic_relocations.count ≤ length s) × (24 * l.dynamic_relas.count ≤ length s)
+few_relocations s l e = let x = sound s l e in (x.relocations, x.relas)

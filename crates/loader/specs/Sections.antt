@@ -4,21 +4,21 @@ use Rattle.std.proofs.Common.{arith}
 use Rattle.ebpf.specs.Choice.{◌if◌else◌, past_word}
 use Rattle.elf_parser.specs.declared.layout.Layout.{Layout}
 use Rattle.elf_parser.specs.declared.types.Elf64Shdr.{Elf64Shdr}
-use Rattle.elf_parser.specs.declared.records.Shdr.{Shdr}
-use Rattle.elf_parser.specs.declared.records.Shdr.TheVariants.{Header, Refused}
 use Rattle.elf_parser.specs.Records.{section_header_of}
 use Rattle.elf_parser.specs.Names.{section_name}
 use Rattle.elf_parser.specs.Parts.{part_of}
 use Rattle.elf_parser.specs.SectionNames.{same_bytes}
 use Rattle.loader.specs.declared.sections.Survey.{Survey}
+use Rattle.std.specs.Prelude.{Result, Ok, Err}
+use Rattle.elf_parser.specs.declared.error.ElfParserError.{ElfParserError}
 
 -- a header with nothing in it
 abbrev pub blank : Elf64Shdr
 blank = record { sh_name = 0; sh_type = 0; sh_flags = 0; sh_addr = 0; sh_offset = 0; sh_size = 0 }
 
-abbrev pub header_or : Shdr → Elf64Shdr
-header_or (Header h) = h
-header_or (Refused r) = blank
+abbrev pub header_or : Result Elf64Shdr ElfParserError → Elf64Shdr
+header_or (Ok h) = h
+header_or (Err r) = blank
 
 -- the section number i
 unfoldable pub section_at : List ℕ → Layout → ℕ → Elf64Shdr
@@ -89,6 +89,18 @@ abbrev pub survey : List ℕ → Layout → ℕ → Survey
 survey s l count = survey_from s l count 0 no_survey
 
 -- ---- laws
+
+-- the library's test of a name's front
+same_swapped : (a b : List ℕ) → pointwise nat_eq a b ≡ same_bytes b a
+unfolding same_bytes
+same_swapped [] [] = refl
+same_swapped [] (y ∷ ys) = refl
+same_swapped (x ∷ xs) [] = refl
+same_swapped (x ∷ xs) (y ∷ ys) = rw (same_swapped xs ys) (ap (λ t. t && same_bytes ys xs) (eqb-sym x y))
+
+pub front_tested : (name prefix : List ℕ) → pointwise nat_eq prefix (take (length prefix) name) ≡ starts_with name prefix
+unfolding starts_with
+front_tested name prefix = same_swapped prefix (take (length prefix) name)
 
 pub survey_next : (s : List ℕ) (l : Layout) (n i : ℕ) (v : Survey) → 0 < n → survey_from s l n i v ≡ survey_from s l (n - 1) (i + 1) (survey_step s l i v)
 unfolding survey_from

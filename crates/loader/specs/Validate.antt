@@ -5,10 +5,6 @@ use Rattle.elf_parser.specs.declared.error.ElfParserError.TheVariants.{InvalidPr
 use Rattle.elf_parser.specs.declared.types.Elf64Ehdr.{Elf64Ehdr}
 use Rattle.elf_parser.specs.declared.types.Elf64Shdr.{Elf64Shdr}
 use Rattle.elf_parser.specs.declared.layout.Layout.{Layout}
-use Rattle.elf_parser.specs.declared.layout.Parsed.{Parsed}
-use Rattle.elf_parser.specs.declared.layout.Parsed.TheVariants.{File, Refused as NoFile}
-use Rattle.elf_parser.specs.declared.parts.Place.{Place}
-use Rattle.elf_parser.specs.declared.parts.Place.TheVariants.{At, Refused as NoPlace}
 use Rattle.elf_parser.specs.Types.{file_header, SHT_NOBITS}
 use Rattle.elf_parser.specs.Names.{section_name}
 use Rattle.elf_parser.specs.Parse.{parsed}
@@ -23,6 +19,9 @@ use Rattle.loader.specs.Errors.{from_parser}
 use Rattle.loader.specs.Sections.{section_at, survey}
 use Rattle.loader.specs.Addresses.{sum_up_to, machine_addr, MM_STACK_START}
 use Rattle.loader.specs.ReadOnly.{placing}
+use Rattle.elf_parser.specs.declared.error.ElfParserError.{ElfParserError}
+use Rattle.elf_parser.specs.declared.parts.Place.{Place}
+use Rattle.elf_parser.specs.Parts.{stands}
 
 -- 40 and 41
 unfoldable pub size_check : ℕ → ℕ → ℕ → Result (Unit {0}) ElfError
@@ -50,9 +49,9 @@ header_check h c version2 =
     Err (FailedToParse InvalidProgramHeader) if version2 && leb 10 h.e_phnum else
     Ok tt
 
-abbrev pub writable_by : Place → ElfError
-writable_by (At start n) = WritableSectionNotSupported start n
-writable_by (NoPlace r) = WritableSectionNotSupported 0 0
+abbrev pub writable_by : Result Place ElfParserError → ElfError
+writable_by (Ok p) = WritableSectionNotSupported p.start p.length
+writable_by (Err r) = WritableSectionNotSupported 0 0
 
 abbrev pub writable_error : List ℕ → Layout → ℕ → ElfError
 writable_error s l sh-name = writable_by (section_name s l sh-name)
@@ -112,9 +111,9 @@ validated s c l =
     file_check s c l h (is_version2 h) v
     then Ok (job_of c (is_version2 h) l h.e_entry (section_at s l v.text) (placing s l count (is_version2 h) c.reject_broken_elfs c.optimize_rodata))
 
-abbrev pub parsed_then : List ℕ → Config → Parsed → Result Job ElfError
-parsed_then s c (NoFile e) = Err (from_parser e)
-parsed_then s c (File l) = validated s c l
+abbrev pub parsed_then : List ℕ → Config → Result Layout ElfParserError → Result Job ElfError
+parsed_then s c (Err e) = Err (from_parser e)
+parsed_then s c (Ok l) = validated s c l
 
 unfoldable pub prepared : List ℕ → List ℕ → Config → ℕ → ℕ → Result Job ElfError
 prepared s builtins c image ro =

@@ -4,17 +4,13 @@ use Rattle.ebpf.specs.Choice.{◌if◌else◌}
 use Rattle.ebpf.specs.Instructions.{insn_at, slot_at}
 use Rattle.ebpf.specs.LittleEndian.{le, bytes_of}
 use Rattle.ebpf.specs.Murmur3.{body, murmur3}
-use Rattle.elf_parser.specs.declared.error.Check.{Check}
-use Rattle.elf_parser.specs.declared.error.Check.TheVariants.{Pass, Refused}
 use Rattle.elf_parser.specs.declared.error.Report.{Report}
-use Rattle.elf_parser.specs.declared.parts.Place.{Place}
-use Rattle.elf_parser.specs.declared.parts.Place.TheVariants.{At as Stands, Refused as NoPlace}
 use Rattle.elf_parser.specs.declared.section_headers.Ranges.{Ranges}
 use Rattle.elf_parser.specs.declared.types.Elf64Shdr.{Elf64Shdr}
 use Rattle.elf_parser.specs.Errors as parser
 use Rattle.elf_parser.specs.Records.{entry_at}
 use Rattle.elf_parser.specs.SectionHeaders.{section_check}
-use Rattle.elf_parser.specs.Strings.{string_in, string_check, gives, terminated, no_zero, before_zero}
+use Rattle.elf_parser.specs.Strings.{string_in, string_check, terminated, no_zero, before_zero}
 use Rattle.elf_parser.specs.Types.{rel, sym}
 use Rattle.program.specs.HashedLegacy.{legacy_row, legacy_key, is_taken}
 use Rattle.loader.specs.declared.deeds.Deed.{Deed}
@@ -26,6 +22,10 @@ use Rattle.loader.specs.Calls.{inside, target, is_local_call, call_of, call_at, 
 use Rattle.loader.specs.Functions.{row_for}
 use Rattle.loader.specs.Relocations.{relocation_at, used_before, used_header, place_of, plan_at, plan6464, address_deed, halves_deed, word_deed, plan_relative, relative_text, immediate_at, program_address, within}
 use Rattle.loader.specs.RelocationExamples.{layout, job, image, zeros, asked}
+use Rattle.elf_parser.specs.declared.error.ElfParserError.{ElfParserError}
+use Rattle.elf_parser.specs.Errors.{Check}
+use Rattle.elf_parser.specs.declared.parts.Place.{Place}
+use Rattle.elf_parser.specs.Parts.{stands}
 
 -- ---- an answer in numbers: a refusal by `report_of`, else 0 and what the example speaks of
 
@@ -33,13 +33,13 @@ abbrev reported : Report → List ℕ
 reported r = r.number ∷ r.value ∷ r.start ∷ r.length ∷ []
 
 -- where a name stands, and its length
-abbrev of_place : Place → List ℕ
-of_place (Stands start n) = 0 ∷ start ∷ n ∷ []
-of_place (NoPlace e) = reported (parser.report_of e)
+abbrev of_place : Result Place ElfParserError → List ℕ
+of_place (Ok p) = 0 ∷ p.start ∷ p.length ∷ []
+of_place (Err e) = reported (parser.report_of e)
 
 abbrev of_check : Check → List ℕ
-of_check Pass = 0 ∷ []
-of_check (Refused e) = reported (parser.report_of e)
+of_check (Ok tt) = 0 ∷ []
+of_check (Err e) = reported (parser.report_of e)
 
 -- the index that a call goes to; the two halves that are written; nothing
 abbrev of_deed : Result Deed ElfError → List ℕ
@@ -126,5 +126,5 @@ worked :
     ∷ (30 ∷ 0 ∷ 0 ∷ 0 ∷ [])
     ∷ (7 ∷ 0 ∷ 0 ∷ 0 ∷ [])
     ∷ []
-unfolding murmur3 body string_in string_check gives terminated no_zero before_zero call_deed call_at insn_at slot_at call_of is_local_call target inside row_for legacy_row legacy_key is_taken relocation_at used_before used_header place_of plan_at plan6464 address_deed halves_deed word_deed plan_relative relative_text immediate_at program_address within section_check entry_at rel sym ◌if◌else◌ le bytes_of
+unfolding murmur3 body string_in string_check terminated no_zero before_zero call_deed call_at insn_at slot_at call_of is_local_call target inside row_for legacy_row legacy_key is_taken relocation_at used_before used_header place_of plan_at plan6464 address_deed halves_deed word_deed plan_relative relative_text immediate_at program_address within section_check entry_at rel sym ◌if◌else◌ le bytes_of
 worked = refl

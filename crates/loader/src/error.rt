@@ -87,7 +87,7 @@ pub fn report_of(e: ElfError) -> Report
     ensures { result ≡ report_of e }
 {
     match e {
-        ElfError::FailedToParse(p) => elf_parser::report_of(p),
+        ElfError::FailedToParse(p) => Report::from(p),
         ElfError::EntrypointOutOfBounds => with_value(20, 0),
         ElfError::InvalidEntrypoint => with_value(21, 0),
         ElfError::UnresolvedSymbol {

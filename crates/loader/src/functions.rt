@@ -3,7 +3,7 @@ ghost use Rattle.std.specs.Prelude.{◌≡◌, ◌≤◌, ◌^◌, length};
 ghost use Rattle.loader.specs.Functions.{Keyed, row_for, symbol_function};
 
 use crate::validate::Job;
-use elf_parser::same_bytes;
+use elf_parser::Place;
 use program::{FunctionName, Row, SymbolHashCollision, legacy_row};
 
 // By the lent table of keys, where it is right (`Keyed`).
@@ -29,13 +29,14 @@ pub(crate) fn row_for(
 }
 
 // A name that is a part of the file.
-pub(crate) fn symbol_function(part: &[u8], start: usize, length: usize) -> FunctionName
-    requires { (start ≤ 2 ^ 24) × (length ≤ 64) }
-    ensures { result ≡ symbol_function part.now start length }
+#[tactic(auto, using(elf_parser::specs::SectionNames::same_tested))]
+pub(crate) fn symbol_function(part: &[u8], place: Place) -> FunctionName
+    requires { (place.start ≤ 2 ^ 24) × (place.length ≤ 64) }
+    ensures { result ≡ symbol_function part.now place.start place.length }
 {
     FunctionName::Symbol {
-        start: start as u32,
-        length: length as u32,
-        entrypoint: same_bytes(part, b"entrypoint"),
+        start: place.start as u32,
+        length: place.length as u32,
+        entrypoint: part == b"entrypoint".as_slice(),
     }
 }

@@ -1,10 +1,9 @@
 // What a symbol of .symtab asks for where labels are kept: a function to register.
 ghost use Rattle.std.specs.Prelude.{◌≡◌, ◌≤◌, ◌^◌};
-ghost use Rattle.elf_parser.specs.Records.{symbol_table_of};
 ghost use Rattle.elf_parser.specs.Names.{symbol_name};
 ghost use Rattle.loader.specs.Functions.{Keyed};
 ghost use Rattle.loader.specs.InnerContracts.{InFile};
-ghost use Rattle.loader.specs.Labels.{label_row, label_as, named_label, label_of, label_deed, symbols_by, label_symbols};
+ghost use Rattle.loader.specs.Labels.{label_row, label_as, named_label, label_of, label_deed, label_symbols};
 
 use crate::deeds::Deed;
 use crate::error::ElfError;
@@ -12,7 +11,7 @@ use crate::functions::{row_for, symbol_function};
 use crate::relocations::in_addresses;
 use crate::validate::Job;
 use elf_parser::types::Elf64Sym;
-use elf_parser::{Entries, Layout, Place, Sliced, Sym, part_of, symbol, symbol_name, symbol_table};
+use elf_parser::{Entries, NO_ENTRIES, Place, bytes_at, entry, symbol_name, symbol_table};
 use program::{Row, SymbolHashCollision};
 
 pub(crate) fn label_row(row: Result<Row, SymbolHashCollision>) -> Result<Deed, ElfError>
@@ -24,20 +23,19 @@ pub(crate) fn label_row(row: Result<Row, SymbolHashCollision>) -> Result<Deed, E
     }
 }
 
-// A function whose name is `part`, which stands at `start`.
+// A function whose name is `part`, which stands at `place`.
 fn label_as(
     part: &[u8],
     builtins: &[u32],
     table: &[u32],
     job: Job,
     index: u32,
-    start: usize,
-    length: usize,
+    place: Place,
 ) -> Result<Deed, ElfError>
-    requires { Keyed table.now × (start ≤ 2 ^ 24) × (length ≤ 64) }
-    ensures { result ≡ label_as part.now builtins.now job index start length }
+    requires { Keyed table.now × (place.start ≤ 2 ^ 24) × (place.length ≤ 64) }
+    ensures { result ≡ label_as part.now builtins.now job index place.start place.length }
 {
-    let name = symbol_function(part, start, length);
+    let name = symbol_function(part, place);
     label_row(row_for(table, builtins, job, name, index))
 }
 
@@ -53,13 +51,9 @@ fn named_label(
     requires { InFile file.now job × Keyed table.now }
     ensures { result ≡ named_label file.now builtins.now job index st_name (symbol_name file.now job.layout st_name) }
 {
-    let layout = job.layout;
-    match symbol_name(file, layout, st_name) {
-        Place::At { start, length } => {
-            let part = part_of(file, Place::At { start, length });
-            label_as(part, builtins, table, job, index, start, length)
-        }
-        Place::Refused(_) => Err(ElfError::UnknownSymbol { number: st_name }),
+    match symbol_name(file, job.layout, st_name) {
+        Ok(place) => label_as(bytes_at(file, place), builtins, table, job, index, place),
+        Err(_) => Err(ElfError::UnknownSymbol { number: st_name }),
     }
 }
 
@@ -98,34 +92,22 @@ pub(crate) fn label_deed(
     requires { InFile file.now job × Keyed table.now }
     ensures { result ≡ label_deed file.now builtins.now job symbols index }
 {
-    match symbol(file, symbols, index) {
-        Sym::Symbol(y) => label_of(file, builtins, table, job, y),
-        Sym::Refused(_) => Ok(Deed::Skip),
-    }
-}
-
-fn symbols_of(file: &[u8], layout: Layout) -> Entries
-    ensures { result ≡ symbols_by (symbol_table_of file.now layout) }
-{
-    match symbol_table(file, layout) {
-        Sliced::At(t) => t,
-        Sliced::Refused(_) => Entries {
-            offset: 0,
-            count: 0,
-        },
+    match entry(file, symbols, index) {
+        Ok(y) => label_of(file, builtins, table, job, y),
+        Err(_) => Ok(Deed::Skip),
     }
 }
 
 // The symbols to go through: none where labels are not kept, or the table is unreadable.
+#[tactic(auto, using(ebpf::specs::Choice::choices), unfolding(crate::specs::Labels::label_symbols))]
 pub(crate) fn label_symbols(file: &[u8], job: Job) -> Entries
     ensures { result ≡ label_symbols file.now job }
 {
-    if job.labels {
-        let layout = job.layout;
-        return symbols_of(file, layout);
+    if !job.labels {
+        return NO_ENTRIES;
     }
-    Entries {
-        offset: 0,
-        count: 0,
+    match symbol_table(file, job.layout) {
+        Ok(symbols) => symbols,
+        Err(_) => NO_ENTRIES,
     }
 }

@@ -6,7 +6,7 @@ ghost use Rattle.loader.specs.ReadOnly.{gathered};
 use crate::error::ElfError;
 use crate::read_only::{Extent, gather_next, no_extent};
 use crate::sections::{Survey, no_survey, section_at, survey_next};
-use elf_parser::{Layout, section_name_part};
+use elf_parser::{Layout, part_of, section_name};
 
 #[derive(Clone, Copy)]
 pub struct Overview {
@@ -31,7 +31,7 @@ pub(crate) fn look_over(
     let mut i: u32 = 0;
     while i < count {
         let h = section_at(file, layout, i);
-        let name = section_name_part(file, layout, h.sh_name);
+        let name = part_of(file, section_name(file, layout, h.sh_name));
         let surveyed = survey_next(len, i, h, name, v);
         let gathered = gather_next(file, layout, version2, reject_broken, i, h, name, g);
         v = surveyed;

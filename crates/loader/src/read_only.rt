@@ -8,7 +8,7 @@ use crate::error::ElfError;
 use crate::sections::section_at;
 use ebpf::{MM_PROGRAM_START, MM_STACK_START};
 use elf_parser::types::Elf64Shdr;
-use elf_parser::{Layout, Place, file_range, past, same_bytes, section_name_part};
+use elf_parser::{Layout, file_range, part_of, past, section_name};
 
 #[derive(Clone, Copy)]
 pub enum Placing {
@@ -45,10 +45,10 @@ pub struct Extent {
 fn is_read_only(name: &[u8]) -> bool
     ensures { result ≡ read_only name.now }
 {
-    let text = same_bytes(name, b".text");
-    let rodata = same_bytes(name, b".rodata");
-    let rel = same_bytes(name, b".data.rel.ro");
-    let frame = same_bytes(name, b".eh_frame");
+    let text = (name == b".text".as_slice());
+    let rodata = (name == b".rodata".as_slice());
+    let rel = (name == b".data.rel.ro".as_slice());
+    let frame = (name == b".eh_frame".as_slice());
     (text | rodata) | (rel | frame)
 }
 
@@ -164,10 +164,8 @@ pub(crate) fn gather_next(
         return Ok(x);
     }
     match file_range(file, layout, index) {
-        Place::Refused(_) => Err(ElfError::ValueOutOfBounds),
-        Place::At { start: _, length } => {
-            take_section(version2, reject_broken, index as u64, h, length as u64, x)
-        }
+        Ok(place) => take_section(version2, reject_broken, index as u64, h, place.length as u64, x),
+        Err(_) => Err(ElfError::ValueOutOfBounds),
     }
 }
 
@@ -285,15 +283,12 @@ fn copy_section(ro: &mut [u8], image: &[u8], file: &[u8], layout: Layout, lowest
     ensures { ro.new ≡ copy_step image.now file.now layout lowest index ro.old }
 {
     let h = section_at(file, layout, index);
-    if !is_read_only(section_name_part(file, layout, h.sh_name)) {
+    if !is_read_only(part_of(file, section_name(file, layout, h.sh_name))) {
         return;
     }
     let at = h.sh_addr.saturating_sub(lowest);
-    match file_range(file, layout, index) {
-        Place::Refused(_) => {}
-        Place::At { start, length } => {
-            copy_inside(ro, image, at, start, length);
-        }
+    if let Ok(place) = file_range(file, layout, index) {
+        copy_inside(ro, image, at, place.start, place.length);
     }
 }
 

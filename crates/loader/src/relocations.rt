@@ -18,8 +18,8 @@ use ebpf::little_endian::read;
 use ebpf::{MM_PROGRAM_START, hash_symbol_name};
 use elf_parser::types::Elf64Sym;
 use elf_parser::{
-    Layout, Phdr, Place, Rel, Rela, Sym, dynamic_rela, dynamic_relocation, dynamic_symbol,
-    dynamic_symbol_name, part_of, past, program_header,
+    Layout, Place, bytes_at, dynamic_rela, dynamic_relocation, dynamic_symbol, dynamic_symbol_name,
+    past, program_header,
 };
 use program::{FunctionName, Row, SymbolHashCollision, is_builtin};
 
@@ -43,12 +43,12 @@ fn plain_relocation(file: &[u8], layout: Layout, index: u32) -> Relocation
     ensures { result ≡ relocation_or (dynamic_relocation_of file.now layout index) }
 {
     match dynamic_relocation(file, layout, index) {
-        Rel::Relocation(r) => Relocation {
+        Ok(r) => Relocation {
             r_offset: r.r_offset,
             r_info: r.r_info,
             addend: None,
         },
-        Rel::Refused(_) => Relocation {
+        Err(_) => Relocation {
             r_offset: 0,
             r_info: 0,
             addend: None,
@@ -62,12 +62,12 @@ fn addend_relocation(file: &[u8], layout: Layout, index: u32) -> Relocation
     ensures { result ≡ rela_or (dynamic_rela_of file.now layout index) }
 {
     match dynamic_rela(file, layout, index) {
-        Rela::Relocation(r) => Relocation {
+        Ok(r) => Relocation {
             r_offset: r.r_offset,
             r_info: r.r_info,
             addend: Some(r.r_addend),
         },
-        Rela::Refused(_) => Relocation {
+        Err(_) => Relocation {
             r_offset: 0,
             r_info: 0,
             addend: None,
@@ -103,12 +103,12 @@ fn header_at(file: &[u8], layout: Layout, index: u32) -> Option<UsedHeader>
     ensures { result ≡ header_at file.now layout index }
 {
     match program_header(file, layout, index) {
-        Phdr::Header(h) => Some(UsedHeader {
+        Ok(h) => Some(UsedHeader {
             p_vaddr: h.p_vaddr,
             end: h.p_vaddr.saturating_add(h.p_memsz),
             p_offset: h.p_offset,
         }),
-        Phdr::Refused(_) => None,
+        Err(_) => None,
     }
 }
 
@@ -252,13 +252,13 @@ fn symbol_deed(
     ensures { result ≡ symbol_deed len split at addend number (dynamic_symbol_of file.now layout number) }
 {
     match dynamic_symbol(file, layout, number) {
-        Sym::Symbol(y) => address_deed(
+        Ok(y) => address_deed(
             len,
             split,
             at,
             program_address(y.st_value.saturating_add(addend)),
         ),
-        Sym::Refused(_) => Err(ElfError::UnknownSymbol { number }),
+        Err(_) => Err(ElfError::UnknownSymbol { number }),
     }
 }
 
@@ -421,17 +421,16 @@ fn builtin_call(
     len: u64,
     at: u64,
     r: u64,
-    start: usize,
-    length: usize,
+    place: Place,
     hash: u32,
 ) -> Result<Deed, ElfError>
-    ensures { result ≡ builtin_call builtins.now reject_broken len at r start length hash }
+    ensures { result ≡ builtin_call builtins.now reject_broken len at r place.start place.length hash }
 {
     let known = is_builtin(builtins, hash);
     if reject_broken & !known {
         return Err(ElfError::UnresolvedSymbol {
-            start,
-            length,
+            start: place.start,
+            length: place.length,
             offset: r,
         });
     }
@@ -444,7 +443,7 @@ fn builtin_call(
     })
 }
 
-// A call of a symbol whose name is `part`, which stands at `start`.
+// A call of a symbol whose name is `part`, which stands at `place`.
 fn call_by_name(
     part: &[u8],
     builtins: &[u32],
@@ -453,20 +452,19 @@ fn call_by_name(
     len: u64,
     r: u64,
     y: Elf64Sym,
-    start: usize,
-    length: usize,
+    place: Place,
 ) -> Result<Deed, ElfError>
-    requires { Keyed table.now × (job.sh_size ≤ 2 ^ 24) × (start ≤ 2 ^ 24) × (length ≤ 64) }
-    ensures { result ≡ call_by_name part.now builtins.now job len r y start length }
+    requires { Keyed table.now × (job.sh_size ≤ 2 ^ 24) × (place.start ≤ 2 ^ 24) × (place.length ≤ 64) }
+    ensures { result ≡ call_by_name part.now builtins.now job len r y place.start place.length }
 {
     let at = immediate_at(r);
     let st_value = y.st_value;
     if (y.st_info % 16 == 2) & (st_value != 0) {
-        let name = symbol_function(part, start, length);
+        let name = symbol_function(part, place);
         return function_call(builtins, table, job, len, at, name, st_value);
     }
     let hash = hash_symbol_name(part);
-    builtin_call(builtins, job.reject_broken, len, at, r, start, length, hash)
+    builtin_call(builtins, job.reject_broken, len, at, r, place, hash)
 }
 
 // A call of a symbol.
@@ -482,14 +480,13 @@ fn named_call(
     requires { InFile file.now job × Keyed table.now }
     ensures { result ≡ named_call file.now builtins.now job len r y (dynamic_symbol_name file.now job.layout y.st_name) }
 {
-    let layout = job.layout;
-    let st_name = y.st_name;
-    match dynamic_symbol_name(file, layout, st_name) {
-        Place::At { start, length } => {
-            let part = part_of(file, Place::At { start, length });
-            call_by_name(part, builtins, table, job, len, r, y, start, length)
+    let number = y.st_name;
+    match dynamic_symbol_name(file, job.layout, number) {
+        Ok(place) => {
+            let part = bytes_at(file, place);
+            call_by_name(part, builtins, table, job, len, r, y, place)
         }
-        Place::Refused(_) => Err(ElfError::UnknownSymbol { number: st_name }),
+        Err(_) => Err(ElfError::UnknownSymbol { number }),
     }
 }
 
@@ -506,10 +503,9 @@ fn plan_64_32(
     requires { InFile file.now job × Keyed table.now }
     ensures { result ≡ plan6432 file.now builtins.now job len r number }
 {
-    let layout = job.layout;
-    match dynamic_symbol(file, layout, number) {
-        Sym::Symbol(y) => named_call(file, builtins, table, job, len, r, y),
-        Sym::Refused(_) => Err(ElfError::UnknownSymbol { number }),
+    match dynamic_symbol(file, job.layout, number) {
+        Ok(y) => named_call(file, builtins, table, job, len, r, y),
+        Err(_) => Err(ElfError::UnknownSymbol { number }),
     }
 }
 

@@ -4,33 +4,34 @@ ghost use Rattle.loader.specs.Sections.{section_at, starts_with, unsupported, ou
 
 use crate::addresses::pick;
 use elf_parser::types::Elf64Shdr;
-use elf_parser::{Layout, Shdr, same_bytes, section_header};
+use elf_parser::{Layout, section_header};
+
+// A header with nothing in it.
+const BLANK: Elf64Shdr = Elf64Shdr {
+    sh_name: 0,
+    sh_type: 0,
+    sh_flags: 0,
+    sh_addr: 0,
+    sh_offset: 0,
+    sh_size: 0,
+};
 
 // The section number `index`; a blank one where there is none.
+#[tactic(auto, unfolding(crate::specs::Sections::section_at))]
 pub(crate) fn section_at(file: &[u8], layout: Layout, index: u32) -> Elf64Shdr
     ensures { result ≡ section_at file.now layout index }
 {
     match section_header(file, layout, index) {
-        Shdr::Header(h) => h,
-        Shdr::Refused(_) => Elf64Shdr {
-            sh_name: 0,
-            sh_type: 0,
-            sh_flags: 0,
-            sh_addr: 0,
-            sh_offset: 0,
-            sh_size: 0,
-        },
+        Ok(h) => h,
+        Err(_) => BLANK,
     }
 }
 
+#[tactic(auto, using(crate::specs::Sections::front_tested))]
 fn starts_with(name: &[u8], prefix: &[u8]) -> bool
     ensures { result ≡ starts_with name.now prefix.now }
 {
-    let n = prefix.len();
-    if name.len() < n {
-        return false;
-    }
-    same_bytes(&name[..n], prefix)
+    name.starts_with(prefix)
 }
 
 // Whether a section of that name and those flags is not supported: a name that starts with .bss, or
@@ -48,10 +49,10 @@ fn is_unsupported(name: &[u8], sh_flags: u64) -> bool
 fn outside_file(len: u64, sh_offset: u64, sh_size: u64) -> bool
     ensures { result ≡ outside_file len sh_offset sh_size }
 {
-    if 0xffff_ffff_ffff_ffff - sh_offset < sh_size {
-        return true;
+    match sh_offset.checked_add(sh_size) {
+        Some(end) => len < end,
+        None => true,
     }
-    len < sh_offset + sh_size
 }
 
 // What is known of the sections so far: how many are named .text, and the first of them; whether
@@ -83,7 +84,7 @@ pub(crate) fn survey_next(len: u64, index: u32, h: Elf64Shdr, name: &[u8], v: Su
     requires { (v.texts ≤ index) × (index < 65536) }
     ensures { result ≡ survey_named len index h name.now v }
 {
-    let is_text = same_bytes(name, b".text");
+    let is_text = name == b".text".as_slice();
     let bad = is_unsupported(name, h.sh_flags);
     let outside = outside_file(len, h.sh_offset, h.sh_size);
     let first = v.texts == 0;

@@ -11,7 +11,7 @@ use crate::sections::{Survey, section_at};
 use ebpf::{EF_SBPF_V2, MM_STACK_START};
 use elf_parser::consts::{EM_BPF, EM_SBPF, ET_DYN, SHT_NOBITS};
 use elf_parser::types::{Elf64Ehdr, Elf64Shdr};
-use elf_parser::{ElfParserError, Layout, Parsed, Place, file_header, parse, section_name};
+use elf_parser::{ElfParserError, Layout, file_header, parse, section_name};
 
 // The settings of a load, under the Rust's names.
 #[derive(Clone, Copy)]
@@ -109,8 +109,11 @@ fn writable_error(file: &[u8], layout: Layout, sh_name: u32) -> ElfError
     ensures { result ≡ writable_error file.now layout sh_name }
 {
     match section_name(file, layout, sh_name) {
-        Place::At { start, length } => ElfError::WritableSectionNotSupported { start, length },
-        Place::Refused(_) => ElfError::WritableSectionNotSupported {
+        Ok(place) => ElfError::WritableSectionNotSupported {
+            start: place.start,
+            length: place.length,
+        },
+        Err(_) => ElfError::WritableSectionNotSupported {
             start: 0,
             length: 0,
         },
@@ -252,8 +255,5 @@ pub(crate) fn prepare(
     if !is_ascending(builtins) {
         return Err(ElfError::BuiltinsNotAscending);
     }
-    match parse(file) {
-        Parsed::Refused(e) => Err(ElfError::from(e)),
-        Parsed::File(layout) => validate(file, c, layout),
-    }
+    validate(file, c, parse(file)?)
 }

@@ -11,8 +11,6 @@ use Rattle.ebpf.specs.Choice.{◌if◌else◌, not_first, row_rest, row_cases}
 use Rattle.program.specs.declared.Row.{Row}
 use Rattle.program.proofs.Cases.{zero_one}
 use Rattle.elf_parser.specs.declared.layout.Layout.{Layout}
-use Rattle.elf_parser.specs.declared.layout.Parsed.{Parsed}
-use Rattle.elf_parser.specs.declared.layout.Parsed.TheVariants.{File as Reads, Refused as NoFile}
 use Rattle.elf_parser.specs.declared.types.Elf64Ehdr.{Elf64Ehdr}
 use Rattle.elf_parser.specs.Parse.{parsed}
 use Rattle.elf_parser.specs.Sound.{parse_steps}
@@ -41,12 +39,13 @@ use Rattle.writers.specs.declared.text.TextOf.TheVariants.{Is}
 use Rattle.writers.specs.Asked.{text_in, text_of, asked}
 use Rattle.writers.specs.Writers.{writer_of, wrote_by, wrote_of}
 use Rattle.writers.proofs.Writing.{text_is, writer_named, unwritten}
+use Rattle.elf_parser.specs.declared.error.ElfParserError.{ElfParserError}
 
 -- ---- what the checks ahead of a load read
 
 -- the layout is the file's, and in version 2 it has few program headers
 pub record Read (s : List ℕ) (j : Job) : Type 0 where
-  pub layout_is : parsed s ≡ Reads j.layout
+  pub layout_is : parsed s ≡ Ok j.layout
   pub few : (j.version2 && leb 10 (file_header s).e_phnum) ≡ false
 
 header_passes : (h : Elf64Ehdr) (c : Config) (version2 : Bool) → header_check h c version2 ≡ Ok tt → (version2 && leb 10 h.e_phnum) ≡ false
@@ -60,7 +59,7 @@ header_passes h c version2 e =
     let e7 = row_rest _ _ _ _ (not_ok _ _) e6 in
     not_first _ _ _ _ (not_ok _ _) e7
 
-validated_read : (s : List ℕ) (c : Config) (l : Layout) (j : Job) → parsed s ≡ Reads l → validated s c l ≡ Ok j → Read s j
+validated_read : (s : List ℕ) (c : Config) (l : Layout) (j : Job) → parsed s ≡ Ok l → validated s c l ≡ Ok j → Read s j
 unfolding validated job_of
 validated_read s c l j q e =
     let h = file_header s in
@@ -71,9 +70,9 @@ validated_read s c l j q e =
     let is : job_of c (is_version2 h) l h.e_entry text place ≡ j = done.1 in
     rw (← is) (record { layout_is = q; few = header_passes h c (is_version2 h) (then_both (header_check h c (is_version2 h)) _ tt done.0).0 })
 
-parsed_read : (s : List ℕ) (c : Config) (p : Parsed) (j : Job) → parsed s ≡ p → parsed_then s c p ≡ Ok j → Read s j
-parsed_read s c (NoFile r) j q e = absurd (not_ok _ _ e)
-parsed_read s c (Reads l) j q e = validated_read s c l j q e
+parsed_read : (s : List ℕ) (c : Config) (p : Result Layout ElfParserError) (j : Job) → parsed s ≡ p → parsed_then s c p ≡ Ok j → Read s j
+parsed_read s c (Err r) j q e = absurd (not_ok _ _ e)
+parsed_read s c (Ok l) j q e = validated_read s c l j q e
 
 was_read : (s builtins : List ℕ) (c : Config) (image ro : ℕ) (j : Job) → prepared s builtins c image ro ≡ Ok j → Read s j
 unfolding prepared
@@ -82,11 +81,11 @@ was_read s builtins c image ro j e =
     parsed_read s c (parsed s) j refl (row_rest _ _ _ _ (not_ok _ _) w.1)
 
 -- as many as e_phnum says
-abbrev count_read : Parsed → ℕ
-count_read (Reads l) = l.program_headers.count
-count_read (NoFile e) = 0
+abbrev count_read : Result Layout ElfParserError → ℕ
+count_read (Ok l) = l.program_headers.count
+count_read (Err e) = 0
 
-headers_counted : (s : List ℕ) (l : Layout) → parsed s ≡ Reads l → l.program_headers.count ≡ (file_header s).e_phnum
+headers_counted : (s : List ℕ) (l : Layout) → parsed s ≡ Ok l → l.program_headers.count ≡ (file_header s).e_phnum
 unfolding file_header
 headers_counted s l e = ap count_read (parse_steps s l e).layout
 

@@ -9,8 +9,6 @@ use borrow.Author.Tests.{ltb-false, lt-ltb, le-ltb}
 use Rattle.ebpf.specs.Choice.{◌if◌else◌, yes as picks, no_go, not_first, row_rest}
 use Rattle.program.proofs.Cases.{by_test, zero_one}
 use Rattle.elf_parser.specs.declared.layout.Layout.{Layout}
-use Rattle.elf_parser.specs.declared.layout.Parsed.{Parsed}
-use Rattle.elf_parser.specs.declared.layout.Parsed.TheVariants.{File, Refused as NoFile}
 use Rattle.elf_parser.specs.Parse.{parsed}
 use Rattle.loader.specs.declared.error.ElfError.{ElfError}
 use Rattle.loader.specs.declared.error.ElfError.TheVariants.{BufferShort}
@@ -24,6 +22,8 @@ use Rattle.writers.specs.Named.{by_names}
 use Rattle.writers.specs.Asked.{text_in, text_by, text_of, asked_in, Askable}
 use Rattle.writers.specs.Whole.{code_of, code_by, filled_in, OnlyZeros}
 use Rattle.writers.proofs.Marking.{only_zero}
+use Rattle.std.specs.Prelude.{Result, Ok, Err}
+use Rattle.elf_parser.specs.declared.error.ElfParserError.{ElfParserError}
 
 -- ---- the text of a file
 
@@ -31,7 +31,7 @@ no_text : (r : ElfError) (t : Text) → NoText r ≡ Is t → ⊥
 no_text r t e = zero_one (cc)
 
 module _ (file : List ℕ) (version2 : Bool) (start n : ℕ) (t : Text) (short : length file ≤ 2 ^ 24) (inside : start + n ≤ length file) where
-  askable_in : (l : Layout) → parsed file ≡ File l → text_in l version2 start n ≡ Is t → Askable file t
+  askable_in : (l : Layout) → parsed file ≡ Ok l → text_in l version2 start n ≡ Is t → Askable file t
   unfolding text_in
   askable_in l q e =
       let x : Text = record { layout = l; version2 = version2; start = start; length = n } in
@@ -40,9 +40,9 @@ module _ (file : List ℕ) (version2 : Bool) (start n : ℕ) (t : Text) (short :
       let few = few_relocations file l q in
       subst (Askable file) is (record { short = short; text = inside; relocations = few.0; relas = few.1 })
 
-  askable_by : (p : Parsed) → parsed file ≡ p → text_by p version2 start n ≡ Is t → Askable file t
-  askable_by (NoFile r) q e = absurd (no_text _ t e)
-  askable_by (File l) q e = askable_in l q e
+  askable_by : (p : Result Layout ElfParserError) → parsed file ≡ p → text_by p version2 start n ≡ Is t → Askable file t
+  askable_by (Err r) q e = absurd (no_text _ t e)
+  askable_by (Ok l) q e = askable_in l q e
 
 pub askable : (file : List ℕ) (version2 : Bool) (start n : ℕ) (t : Text) → text_of file version2 start n ≡ Is t → Askable file t
 unfolding text_of

@@ -3,8 +3,6 @@ use Rattle.std.specs.Prelude.{ℕ, ◌+◌, ◌*◌, ◌≤◌, ◌^◌, Bool, �
 use Rattle.ebpf.specs.Choice.{◌if◌else◌}
 use Rattle.elf_parser.specs.declared.error.ElfParserError.TheVariants.{InvalidProgramHeader}
 use Rattle.elf_parser.specs.declared.layout.Layout.{Layout}
-use Rattle.elf_parser.specs.declared.layout.Parsed.{Parsed}
-use Rattle.elf_parser.specs.declared.layout.Parsed.TheVariants.{File, Refused as NoFile}
 use Rattle.elf_parser.specs.Parse.{parsed}
 use Rattle.loader.specs.declared.error.ElfError.{ElfError}
 use Rattle.loader.specs.declared.answer.Accepted.{Accepted}
@@ -16,6 +14,7 @@ use Rattle.writers.specs.declared.text.Text.{Text}
 use Rattle.writers.specs.declared.text.TextOf.{TextOf}
 use Rattle.writers.specs.declared.text.TextOf.TheVariants.{Is, Refused as NoText}
 use Rattle.writers.specs.Named.{by_names}
+use Rattle.elf_parser.specs.declared.error.ElfParserError.{ElfParserError}
 
 -- version 2 has at most nine program headers
 unfoldable pub text_in : Layout → Bool → ℕ → ℕ → TextOf
@@ -23,9 +22,9 @@ text_in l version2 start n =
     NoText (FailedToParse InvalidProgramHeader) if version2 && leb 10 l.program_headers.count else
     Is (record { layout = l; version2 = version2; start = start; length = n })
 
-abbrev pub text_by : Parsed → Bool → ℕ → ℕ → TextOf
-text_by (NoFile e) version2 start n = NoText (from_parser e)
-text_by (File l) version2 start n = text_in l version2 start n
+abbrev pub text_by : Result Layout ElfParserError → Bool → ℕ → ℕ → TextOf
+text_by (Err e) version2 start n = NoText (from_parser e)
+text_by (Ok l) version2 start n = text_in l version2 start n
 
 -- by the version, and the text's place and length in the file; refused where no load of this file can have given these: the file is too long, the text
 -- is not in it, or it can't be read
