@@ -17,8 +17,8 @@ use Rattle.loader.specs.Errors as load
 use Rattle.loader.specs.Load.{load_of_lent, answer_of}
 use Rattle.loader.specs.Loads.{Loads}
 use Rattle.exports.specs.declared.answers.Answer.{Answer}
-use Rattle.elf_parser.specs.declared.parts.Place.{Place}
 use Rattle.elf_parser.specs.declared.records.Entries.{Entries}
+use Rattle.elf_parser.specs.declared.parts.Place.{Place}
 
 -- the words of an answer, all 24
 abbrev pub words_of : Answer → List ℕ

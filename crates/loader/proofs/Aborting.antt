@@ -18,7 +18,8 @@ use Rattle.elf_parser.specs.declared.types.Elf64Shdr.{Elf64Shdr}
 use Rattle.elf_parser.specs.declared.layout.Layout.{Layout}
 use Rattle.elf_parser.specs.Types.{file_header, SHT_NOBITS}
 use Rattle.elf_parser.specs.Parse.{parsed}
-use Rattle.elf_parser.specs.Records.{range_by, section_header_of, file_range_of, range_stands}
+use Rattle.elf_parser.specs.Errors.{and_then}
+use Rattle.elf_parser.specs.Records.{file_range, section_header_of, file_range_of, range_stands}
 use Rattle.elf_parser.specs.SectionNames.{same_bytes}
 use Rattle.program.proofs.Cases.{by_test, by_le}
 use Rattle.loader.specs.declared.read_only.Placing.TheVariants.{Borrowed, Owned}
@@ -33,7 +34,7 @@ use Rattle.loader.specs.declared.validate.Job.{Job}
 use Rattle.loader.specs.Results.{not_ok, ◌then◌, then_both, then_ok}
 use Rattle.loader.specs.Addresses.{sum_up_to, machine_addr, MM_PROGRAM_START, MM_STACK_START}
 use Rattle.loader.specs.Sections.{header_or, section_at, name_of, dot_text, outside_file, survey_step, survey_from, no_survey, survey}
-use Rattle.loader.specs.ReadOnly.{read_only, gather_by, gathered, from_start, placing}
+use Rattle.loader.specs.ReadOnly.{read_only, gathered, from_start, placing}
 use Rattle.loader.specs.Placed.{owned_fits, owned_room}
 use Rattle.loader.specs.Validate.{size_check, ascends, header_check, sections_check, text_check, job_of, file_check, is_version2, validated, parsed_then, prepared}
 use Rattle.loader.specs.GetBytes.{text_at, bytes_at, text_place, ro_place, lent_for, ro_of, text_place_of}
@@ -88,7 +89,7 @@ text_read_only name e = rw e refl
 -- ---- the text's bytes have a place: no section without a header holds the entry
 
 text_stands : (len e : ℕ) (h : Result Elf64Shdr ElfParserError) → e < (header_or h).sh_addr + (header_or h).sh_size → (header_or h).sh_offset + (header_or h).sh_size ≤ len
-    → range_by len h ≡ stands (0 if eqb (header_or h).sh_type SHT_NOBITS else (header_or h).sh_offset) (0 if eqb (header_or h).sh_type SHT_NOBITS else (header_or h).sh_size)
+    → and_then h (file_range len) ≡ stands (0 if eqb (header_or h).sh_type SHT_NOBITS else (header_or h).sh_offset) (0 if eqb (header_or h).sh_type SHT_NOBITS else (header_or h).sh_size)
 text_stands len e (Ok h) below lies = range_stands len h lies
 text_stands len e (Err r) below lies = absurd (omega (arith, below))
 
@@ -320,7 +321,7 @@ module _ (file builtins : List ℕ) (c : Config) (n m : ℕ) (j : Job) (ready : 
 
     text_copied : (text_place m offset 0 k j.addr j.length ≡ Err TextOutsideReadOnly) ↔ (lowest ≡ MM_PROGRAM_START)
     text_copied =
-        let r = owned_room file j.layout (file_header file).e_shnum j.version2 c.reject_broken_elfs c.optimize_rodata offset lowest k short (is_placed _ owns) t.index t.listed t.named j.start j.length t.stands in
+        let r = owned_room file j.layout (file_header file).e_shnum j.version2 c.reject_broken_elfs c.optimize_rodata offset lowest k short (is_placed _ owns) t.index t.listed t.named (record { start = j.start; length = j.length }) t.stands in
         let a = t.addr_is in
         let is : j.addr ≡ sum_up_to j.sh_addr MM_PROGRAM_START = t.machine ∙ ap (λ (v : Bool). machine_addr v j.sh_addr) copies.0 ∙ machine_1 j.sh_addr in
         copied_text m offset lowest k j.addr j.sh_addr j.length (omega (arith, fits, in_buffer)) (omega (arith, fits, short)) is (t.low copies.0) (omega (arith, a, r.not_below)) (omega (arith, a, r.room)) copies.1
@@ -361,7 +362,7 @@ module _ (file builtins : List ℕ) (c : Config) (n m : ℕ) (j : Job) (ready : 
       → (ro_place n start k ≡ bytes_at start k) × (text_place n offset start k j.addr j.length ≡ bytes_at (start + text_at j.addr offset) j.length)
   text_borrowed offset start k e =
       let w = stays file j.layout (file_header file).e_shnum j.version2 c.reject_broken_elfs c.optimize_rodata offset start k (is_placed _ e) in
-      let all = spans file j.layout j.version2 c.reject_broken_elfs (file_header file).e_shnum t.index j.start j.length t.lie t.named t.stands w.0 w.1 in
+      let all = spans file j.layout j.version2 c.reject_broken_elfs (file_header file).e_shnum t.index j.length t.lie t.named (record { start = j.start; length = j.length }) t.stands refl w.0 w.1 in
       let lies = stay_in offset start k w.0 all w.2 in
       (ro_in n start k lies, text_in n offset start k j.addr j.length lies (text_room offset start k w.0 all w.2))
 
@@ -428,8 +429,8 @@ module _ (file builtins : List ℕ) (c : Config) (n m : ℕ) (j : Job) (ready : 
       (h.0, (offset, k, q ∙ ap (λ (u : ℕ). Ok (Owned offset u k)) r))
   from_low_by (Ok (Borrowed offset start k)) q used moves a e h =
       let w = stays file j.layout (file_header file).e_shnum j.version2 c.reject_broken_elfs c.optimize_rodata offset start k (is_placed _ q) in
-      let all = spans file j.layout j.version2 c.reject_broken_elfs (file_header file).e_shnum t.index j.start j.length t.lie t.named t.stands w.0 w.1 in
-      let s = one_extent h.2.0 w.0 _ h.2.1 (ap gather_by w.1) in
+      let all = spans file j.layout j.version2 c.reject_broken_elfs (file_header file).e_shnum t.index j.length t.lie t.named (record { start = j.start; length = j.length }) t.stands refl w.0 w.1 in
+      let s = one_extent h.2.0 w.0 _ h.2.1 w.1 in
       let lo : w.0.lowest ≡ MM_PROGRAM_START = ap (λ (y : Extent). y.lowest) s ∙ h.2.2 in
       let up = above offset start k w.0 all w.2 in
       let down = below offset start k w.0 all w.2 in

@@ -9,9 +9,9 @@ use lib.Seq.{drop-cons, drop-length}
 use borrow.Author.Tests.{le-leb, lt-leb}
 use Rattle.ebpf.specs.Choice.{◌if◌else◌, yes, no_go}
 use Rattle.elf_parser.specs.declared.layout.Layout.{Layout}
-use Rattle.elf_parser.specs.SectionNames.{same_bytes, same_short}
+use Rattle.elf_parser.specs.SectionNames.{same_bytes}
 use Rattle.loader.specs.declared.sections.Survey.{Survey}
-use Rattle.loader.specs.Sections.{section_at, name_of, dot_text, starts_with, survey_step}
+use Rattle.loader.specs.Sections.{section_at, name_of, dot_text, survey_step}
 use Rattle.loader.specs.Validate.{ascends}
 
 module _ (s : List ℕ) (i : ℕ) (p : 1 ≤ i) where
@@ -48,10 +48,3 @@ at_most_one false x i h = omega arith
 pub texts_step : (s : List ℕ) (l : Layout) (i : ℕ) (v : Survey) → v.texts ≤ i → (survey_step s l i v).texts ≤ i + 1
 unfolding survey_step
 texts_step s l i v h = at_most_one (same_bytes (name_of s l (section_at s l i)) dot_text) v.texts i h
-
-pub prefix_short : (name prefix : List ℕ) → length name < length prefix → false ≡ starts_with name prefix
-unfolding starts_with
-prefix_short name prefix h = sym (same_short _ _ (λ e. absurd (short (simp length-take at e))))
-  where
-    short : Prim.Native.Nat.min (length prefix) (length name) ≡ length prefix → ⊥
-    short e = omega arith

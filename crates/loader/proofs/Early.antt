@@ -18,7 +18,8 @@ use Rattle.ebpf.specs.Murmur3.{murmur3}
 use Rattle.elf_parser.specs.declared.types.Elf64Sym.{Elf64Sym}
 use Rattle.elf_parser.specs.declared.layout.Layout.{Layout}
 use Rattle.elf_parser.specs.Names.{symbol_name, dynamic_symbol_name}
-use Rattle.elf_parser.specs.Records.{sym_of, dynamic_symbol_of}
+use Rattle.elf_parser.specs.Records.{entry_of, dynamic_symbol_of}
+use Rattle.elf_parser.specs.Types.{sym as sym_at}
 use Rattle.program.specs.declared.FunctionName.{FunctionName}
 use Rattle.program.specs.declared.FunctionName.TheVariants.{OfIndex}
 use Rattle.program.specs.declared.KeptName.{KeptName}
@@ -243,7 +244,7 @@ module _ (file builtins : List ℕ) (j : Job) (off : j.check_collision ≡ false
 
   label_steady : (i : ℕ) (im : List ℕ) → Steady G (label_trace file builtins j i im)
   unfolding label_trace label_deed
-  label_steady i im = deed_steady G (label_by file builtins j (sym_of file (label_symbols file j) i)) im (label_by_lem (sym_of file (label_symbols file j) i))
+  label_steady i im = deed_steady G (label_by file builtins j (entry_of 24 sym_at file (label_symbols file j) i)) im (label_by_lem (entry_of 24 sym_at file (label_symbols file j) i))
 
   labels_steady : (im : List ℕ) → Steady G (labels_trace file builtins j im)
   labels_steady im = steady_each G (label_trace file builtins j) label_steady (label_symbols file j).count 0 im

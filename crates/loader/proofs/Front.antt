@@ -17,7 +17,6 @@ use Rattle.loader.specs.Placed.{step_length, owned_fits, owned_room, copy_is_pas
 use Rattle.std.specs.Prelude.{Result, Err}
 use Rattle.elf_parser.specs.declared.error.ElfParserError.{ElfParserError}
 use Rattle.elf_parser.specs.declared.parts.Place.{Place}
-use Rattle.elf_parser.specs.Parts.{stands}
 
 paste_front : (ro rest s : List ℕ) (at k : ℕ) → at + k ≤ length ro → paste (ro ++ rest) at s k ≡ paste ro at s k ++ rest
 paste_front ro rest s at k h =
@@ -35,13 +34,13 @@ module _ (image s : List ℕ) (l : Layout) (count : ℕ) (version2 reject-broken
       go : (b : Bool) → read_only (name_of s l (section_at s l i)) ≡ b → (p : Result Place ElfParserError) → file_range_of s l i ≡ p → copy_step image s l lowest i (ro ++ rest) ≡ copy_step image s l lowest i ro ++ rest
       go false e p q = rw e refl
       go true e (Err r) q = rw (e, q) refl
-      go true e (stands start k) q =
-          let room = owned_room s l count version2 reject-broken optimize offset lowest n short owned i below e start k q in
+      go true e (Ok p) q =
+          let room = owned_room s l count version2 reject-broken optimize offset lowest n short owned i below e p q in
           let fits : n ≤ length (ro ++ rest) = rw (length-append ro rest) (omega (arith, len)) in
-          let inside : ((section_at s l i).sh_addr - lowest) + k ≤ length ro = omega (arith, room.room, len) in
-          sym (copy_is_paste image s l lowest n i start k (ro ++ rest) e q room long fits)
-          ∙ paste_front ro rest (drop start image) ((section_at s l i).sh_addr - lowest) k inside
-          ∙ ap (λ (z : List ℕ). z ++ rest) (copy_is_paste image s l lowest n i start k ro e q room long (omega (arith, len)))
+          let inside : ((section_at s l i).sh_addr - lowest) + p.length ≤ length ro = omega (arith, room.room, len) in
+          sym (copy_is_paste image s l lowest n i p (ro ++ rest) e q room long fits)
+          ∙ paste_front ro rest (drop p.start image) ((section_at s l i).sh_addr - lowest) p.length inside
+          ∙ ap (λ (z : List ℕ). z ++ rest) (copy_is_paste image s l lowest n i p ro e q room long (omega (arith, len)))
 
   -- m sections from i on
   front_from : (m i : ℕ) → i + m ≤ count → (ro rest : List ℕ) → length ro ≡ n → copied_from image s l lowest m i (ro ++ rest) ≡ copied_from image s l lowest m i ro ++ rest

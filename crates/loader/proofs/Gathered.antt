@@ -15,9 +15,9 @@ use Rattle.std.specs.Prelude.{Result, Ok, Err}
 use Rattle.ebpf.specs.Choice.{◌if◌else◌, not_first, row_rest, and_left, and_right, or_false, yes, and_false, row_cases}
 use Rattle.elf_parser.specs.declared.layout.Layout.{Layout}
 use Rattle.elf_parser.specs.declared.types.Elf64Shdr.{Elf64Shdr}
-use Rattle.elf_parser.specs.Loops.{Turn, goes, ends, ◌into◌, over, not_ends}
-use Rattle.elf_parser.specs.Parts.{no_place}
-use Rattle.elf_parser.specs.Records.{range_by, section_header_of, file_range_of, range_lies}
+use Rattle.elf_parser.specs.Errors.{and_then, apart, went}
+use Rattle.elf_parser.specs.Loops.{over}
+use Rattle.elf_parser.specs.Records.{file_range, section_header_of, file_range_of, range_lies}
 use Rattle.program.proofs.Cases.{by_test}
 use Rattle.loader.specs.declared.read_only.Placing.TheVariants.{Borrowed, Owned}
 use Rattle.loader.specs.declared.error.ElfError.{ElfError}
@@ -25,12 +25,11 @@ use Rattle.loader.specs.declared.read_only.Extent.{Extent}
 use Rattle.loader.specs.Results.{not_ok}
 use Rattle.loader.specs.Addresses.{MM_PROGRAM_START, MM_STACK_START}
 use Rattle.loader.specs.Sections.{header_or, section_at, name_of}
-use Rattle.loader.specs.ReadOnly.{read_only, gives, invalid_by, end_of, grown, taken, taken_at, gather_step, nothing, gather_turn, gather_by, gathered, from_start, can_borrow, borrowed, owned, placed, placing_by, placing}
+use Rattle.loader.specs.ReadOnly.{read_only, gives, invalid_by, end_of, grown, taken, taken_at, gather_step, nothing, gathered, from_start, can_borrow, borrowed, owned, placed, placing_by, placing}
 use Rattle.loader.specs.Placed.{Inside, not_borrowed, end_ahead}
 use Rattle.loader.proofs.Readied.{Lies}
 use Rattle.elf_parser.specs.declared.error.ElfParserError.{ElfParserError}
 use Rattle.elf_parser.specs.declared.parts.Place.{Place}
-use Rattle.elf_parser.specs.Parts.{stands}
 
 -- ---- rows and tests
 
@@ -121,9 +120,9 @@ grown_keeps false i addr offset n len x lies ahead s = grown_plain i addr offset
 -- ---- where a section stands that was taken
 
 -- its bytes end in the file where its whole range does
-by_lies : (len : ℕ) (h : Result Elf64Shdr ElfParserError) (start k : ℕ) → (header_or h).sh_offset + (header_or h).sh_size ≤ len → range_by len h ≡ stands start k → (header_or h).sh_offset + k ≤ len
-by_lies len (Ok h) start k lies e = range_lies len h start k lies e
-by_lies len (Err r) start k lies e = absurd (no_place _ _ _ e)
+by_lies : (len : ℕ) (h : Result Elf64Shdr ElfParserError) (p : Place) → (header_or h).sh_offset + (header_or h).sh_size ≤ len → and_then h (file_range len) ≡ Ok p → (header_or h).sh_offset + p.length ≤ len
+by_lies len (Ok h) p lies e = range_lies len h p lies e
+by_lies len (Err r) p lies e = absurd (apart _ _ e)
 
 module _ (version2 : Bool) (i : ℕ) (h : Elf64Shdr) (n : ℕ) (x : Extent) where
   -- the section taken has its bytes between the lowest and the highest address
@@ -154,7 +153,7 @@ pub record Spans (s : List ℕ) (l : Layout) (version2 : Bool) (t k i : ℕ) (x 
   pub shifts : Shifts version2 (length s) x
   pub text : t < i → Inside (section_at s l t) k x
 
-module _ (s : List ℕ) (l : Layout) (version2 reject-broken : Bool) (count t start k : ℕ) (lie : (i : ℕ) → i < count → Lies s l i) (named : read_only (name_of s l (section_at s l t)) ≡ true) (stands : file_range_of s l t ≡ stands start k) where
+module _ (s : List ℕ) (l : Layout) (version2 reject-broken : Bool) (count t k : ℕ) (lie : (i : ℕ) → i < count → Lies s l i) (named : read_only (name_of s l (section_at s l t)) ≡ true) (q : Place) (stands : file_range_of s l t ≡ Ok q) (long : q.length ≡ k) where
   place_spans : (i : ℕ) (x z : Extent) → i < count
       → (p : Result Place ElfParserError)
       → file_range_of s l i ≡ p
@@ -162,15 +161,16 @@ module _ (s : List ℕ) (l : Layout) (version2 reject-broken : Bool) (count t st
       → Spans s l version2 t k i x
       → Spans s l version2 t k (i + 1) z
   unfolding section_at
-  place_spans i x z below (stands a b) at e g =
+  place_spans i x z below (Ok p) at e g =
+      let b : ℕ = p.length in
       let h = section_at s l i in
-      let lies : h.sh_offset + b ≤ length s = by_lies (length s) (section_header_of s l i) a b (lie i below) at in
+      let lies : h.sh_offset + b ≤ length s = by_lies (length s) (section_header_of s l i) p (lie i below) at in
       let w = taken_grows version2 i h b x reject-broken z e in
       subst (Spans s l version2 t k (i + 1)) w.1
       (record {
         shifts = grown_keeps version2 i h.sh_addr h.sh_offset b (length s) x lies w.0 g.shifts;
         text = λ lt. ⊎_elim
-            (λ same. own same a b at w.0)
+            (λ same. own same p at w.0)
             (λ less. grown_still version2 i h b x (section_at s l t) k (g.text (omega (arith, less))))
             (eq-or-lt_of_le (at_most lt));
       })
@@ -178,11 +178,12 @@ module _ (s : List ℕ) (l : Layout) (version2 reject-broken : Bool) (count t st
       at_most : t < i + 1 → t ≤ i
       at_most lt = omega (arith, lt)
 
-      own : t ≡ i → (a b : ℕ) → file_range_of s l i ≡ stands a b → (section_at s l i).sh_addr ≤ MM_STACK_START → Inside (section_at s l t) k (grown version2 i (section_at s l i).sh_addr (section_at s l i).sh_offset b x)
-      own same a b at ahead =
-          let q : stands start k ≡ stands a b = sym stands ∙ ap (file_range_of s l) same ∙ at in
-          let r : k ≡ b = cc in
-          rw (same, r) (grown_inside version2 i (section_at s l i) b x ahead)
+      own : t ≡ i → (p : Place) → file_range_of s l i ≡ Ok p → (section_at s l i).sh_addr ≤ MM_STACK_START → Inside (section_at s l t) k (grown version2 i (section_at s l i).sh_addr (section_at s l i).sh_offset p.length x)
+      own same p at ahead =
+          let e : Ok q ≡ Ok p = sym stands ∙ ap (file_range_of s l) same ∙ at in
+          let w : q ≡ p = cc in
+          let r : k ≡ p.length = sym long ∙ ap (λ (z : Place). z.length) w in
+          rw (same, r) (grown_inside version2 i (section_at s l i) p.length x ahead)
   place_spans i x z below (Err r) at e g = absurd (not_ok _ _ e)
 
   step_spans : (i : ℕ) (x z : Extent) → i < count → gather_step s l version2 reject-broken i x ≡ Ok z → Spans s l version2 t k i x → Spans s l version2 t k (i + 1) z
@@ -204,23 +205,17 @@ module _ (s : List ℕ) (l : Layout) (version2 reject-broken : Bool) (count t st
                 (eq-or-lt_of_le (at_most lt));
           })
 
-  all_span : (n i : ℕ) (x y : Extent) → i + n ≡ count → over (λ j z. gather_turn (gather_step s l version2 reject-broken j z)) 1 n i x ≡ goes y → Spans s l version2 t k i x → Spans s l version2 t k count y
+  all_span : (n i : ℕ) (x y : Extent) → i + n ≡ count → over (gather_step s l version2 reject-broken) 1 n i x ≡ Ok y → Spans s l version2 t k i x → Spans s l version2 t k count y
   unfolding over
   all_span zero i x y all e g =
       let p : x ≡ y = cc in
       let q : i ≡ count = omega (arith, all) in
       subst (λ (u : ℕ). Spans s l version2 t k u y) q (subst (Spans s l version2 t k i) p g)
-  all_span (suc n) i x y all e g = go (gather_step s l version2 reject-broken i x) refl e (λ z q. all_span n (i + 1) z y (omega (arith, all)) q)
-    where
-      go : (next : Result Extent ElfError)
-          → gather_step s l version2 reject-broken i x ≡ next
-          → (gather_turn next into over (λ j z. gather_turn (gather_step s l version2 reject-broken j z)) 1 n (i + 1)) ≡ goes y
-          → ((z : Extent) → over (λ j w. gather_turn (gather_step s l version2 reject-broken j w)) 1 n (i + 1) z ≡ goes y → Spans s l version2 t k (i + 1) z → Spans s l version2 t k count y)
-          → Spans s l version2 t k count y
-      go (Ok z) h q rec = rec z q (step_spans i x z (omega (arith, all)) h g)
-      go (Err r) h q rec = absurd (not_ends r y q)
+  all_span (suc n) i x y all e g =
+      let v = went (gather_step s l version2 reject-broken i x) (over (gather_step s l version2 reject-broken) 1 n (i + 1)) y e in
+      all_span n (i + 1) v.value y (omega (arith, all)) v.second (step_spans i x v.value (omega (arith, all)) v.first g)
 
-  pub spans : (y : Extent) → over (λ j z. gather_turn (gather_step s l version2 reject-broken j z)) 1 count 0 nothing ≡ goes y → Spans s l version2 t k count y
+  pub spans : (y : Extent) → gathered s l count version2 reject-broken ≡ Ok y → Spans s l version2 t k count y
   spans y e = all_span count 0 nothing y (omega arith) e (record {
     shifts = record { kept = λ v. (omega arith, omega arith); plain = λ v. refl; blank = λ v w o. (refl, refl) };
     text = λ lt. absurd (omega (arith, lt));
@@ -312,16 +307,16 @@ module _ (s : List ℕ) (l : Layout) (count : ℕ) (version2 reject-broken optim
 
   -- where they stay in the image, they are all those that were gathered
   pub stays : placing s l count version2 reject-broken optimize ≡ Ok (Borrowed offset at n)
-      → (x : Extent) × (over (λ j y. gather_turn (gather_step s l version2 reject-broken j y)) 1 count 0 nothing ≡ goes x) × Stays version2 x offset at n
+      → (x : Extent) × (gathered s l count version2 reject-broken ≡ Ok x) × Stays version2 x offset at n
   unfolding placing
-  stays e = go (over (λ j y. gather_turn (gather_step s l version2 reject-broken j y)) 1 count 0 nothing) refl e
+  stays e = go (gathered s l count version2 reject-broken) refl e
     where
-      go : (t : Turn ElfError Extent)
-          → over (λ j y. gather_turn (gather_step s l version2 reject-broken j y)) 1 count 0 nothing ≡ t
-          → placing_by (length s) version2 reject-broken optimize (gather_by t) ≡ Ok (Borrowed offset at n)
-          → (x : Extent) × (over (λ j y. gather_turn (gather_step s l version2 reject-broken j y)) 1 count 0 nothing ≡ goes x) × Stays version2 x offset at n
-      go (goes x) h q = (x, h, placed_stays (length s) version2 reject-broken optimize x offset at n q)
-      go (ends r) h q = absurd (not_ok _ _ q)
+      go : (t : Result Extent ElfError)
+          → gathered s l count version2 reject-broken ≡ t
+          → placing_by (length s) version2 reject-broken optimize t ≡ Ok (Borrowed offset at n)
+          → (x : Extent) × (gathered s l count version2 reject-broken ≡ Ok x) × Stays version2 x offset at n
+      go (Ok x) h q = (x, h, placed_stays (length s) version2 reject-broken optimize x offset at n q)
+      go (Err r) h q = absurd (not_ok _ _ q)
 
   -- where they are copied, it is from their lowest address on, or from 0 on where this is not optimized
   pub copied_lowest : placing s l count version2 reject-broken optimize ≡ Ok (Owned offset at n) → (x : Extent) × (gathered s l count version2 reject-broken ≡ Ok x) × (at ≡ (x.lowest if optimize else 0))

@@ -14,7 +14,8 @@ use Rattle.ebpf.specs.LittleEndian.{le}
 use Rattle.elf_parser.specs.declared.types.Elf64Sym.{Elf64Sym}
 use Rattle.elf_parser.specs.declared.records.Entries.{Entries}
 use Rattle.elf_parser.specs.Names.{symbol_name}
-use Rattle.elf_parser.specs.Records.{sym_of}
+use Rattle.elf_parser.specs.Records.{entry_of}
+use Rattle.elf_parser.specs.Types.{sym as sym_at}
 use Rattle.program.specs.declared.FunctionName.TheVariants.{OfIndex, Entrypoint}
 use Rattle.loader.specs.declared.read_only.Placing.TheVariants.{Borrowed, Owned}
 use Rattle.loader.specs.declared.read_only.Placing.{Placing}
@@ -64,7 +65,7 @@ module _ (s builtins : List ℕ) (j : Job) (im : List ℕ) where
 
   label_nothing : (symbols : Entries) (i : ℕ) → written (label_deed s builtins j symbols i) im ≡ im
   unfolding label_deed
-  label_nothing symbols i = by_nothing (sym_of s symbols i)
+  label_nothing symbols i = by_nothing (entry_of 24 sym_at s symbols i)
 
 entry_nothing : (builtins : List ℕ) (j : Job) (im : List ℕ) → written (entry_deed builtins j) im ≡ im
 unfolding entry_deed

@@ -61,15 +61,15 @@ use Rattle.loader.proofs.Kept.{not_in}
 
 -- ---- what the checks leave of the small files
 
-abbrev layout_of : ℕ → ℕ → ℕ → ℕ → ℕ → Layout
+abbrev layout_of : ℕ → ℕ → ℕ → Option ℕ → Option ℕ → Layout
 layout_of shoff shnum shstrtab symtab strtab =
     record {
       program_headers = record { offset = 0; count = 0 };
       section_headers = record { offset = shoff; count = shnum };
-      shstrtab = shstrtab;
+      shstrtab = Some shstrtab;
       symtab = symtab;
       strtab = strtab;
-      dynstr = 0;
+      dynstr = None;
       dynamic_relocations = record { offset = 0; count = 0 };
       dynamic_relas = record { offset = 0; count = 0 };
       dynamic_symbols = record { offset = 0; count = 0 };
@@ -95,13 +95,13 @@ job_with version2 check l addr machine size offset =
     }
 
 abbrev job_2 : Bool → Job
-job_2 check = job_with true check (layout_of 112 3 240 0 0) 0x1_0000_0000 0x1_0000_0000 24 0
+job_2 check = job_with true check (layout_of 112 3 240 None None) 0x1_0000_0000 0x1_0000_0000 24 0
 
 abbrev job_1 : Job
-job_1 = job_with false true (layout_of 112 3 240 0 0) 64 0x1_0000_0040 24 64
+job_1 = job_with false true (layout_of 112 3 240 None None) 64 0x1_0000_0040 24 64
 
 abbrev job_labels : Job
-job_labels = job_with false false (layout_of 208 5 464 400 336) 64 0x1_0000_0040 16 64
+job_labels = job_with false false (layout_of 208 5 464 (Some 400) (Some 336)) 64 0x1_0000_0040 16 64
 
 -- a row with its index as key, and version 1's of the name entrypoint
 abbrev row_with : ℕ → ℕ → ℕ → ℕ → ℕ → Row

@@ -12,7 +12,8 @@ use Rattle.elf_parser.specs.declared.error.ElfParserError.TheVariants.{InvalidFi
 use Rattle.elf_parser.specs.declared.types.Elf64Ehdr.{Elf64Ehdr}
 use Rattle.elf_parser.specs.declared.types.Elf64Shdr.{Elf64Shdr}
 use Rattle.elf_parser.specs.declared.layout.Layout.{Layout}
-use Rattle.elf_parser.specs.Loops.{Turn, goes, ends, ◌into◌, over}
+use Rattle.elf_parser.specs.Errors.{and_then}
+use Rattle.elf_parser.specs.Loops.{over}
 use Rattle.elf_parser.specs.Names.{section_name}
 use Rattle.elf_parser.specs.Parse.{parsed}
 use Rattle.elf_parser.specs.Records.{file_range_of}
@@ -28,7 +29,7 @@ use Rattle.loader.specs.declared.validate.Job.{Job}
 use Rattle.loader.specs.Results.{◌then◌}
 use Rattle.loader.specs.Errors.{from_parser}
 use Rattle.loader.specs.Sections.{section_at, survey}
-use Rattle.loader.specs.ReadOnly.{taken, taken_at, gather_step, gather_turn, gather_by, nothing, gathered, borrowed, owned, placed, placing_by, placing}
+use Rattle.loader.specs.ReadOnly.{taken, taken_at, gather_step, nothing, gathered, borrowed, owned, placed, placing_by, placing}
 use Rattle.loader.specs.Validate.{size_check, ascends, header_check, writable_by, sections_check, text_check, job_of, file_check, is_version2, validated, parsed_then, prepared}
 use Rattle.elf_parser.specs.declared.parts.Place.{Place}
 
@@ -130,27 +131,14 @@ PlainPlacing (Ok (Borrowed offset start n)) = Unit {0}
 PlainPlacing (Ok (Owned offset lowest n)) = Unit {0}
 PlainPlacing (Err r) = Plain r
 
-abbrev PlainTurn : Turn ElfError Extent → Type 0
-PlainTurn (goes x) = Unit {0}
-PlainTurn (ends r) = Plain r
+gather_then_plain : (a : Result Extent ElfError) (f : Extent → Result Extent ElfError) → PlainGathering a → ((x : Extent) → PlainGathering (f x)) → PlainGathering (and_then a f)
+gather_then_plain (Ok x) f p q = q x
+gather_then_plain (Err r) f p q = p
 
-into_plain : (t : Turn ElfError Extent) (f : Extent → Turn ElfError Extent) → PlainTurn t → ((x : Extent) → PlainTurn (f x)) → PlainTurn (t into f)
-unfolding 
-into_plain (goes x) f p q = q x
-into_plain (ends r) f p q = p
-
-over_plain : (step : ℕ → Extent → Turn ElfError Extent) → ((i : ℕ) (x : Extent) → PlainTurn (step i x)) → (w n at : ℕ) (x : Extent) → PlainTurn (over step w n at x)
+over_plain : (step : ℕ → Extent → Result Extent ElfError) → ((i : ℕ) (x : Extent) → PlainGathering (step i x)) → (w n at : ℕ) (x : Extent) → PlainGathering (over step w n at x)
 unfolding over
 over_plain step p w zero at x = tt
-over_plain step p w (suc n) at x = into_plain (step at x) (over step w n (at + w)) (p at x) (λ y. over_plain step p w n (at + w) y)
-
-turn_plain : (g : Result Extent ElfError) → PlainGathering g → PlainTurn (gather_turn g)
-turn_plain (Ok x) p = tt
-turn_plain (Err r) p = p
-
-by_plain : (t : Turn ElfError Extent) → PlainTurn t → PlainGathering (gather_by t)
-by_plain (goes x) p = tt
-by_plain (ends r) p = p
+over_plain step p w (suc n) at x = gather_then_plain (step at x) (over step w n (at + w)) (p at x) (λ y. over_plain step p w n (at + w) y)
 
 taken_plain : (version2 reject-broken : Bool) (i : ℕ) (h : Elf64Shdr) (x : Extent) (p : Result Place ElfParserError) → PlainGathering (taken_at version2 reject-broken i h x p)
 unfolding taken
@@ -164,9 +152,7 @@ gather_plain s l version2 reject-broken i x =
 
 gathered_plain : (s : List ℕ) (l : Layout) (count : ℕ) (version2 reject-broken : Bool) → PlainGathering (gathered s l count version2 reject-broken)
 gathered_plain s l count version2 reject-broken =
-    by_plain (over (λ i x. gather_turn (gather_step s l version2 reject-broken i x)) 1 count 0 nothing)
-    (over_plain (λ i x. gather_turn (gather_step s l version2 reject-broken i x))
-    (λ i x. turn_plain (gather_step s l version2 reject-broken i x) (gather_plain s l version2 reject-broken i x)) 1 count 0 nothing)
+    over_plain (gather_step s l version2 reject-broken) (λ i x. gather_plain s l version2 reject-broken i x) 1 count 0 nothing
 
 borrowed_plain : (version2 : Bool) (x : Extent) → PlainPlacing (borrowed version2 x)
 unfolding borrowed

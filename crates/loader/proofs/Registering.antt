@@ -14,7 +14,8 @@ use Rattle.program.specs.HashedLegacy.{LegacyResult}
 use Rattle.std.specs.Prelude.{Ok, Err, Option, Some, None, Result}
 use Rattle.ebpf.specs.Choice.{◌if◌else◌, eq_not}
 use Rattle.elf_parser.specs.declared.types.Elf64Sym.{Elf64Sym}
-use Rattle.elf_parser.specs.Records.{dynamic_symbol_of, sym_of}
+use Rattle.elf_parser.specs.Records.{dynamic_symbol_of, entry_of as nth_of}
+use Rattle.elf_parser.specs.Types.{sym as sym_at}
 use Rattle.elf_parser.specs.Names.{symbol_name, dynamic_symbol_name}
 use Rattle.program.specs.declared.Row.{Row}
 use Rattle.program.specs.declared.FunctionName.TheVariants.{OfIndex, Entrypoint}
@@ -39,8 +40,8 @@ use Rattle.loader.proofs.Targets.{local_calls}
 use Rattle.loader.specs.Demand.{LocalCall, CallsTo, OfCall, OfRelocation, OfLabel, OfEntry, info_of, addend_of, entry_index, early_trace}
 use Rattle.loader.proofs.Traces.{asks_then, keeps_then, keeps_each, ends_turn, asks_each}
 use Rattle.elf_parser.specs.declared.error.ElfParserError.{ElfParserError}
+use Rattle.elf_parser.specs.Parts.{stands, same_place}
 use Rattle.elf_parser.specs.declared.parts.Place.{Place}
-use Rattle.elf_parser.specs.Parts.{stands}
 
 -- ---- a deed
 
@@ -172,8 +173,8 @@ module _ (file builtins : List ℕ) (j : Job) (i : ℕ) (l : i < relocation_coun
           only row h =
               let s : h.2 ≡ y = same_symbol row h in
               let p : stands h.5 h.6 ≡ stands start n = sym h.7 ∙ ap (λ (y : Elf64Sym). dynamic_symbol_name file j.layout y.st_name) s ∙ name in
-              let a : h.5 ≡ start = cc in
-              let b : h.6 ≡ n = cc in
+              let a : h.5 ≡ start = (same_place h.5 h.6 start n p).0 in
+              let b : h.6 ≡ n = (same_place h.5 h.6 start n p).1 in
               let q : Ok row ≡ Ok r = sym h.8 ∙ rw (s, a, b) e in
               cc
 
@@ -226,7 +227,7 @@ module _ (file builtins : List ℕ) (j : Job) (i : ℕ) (l : i < (label_symbols 
   abbrev OfSymbol : Row → Type 0
   OfSymbol = OfLabel file builtins j i
 
-  module _ (y : Elf64Sym) (symbol : sym_of file (label_symbols file j) i ≡ Ok y) where
+  module _ (y : Elf64Sym) (symbol : nth_of 24 sym_at file (label_symbols file j) i ≡ Ok y) where
     same_label : (row : Row) (h : OfSymbol row) → h.1 ≡ y
     same_label row h = let s : Ok h.1 ≡ Ok y = sym h.2 ∙ symbol in cc
 
@@ -234,12 +235,12 @@ module _ (file builtins : List ℕ) (j : Job) (i : ℕ) (l : i < (label_symbols 
     named_label_lem two (Err x) e = tt
     named_label_lem two (Ok p) e = label_row_asks OfSymbol _ (λ row. (only row, λ r. (l, y, symbol, two, p.start, p.length, e, r)))
       where
-        only : (row : Row) → OfSymbol row → row_for builtins j (symbol_function (take n (drop start file)) start n) (index_of j y.st_value) ≡ Ok row
+        only : (row : Row) → OfSymbol row → row_for builtins j (symbol_function (take p.length (drop p.start file)) p.start p.length) (index_of j y.st_value) ≡ Ok row
         only row h =
             let s : h.1 ≡ y = same_label row h in
-            let p : stands h.4 h.5 ≡ stands start n = sym h.6 ∙ ap (λ (y : Elf64Sym). symbol_name file j.layout y.st_name) s ∙ e in
-            let a : h.4 ≡ start = cc in
-            let b : h.5 ≡ n = cc in
+            let r : stands h.4 h.5 ≡ stands p.start p.length = sym h.6 ∙ ap (λ (y : Elf64Sym). symbol_name file j.layout y.st_name) s ∙ e in
+            let a : h.4 ≡ p.start = (same_place h.4 h.5 p.start p.length r).0 in
+            let b : h.5 ≡ p.length = (same_place h.4 h.5 p.start p.length r).1 in
             rw (← s, ← a, ← b) h.7
 
     label_of_asks : AsksFor (entry_of (label_of file builtins j y)) OfSymbol
@@ -249,13 +250,13 @@ module _ (file builtins : List ℕ) (j : Job) (i : ℕ) (l : i < (label_symbols 
         (λ e row h. let s : h.1 ≡ y = same_label row h in let two : bit_and y.st_info 0xef ≡ 2 = rw s at h.3 in let f = eq_not (bit_and y.st_info 0xef) 2 two in zero_one (cc))
         (λ e. either _ _ _ OfSymbol (λ _. tt) (λ _. named_label_lem (told (bit_and y.st_info 0xef) 2 e) (symbol_name file j.layout y.st_name) refl))
 
-  label_by_asks : (y : Result Elf64Sym ElfParserError) → sym_of file (label_symbols file j) i ≡ y → AsksFor (entry_of (label_by file builtins j y)) OfSymbol
+  label_by_asks : (y : Result Elf64Sym ElfParserError) → nth_of 24 sym_at file (label_symbols file j) i ≡ y → AsksFor (entry_of (label_by file builtins j y)) OfSymbol
   label_by_asks (Ok y) e = label_of_asks y e
   label_by_asks (Err x) e = λ row h. let s = h.2 in zero_one (cc)
 
   label_asks : AsksFor (entry_of (label_deed file builtins j (label_symbols file j) i)) OfSymbol
   unfolding label_deed
-  label_asks = label_by_asks (sym_of file (label_symbols file j) i) refl
+  label_asks = label_by_asks (nth_of 24 sym_at file (label_symbols file j) i) refl
 
 -- ---- the entry
 

@@ -11,7 +11,8 @@ use Rattle.ebpf.specs.Murmur3.{murmur3}
 use Rattle.elf_parser.specs.declared.layout.Layout.{Layout}
 use Rattle.elf_parser.specs.declared.types.Elf64Sym.{Elf64Sym}
 use Rattle.elf_parser.specs.Names.{symbol_name, dynamic_symbol_name}
-use Rattle.elf_parser.specs.Records.{dynamic_symbol_of, sym_of}
+use Rattle.elf_parser.specs.Records.{dynamic_symbol_of, entry_of}
+use Rattle.elf_parser.specs.Types.{sym}
 use Rattle.program.specs.declared.FunctionName.TheVariants.{OfIndex, Entrypoint}
 use Rattle.program.specs.declared.Row.{Row}
 use Rattle.program.specs.HashedLegacy.{entrypoint}
@@ -106,7 +107,7 @@ abbrev pub OfLabel : List ℕ → List ℕ → Job → ℕ → Row → Type 0
 OfLabel file builtins j i row =
     (i < (label_symbols file j).count)
     × (y : Elf64Sym)
-    × (sym_of file (label_symbols file j) i ≡ Ok y)
+    × (entry_of 24 sym file (label_symbols file j) i ≡ Ok y)
     × (bit_and y.st_info 0xef ≡ 2)
     × (start : ℕ)
     × (n : ℕ)

@@ -12,9 +12,8 @@ use Rattle.elf_parser.specs.declared.layout.Layout.{Layout}
 use Rattle.elf_parser.specs.Records.{program_header_of, dynamic_relocation_of, dynamic_rela_of, dynamic_symbol_of}
 use Rattle.elf_parser.specs.Names.{dynamic_symbol_name}
 use Rattle.elf_parser.specs.Types.{file_header}
-use Rattle.elf_parser.specs.Dynamic.{linked_inside}
-use Rattle.elf_parser.specs.Parse.{tables_of, layout_of, parsed}
-use Rattle.elf_parser.specs.Sound.{Steps, parse_steps}
+use Rattle.elf_parser.specs.Parse.{parsed}
+use Rattle.elf_parser.specs.Sound.{sound}
 use Rattle.program.specs.declared.FunctionName.{FunctionName}
 use Rattle.program.specs.Search.{is_among}
 use Rattle.loader.specs.declared.relocations.UsedHeader.{UsedHeader}
@@ -28,17 +27,22 @@ use Rattle.loader.specs.Addresses.{sum_up_to, MM_PROGRAM_START}
 use Rattle.loader.specs.Functions.{row_for, symbol_function, in_text, index_of}
 use Rattle.loader.specs.Trace.{Trace, each}
 use Rattle.loader.specs.Deeds.{DeedFits, deed_trace}
+use Rattle.elf_parser.specs.declared.error.ElfParserError.{ElfParserError}
+use Rattle.elf_parser.specs.declared.parts.Place.{Place}
+use Rattle.elf_parser.specs.declared.types.Elf64Phdr.{Elf64Phdr}
+use Rattle.elf_parser.specs.declared.types.Elf64Rel.{Elf64Rel}
+use Rattle.elf_parser.specs.declared.types.Elf64Rela.{Elf64Rela}
 
 -- ---- the place
 
 -- a relocation of the older kind, which brings no addend, and one that brings one; a blank one where there is none
-abbrev pub relocation_or : Rel → Relocation
-relocation_or (Plain r) = record { r_offset = r.r_offset; r_info = r.r_info; addend = None }
-relocation_or (NoRel e) = record { r_offset = 0; r_info = 0; addend = None }
+abbrev pub relocation_or : Result Elf64Rel ElfParserError → Relocation
+relocation_or (Ok r) = record { r_offset = r.r_offset; r_info = r.r_info; addend = None }
+relocation_or (Err e) = record { r_offset = 0; r_info = 0; addend = None }
 
-abbrev pub rela_or : Rela → Relocation
-rela_or (WithAddend r) = record { r_offset = r.r_offset; r_info = r.r_info; addend = Some r.r_addend }
-rela_or (NoRela e) = record { r_offset = 0; r_info = 0; addend = None }
+abbrev pub rela_or : Result Elf64Rela ElfParserError → Relocation
+rela_or (Ok r) = record { r_offset = r.r_offset; r_info = r.r_info; addend = Some r.r_addend }
+rela_or (Err e) = record { r_offset = 0; r_info = 0; addend = None }
 
 -- BOTH TABLES AS ONE LIST, the older first: the relocation number i, and how many there are
 unfoldable pub relocation_at : List ℕ → Layout → ℕ → Relocation
@@ -50,9 +54,9 @@ abbrev pub relocation_count : Job → ℕ
 relocation_count j = j.layout.dynamic_relocations.count + j.layout.dynamic_relas.count
 
 -- the program header number i; its addresses end at 2 ^ 64 - 1 at the latest
-abbrev pub header_by : Phdr → Option UsedHeader
-header_by (PHeader h) = Some (record { p_vaddr = h.p_vaddr; end = sum_up_to h.p_vaddr h.p_memsz; p_offset = h.p_offset })
-header_by (NoPhdr e) = None
+abbrev pub header_by : Result Elf64Phdr ElfParserError → Option UsedHeader
+header_by (Ok h) = Some (record { p_vaddr = h.p_vaddr; end = sum_up_to h.p_vaddr h.p_memsz; p_offset = h.p_offset })
+header_by (Err e) = None
 
 unfoldable pub header_at : List ℕ → Layout → ℕ → Option UsedHeader
 header_at s l i = header_by (program_header_of s l i)
@@ -126,9 +130,9 @@ word_deed len at value =
 unfoldable pub address_deed : ℕ → Bool → ℕ → ℕ → Result Deed ElfError
 address_deed len split at value = halves_deed len at (sum_up_to at 8) value if split else word_deed len at value
 
-abbrev pub symbol_deed : ℕ → Bool → ℕ → ℕ → ℕ → Sym → Result Deed ElfError
-symbol_deed len split at addend number (Symbol y) = address_deed len split at (program_address (sum_up_to y.st_value addend))
-symbol_deed len split at addend number (NoSym e) = Err (UnknownSymbol number)
+abbrev pub symbol_deed : ℕ → Bool → ℕ → ℕ → ℕ → Result Elf64Sym ElfParserError → Result Deed ElfError
+symbol_deed len split at addend number (Ok y) = address_deed len split at (program_address (sum_up_to y.st_value addend))
+symbol_deed len split at addend number (Err e) = Err (UnknownSymbol number)
 
 unfoldable pub plan6464 : List ℕ → List ℕ → Layout → Bool → ℕ → ℕ → Option ℕ → Result Deed ElfError
 plan6464 s im l split r number addend =
@@ -186,13 +190,13 @@ call_by_name part builtins j len r y start n =
     function_call builtins j len (immediate_at r) (symbol_function part start n) y.st_value if is_function y else
     builtin_call builtins j.reject_broken len (immediate_at r) r start n (murmur3 part)
 
-abbrev pub named_call : List ℕ → List ℕ → Job → ℕ → ℕ → Elf64Sym → Place → Result Deed ElfError
-named_call s builtins j len r y (Stands start n) = call_by_name (take n (drop start s)) builtins j len r y start n
-named_call s builtins j len r y (NoPlace e) = Err (UnknownSymbol y.st_name)
+abbrev pub named_call : List ℕ → List ℕ → Job → ℕ → ℕ → Elf64Sym → Result Place ElfParserError → Result Deed ElfError
+named_call s builtins j len r y (Ok p) = call_by_name (take p.length (drop p.start s)) builtins j len r y p.start p.length
+named_call s builtins j len r y (Err e) = Err (UnknownSymbol y.st_name)
 
-abbrev pub symbol_call : List ℕ → List ℕ → Job → ℕ → ℕ → ℕ → Sym → Result Deed ElfError
-symbol_call s builtins j len r number (Symbol y) = named_call s builtins j len r y (dynamic_symbol_name s j.layout y.st_name)
-symbol_call s builtins j len r number (NoSym e) = Err (UnknownSymbol number)
+abbrev pub symbol_call : List ℕ → List ℕ → Job → ℕ → ℕ → ℕ → Result Elf64Sym ElfParserError → Result Deed ElfError
+symbol_call s builtins j len r number (Ok y) = named_call s builtins j len r y (dynamic_symbol_name s j.layout y.st_name)
+symbol_call s builtins j len r number (Err e) = Err (UnknownSymbol number)
 
 unfoldable pub plan6432 : List ℕ → List ℕ → Job → ℕ → ℕ → ℕ → Result Deed ElfError
 plan6432 s builtins j len r number = symbol_call s builtins j len r number (dynamic_symbol_of s j.layout number)
@@ -263,8 +267,6 @@ used_next s l version2 i = rw (add-one i)
 
 -- type 8 uses its addend
 pub uses_eight : (type : ℕ) (a : Option ℕ) → type ≡ 8 → (uses_addend type && is_negative a) ≡ false → is_negative a ≡ false
-use Rattle.elf_parser.specs.declared.error.ElfParserError.{ElfParserError}
-use Rattle.elf_parser.specs.declared.parts.Place.{Place}
 uses_eight type a e h = rw e at h
 
 -- an addend that is not negative, and a number that was read
@@ -357,4 +359,4 @@ plan_fits s im builtins j None info addend = tt
 
 -- a parsed file has few relocations
 pub few_relocations : (s : List ℕ) (l : Layout) → parsed s ≡ Ok l → (16 * l.dynamic_relocations.count ≤ length s) × (24 * l.dynamic_relas.count ≤ length s)
-few_relocations s l e = let x = sound s l e in (x.relocations, x.relas)
+few_relocations s l e = let x = sound s l e in (omega (arith, x.relocations), omega (arith, x.relas))

@@ -17,6 +17,7 @@ pub(crate) fn pick<T: Copy>(b: bool, x: T, y: T) -> T
 }
 
 // Where a section of that sh_addr stands in the machine.
+#[tactic(auto, using(ebpf::specs::Choice::choices), unfolding(crate::specs::Addresses::machine_addr))]
 pub(crate) fn machine_addr(version2: bool, sh_addr: u64) -> u64
     ensures { result ≡ machine_addr version2 sh_addr }
 {

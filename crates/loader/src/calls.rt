@@ -41,6 +41,7 @@ fn target_of(count: u64, i: u64, imm: u32) -> Result<u32, ElfError>
     inside_text(count, i, to - 0x1_0000_0000)
 }
 
+#[tactic(auto, using(ebpf::specs::Choice::choices), unfolding(crate::specs::Calls::is_local_call))]
 pub fn is_local_call(version2: bool, insn: Insn) -> bool
     ensures { result ≡ is_local_call version2 insn }
 {
@@ -73,6 +74,7 @@ fn call_at(text: &[u8], version2: bool, i: usize) -> Result<Option<u32>, ElfErro
 
 // The first of two slots from number `at` on with a call's opcode; the one behind them where none has
 // it. Most slots call nothing, and this looks at one byte of each.
+#[tactic(auto, using(ebpf::specs::Choice::choices), unfolding(crate::specs::Calls::next_call))]
 fn among_two(file: &[u8], start: usize, at: usize) -> usize
     requires { (start + 8 * at + 16 ≤ length file.now) × (length file.now ≤ 2 ^ 24) }
     ensures { result ≡ next_call file.now start 2 at }
@@ -88,6 +90,7 @@ fn among_two(file: &[u8], start: usize, at: usize) -> usize
 }
 
 // The same of four, and of eight, so that a loop over slots tests its own end once for eight.
+#[tactic(auto, using(ebpf::specs::Choice::choices), unfolding(crate::specs::Calls::next_call))]
 fn among_four(file: &[u8], start: usize, at: usize) -> usize
     requires { (start + 8 * at + 32 ≤ length file.now) × (length file.now ≤ 2 ^ 24) }
     ensures { result ≡ next_call file.now start 4 at }
@@ -99,6 +102,7 @@ fn among_four(file: &[u8], start: usize, at: usize) -> usize
     among_two(file, start, at + 2)
 }
 
+#[tactic(auto, using(ebpf::specs::Choice::choices), unfolding(crate::specs::Calls::next_call))]
 fn among_eight(file: &[u8], start: usize, at: usize) -> usize
     requires { (start + 8 * at + 64 ≤ length file.now) × (length file.now ≤ 2 ^ 24) }
     ensures { result ≡ next_call file.now start 8 at }

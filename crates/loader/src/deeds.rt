@@ -57,6 +57,7 @@ fn entry_of(deed: Deed) -> Entry
 }
 
 // Four bytes, the lowest first.
+#[tactic(auto, using(ebpf::specs::Choice::choices), unfolding(crate::specs::Bytes::put))]
 pub(crate) fn store_u32(image: &mut [u8], at: usize, v: u32)
     requires { at + 4 ≤ length image.old }
     ensures { image.new ≡ put 4 image.old at v }
@@ -74,6 +75,7 @@ pub(crate) fn store_u32(image: &mut [u8], at: usize, v: u32)
 }
 
 // Two halves of a number.
+#[tactic(auto, using(ebpf::specs::Choice::choices), unfolding(crate::specs::Bytes::put))]
 fn store_halves(image: &mut [u8], low: usize, high: usize, v: u64)
     requires { (low + 4 ≤ length image.old) × (high + 4 ≤ length image.old) }
     ensures { image.new ≡ put 4 (put 4 image.old low (v % 2 ^ 32)) high (v / 2 ^ 32) }

@@ -14,6 +14,7 @@ use crate::validate::Job;
 use program::{ENTRYPOINT_KEY, FunctionName, FunctionRegistry};
 
 // What a load does about the entry.
+#[tactic(auto, using(ebpf::specs::Choice::choices), unfolding(crate::specs::Entry::entry_deed))]
 fn entry_deed(builtins: &[u32], table: &[u32], job: Job) -> Result<Deed, ElfError>
     requires { Keyed table.now × (job.e_entry - job.sh_addr ≤ 2 ^ 24) }
     ensures { result ≡ entry_deed builtins.now job }

@@ -17,6 +17,7 @@ pub struct PartPlace {
 
 // The text's place, by how many bytes are lent, the read-only bytes' offset from the program's start
 // and their place, `n` of them from `start` on, and the text's address and size.
+#[tactic(auto, using(ebpf::specs::Choice::choices), unfolding(crate::specs::GetBytes::text_place))]
 pub fn text_place(
     lent: u64,
     offset: u64,
@@ -56,6 +57,7 @@ pub fn text_bytes(lent: &[u8], offset: u64, start: u64, n: u64, addr: u64, size:
 }
 
 // The read-only bytes' place, by how many bytes are lent.
+#[tactic(auto, using(ebpf::specs::Choice::choices), unfolding(crate::specs::GetBytes::ro_place))]
 pub fn ro_place(lent: u64, start: u64, n: u64) -> Result<PartPlace, ElfError>
     ensures { result ≡ ro_place lent start n }
 {

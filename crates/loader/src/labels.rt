@@ -57,6 +57,7 @@ fn named_label(
     }
 }
 
+#[tactic(auto, using(ebpf::specs::Choice::choices), unfolding(crate::specs::Labels::label_of))]
 fn label_of(
     file: &[u8],
     builtins: &[u32],
@@ -81,6 +82,7 @@ fn label_of(
 }
 
 // The symbol number `index` of a symbol table.
+#[tactic(auto, using(ebpf::specs::Choice::choices), unfolding(crate::specs::Labels::label_deed))]
 pub(crate) fn label_deed(
     file: &[u8],
     builtins: &[u32],

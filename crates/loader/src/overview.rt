@@ -28,15 +28,13 @@ pub(crate) fn look_over(
     let len = file.len() as u64;
     let mut v = no_survey();
     let mut g = Ok(no_extent());
-    let mut i: u32 = 0;
-    while i < count {
+    for i in 0..count {
         let h = section_at(file, layout, i);
         let name = part_of(file, section_name(file, layout, h.sh_name));
         let surveyed = survey_next(len, i, h, name, v);
         let gathered = gather_next(file, layout, version2, reject_broken, i, h, name, g);
         v = surveyed;
         g = gathered;
-        i += 1;
     }
     Overview {
         survey: v,

@@ -42,17 +42,19 @@ pub struct Extent {
     pub many: u64,
 }
 
+#[tactic(auto, using(elf_parser::specs::SectionNames::same_tested), unfolding(crate::specs::ReadOnly::read_only))]
 fn is_read_only(name: &[u8]) -> bool
     ensures { result ≡ read_only name.now }
 {
-    let text = (name == b".text".as_slice());
-    let rodata = (name == b".rodata".as_slice());
-    let rel = (name == b".data.rel.ro".as_slice());
-    let frame = (name == b".eh_frame".as_slice());
+    let text = name == b".text".as_slice();
+    let rodata = name == b".rodata".as_slice();
+    let rel = name == b".data.rel.ro".as_slice();
+    let frame = name == b".eh_frame".as_slice();
     (text | rodata) | (rel | frame)
 }
 
 // Whether a section gives the constant.
+#[tactic(auto, using(ebpf::specs::Choice::choices), unfolding(crate::specs::ReadOnly::gives))]
 fn gives_shift(version2: bool, addr: u64, offset: u64, x: Extent) -> bool
     ensures { result ≡ gives version2 addr offset x }
 {
@@ -60,6 +62,7 @@ fn gives_shift(version2: bool, addr: u64, offset: u64, x: Extent) -> bool
 }
 
 // Whether an offset is invalid, with this section's.
+#[tactic(auto, using(ebpf::specs::Choice::choices), unfolding(crate::specs::ReadOnly::invalid_by))]
 fn is_invalid(version2: bool, addr: u64, offset: u64, x: Extent) -> bool
     ensures { result ≡ invalid_by version2 addr offset x }
 {
@@ -79,6 +82,7 @@ fn is_invalid(version2: bool, addr: u64, offset: u64, x: Extent) -> bool
 }
 
 // Where a section ends in the machine; in version 1 its start counts.
+#[tactic(auto, using(ebpf::specs::Choice::choices), unfolding(crate::specs::ReadOnly::end_of))]
 fn end_of(version2: bool, addr: u64, size: u64) -> u64
     ensures { result ≡ end_of version2 addr size }
 {
@@ -90,6 +94,7 @@ fn end_of(version2: bool, addr: u64, size: u64) -> u64
 }
 
 // With one section more, of `n` bytes in the file.
+#[tactic(auto, using(ebpf::specs::Choice::choices), unfolding(crate::specs::ReadOnly::grown))]
 fn grow(version2: bool, index: u64, addr: u64, offset: u64, n: u64, x: Extent) -> Extent
     ensures { result ≡ grown version2 index addr offset n x }
 {
@@ -107,6 +112,7 @@ fn grow(version2: bool, index: u64, addr: u64, offset: u64, n: u64, x: Extent) -
     }
 }
 
+#[tactic(auto, using(ebpf::specs::Choice::choices), unfolding(crate::specs::ReadOnly::taken))]
 fn take_section(
     version2: bool,
     reject_broken: bool,
@@ -164,12 +170,20 @@ pub(crate) fn gather_next(
         return Ok(x);
     }
     match file_range(file, layout, index) {
-        Ok(place) => take_section(version2, reject_broken, index as u64, h, place.length as u64, x),
+        Ok(place) => take_section(
+            version2,
+            reject_broken,
+            index as u64,
+            h,
+            place.length as u64,
+            x,
+        ),
         Err(_) => Err(ElfError::ValueOutOfBounds),
     }
 }
 
 // An address as an offset from the program's start.
+#[tactic(auto, using(ebpf::specs::Choice::choices), unfolding(crate::specs::ReadOnly::from_start))]
 fn from_start(addr: u64) -> u64
     ensures { result ≡ from_start addr }
 {
@@ -179,6 +193,7 @@ fn from_start(addr: u64) -> u64
     addr
 }
 
+#[tactic(auto, using(ebpf::specs::Choice::choices), unfolding(crate::specs::ReadOnly::can_borrow))]
 fn can_borrow(x: Extent) -> bool
     ensures { result ≡ can_borrow x }
 {
@@ -186,6 +201,7 @@ fn can_borrow(x: Extent) -> bool
     !x.invalid & (end.saturating_sub(x.first) == x.many)
 }
 
+#[tactic(auto, using(ebpf::specs::Choice::choices), unfolding(crate::specs::ReadOnly::borrowed))]
 fn borrow_sections(version2: bool, x: Extent) -> Result<Placing, ElfError>
     ensures { result ≡ borrowed version2 x }
 {
@@ -201,6 +217,7 @@ fn borrow_sections(version2: bool, x: Extent) -> Result<Placing, ElfError>
     })
 }
 
+#[tactic(auto, using(ebpf::specs::Choice::choices), unfolding(crate::specs::ReadOnly::owned))]
 fn own_sections(len: u64, optimize: bool, x: Extent) -> Result<Placing, ElfError>
     ensures { result ≡ owned len optimize x }
 {
@@ -216,6 +233,7 @@ fn own_sections(len: u64, optimize: bool, x: Extent) -> Result<Placing, ElfError
     })
 }
 
+#[tactic(auto, using(ebpf::specs::Choice::choices), unfolding(crate::specs::ReadOnly::placed))]
 fn place_extent(
     len: u64,
     version2: bool,
@@ -266,6 +284,7 @@ pub(crate) fn copy_bytes(to: &mut [u8], from: &[u8], at: usize, start: usize, n:
 }
 
 // The same, where both lie inside; else nothing changes.
+#[tactic(auto, using(ebpf::specs::Choice::choices), unfolding(crate::specs::ReadOnly::copied_to))]
 fn copy_inside(ro: &mut [u8], image: &[u8], at: u64, start: usize, n: usize)
     ensures { ro.new ≡ copied_to ro.old image.now at start n }
 {
@@ -279,6 +298,7 @@ fn copy_inside(ro: &mut [u8], image: &[u8], at: u64, start: usize, n: usize)
 }
 
 // One section, read-only or not.
+#[tactic(auto, using(ebpf::specs::Choice::choices), unfolding(crate::specs::ReadOnly::copy_step))]
 fn copy_section(ro: &mut [u8], image: &[u8], file: &[u8], layout: Layout, lowest: u64, index: u32)
     ensures { ro.new ≡ copy_step image.now file.now layout lowest index ro.old }
 {

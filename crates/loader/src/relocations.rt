@@ -76,6 +76,7 @@ fn addend_relocation(file: &[u8], layout: Layout, index: u32) -> Relocation
 }
 
 // The relocation number `index` of both tables, the older one first.
+#[tactic(auto, using(ebpf::specs::Choice::choices), unfolding(crate::specs::Relocations::relocation_at))]
 pub fn relocation_at(file: &[u8], layout: Layout, index: u32) -> Relocation
     ensures { result ≡ relocation_at file.now layout index }
 {
@@ -138,6 +139,7 @@ fn first_header(file: &[u8], layout: Layout, count: u32, a: u64) -> Option<UsedH
 
 // The header that the relocation at `r_offset` is mapped by, after one that was mapped by `used`. Version
 // 1 maps nothing.
+#[tactic(auto, using(ebpf::specs::Choice::choices), unfolding(crate::specs::Relocations::used_header))]
 pub fn used_header(
     file: &[u8],
     layout: Layout,
@@ -175,6 +177,7 @@ pub fn r_place(version2: bool, used: Option<UsedHeader>, r_offset: u64) -> Optio
 }
 
 // Whether a place lies in the `length` bytes from `start` on.
+#[tactic(auto, using(ebpf::specs::Choice::choices), unfolding(crate::specs::Relocations::within))]
 pub fn is_within(start: u64, length: u64, r: u64) -> bool
     ensures { result ≡ within start length r }
 {
@@ -185,6 +188,7 @@ pub fn is_within(start: u64, length: u64, r: u64) -> bool
 }
 
 // An address in the machine: below the program's start it gains that.
+#[tactic(auto, using(ebpf::specs::Choice::choices), unfolding(crate::specs::Relocations::program_address))]
 fn program_address(a: u64) -> u64
     ensures { result ≡ program_address a }
 {
@@ -195,12 +199,14 @@ fn program_address(a: u64) -> u64
 }
 
 // The place of an immediate's four bytes.
+#[tactic(auto, using(ebpf::specs::Choice::choices), unfolding(crate::specs::Relocations::immediate_at))]
 fn immediate_at(r: u64) -> u64
     ensures { result ≡ immediate_at r }
 {
     r.saturating_add(4)
 }
 
+#[tactic(auto, using(ebpf::specs::Choice::choices), unfolding(crate::specs::Relocations::halves_deed))]
 fn halves_deed(len: u64, low: u64, high: u64, value: u64) -> Result<Deed, ElfError>
     ensures { result ≡ halves_deed len low high value }
 {
@@ -217,6 +223,7 @@ fn halves_deed(len: u64, low: u64, high: u64, value: u64) -> Result<Deed, ElfErr
     })
 }
 
+#[tactic(auto, using(ebpf::specs::Choice::choices), unfolding(crate::specs::Relocations::word_deed))]
 fn word_deed(len: u64, at: u64, value: u64) -> Result<Deed, ElfError>
     ensures { result ≡ word_deed len at value }
 {
@@ -230,6 +237,7 @@ fn word_deed(len: u64, at: u64, value: u64) -> Result<Deed, ElfError>
 }
 
 // Type 1 at a place: an instruction's two halves, or eight bytes.
+#[tactic(auto, using(ebpf::specs::Choice::choices), unfolding(crate::specs::Relocations::address_deed))]
 fn address_deed(len: u64, split: bool, at: u64, value: u64) -> Result<Deed, ElfError>
     ensures { result ≡ address_deed len split at value }
 {
@@ -273,6 +281,7 @@ fn is_negative(addend: Option<u64>) -> bool
 }
 
 // Type 1: the address of a symbol, plus the addend or the four bytes that are there.
+#[tactic(auto, using(ebpf::specs::Choice::choices), unfolding(crate::specs::Relocations::plan6464))]
 fn plan_64_64(
     file: &[u8],
     image: &[u8],
@@ -301,6 +310,7 @@ fn plan_64_64(
 }
 
 // Type 8 in the text: an instruction's two halves.
+#[tactic(auto, using(ebpf::specs::Choice::choices), unfolding(crate::specs::Relocations::relative_text))]
 fn relative_text(len: u64, low: u64, high: u64, address: u64) -> Result<Deed, ElfError>
     ensures { result ≡ relative_text len low high address }
 {
@@ -322,6 +332,7 @@ fn relative_text(len: u64, low: u64, high: u64, address: u64) -> Result<Deed, El
 
 // Type 8 outside the text: version 2 keeps an address of eight bytes there, version 1 the lower half of
 // one in the upper four.
+#[tactic(auto, using(ebpf::specs::Choice::choices), unfolding(crate::specs::Relocations::relative_value))]
 fn relative_value(version2: bool, upper: u64, whole: u64) -> u64
     requires { upper < 2 ^ 63 }
     ensures { result ≡ relative_value version2 upper whole }
@@ -339,6 +350,7 @@ fn join_halves(low: u32, high: u32) -> u64
 }
 
 // Type 8: an address that no symbol has, the addend or the bytes that are there.
+#[tactic(auto, using(ebpf::specs::Choice::choices), unfolding(crate::specs::Relocations::plan_relative))]
 fn plan_relative(
     image: &[u8],
     version2: bool,
@@ -353,10 +365,7 @@ fn plan_relative(
     let low = immediate_at(r);
     if in_text {
         let high = immediate_at(r.saturating_add(8));
-        let address = join_halves(
-            read(image, low as usize),
-            read(image, high as usize),
-        );
+        let address = join_halves(read(image, low as usize), read(image, high as usize));
         return relative_text(len, low, high, addend.unwrap_or(address));
     }
     let value = relative_value(
@@ -393,6 +402,7 @@ fn register_deed(len: u64, at: u64, row: Result<Row, SymbolHashCollision>) -> Re
 }
 
 // A call of a function symbol.
+#[tactic(auto, using(ebpf::specs::Choice::choices), unfolding(crate::specs::Relocations::function_call))]
 fn function_call(
     builtins: &[u32],
     table: &[u32],
@@ -415,6 +425,7 @@ fn function_call(
 }
 
 // A call of any other symbol: by the hash of its name.
+#[tactic(auto, using(ebpf::specs::Choice::choices), unfolding(crate::specs::Relocations::builtin_call))]
 fn builtin_call(
     builtins: &[u32],
     reject_broken: bool,
@@ -444,6 +455,7 @@ fn builtin_call(
 }
 
 // A call of a symbol whose name is `part`, which stands at `place`.
+#[tactic(auto, using(ebpf::specs::Choice::choices), unfolding(crate::specs::Relocations::call_by_name))]
 fn call_by_name(
     part: &[u8],
     builtins: &[u32],
@@ -491,6 +503,7 @@ fn named_call(
 }
 
 // Type 10: a call by the name of a symbol.
+#[tactic(auto, using(ebpf::specs::Choice::choices), unfolding(crate::specs::Relocations::plan6432))]
 fn plan_64_32(
     file: &[u8],
     builtins: &[u32],
@@ -510,6 +523,7 @@ fn plan_64_32(
 }
 
 // A relocation at a place of the file, by its type.
+#[tactic(auto, using(ebpf::specs::Choice::choices), unfolding(crate::specs::Relocations::plan_at))]
 fn plan_at(
     file: &[u8],
     image: &[u8],

@@ -36,6 +36,7 @@ fn starts_with(name: &[u8], prefix: &[u8]) -> bool
 
 // Whether a section of that name and those flags is not supported: a name that starts with .bss, or
 // a writable one that starts with .data but not with .data.rel.
+#[tactic(auto, using(ebpf::specs::Choice::choices), unfolding(crate::specs::Sections::unsupported))]
 fn is_unsupported(name: &[u8], sh_flags: u64) -> bool
     ensures { result ≡ unsupported name.now sh_flags }
 {
@@ -46,6 +47,7 @@ fn is_unsupported(name: &[u8], sh_flags: u64) -> bool
 }
 
 // Whether a section's range, whatever its type, does not lie in the file.
+#[tactic(auto, using(ebpf::specs::Choice::choices), unfolding(crate::specs::Sections::outside_file))]
 fn outside_file(len: u64, sh_offset: u64, sh_size: u64) -> bool
     ensures { result ≡ outside_file len sh_offset sh_size }
 {
@@ -80,6 +82,7 @@ pub(crate) fn no_survey() -> Survey
 }
 
 // With one section more, of that header and name, in a file of `len` bytes.
+#[tactic(auto, using(elf_parser::specs::SectionNames::same_tested))]
 pub(crate) fn survey_next(len: u64, index: u32, h: Elf64Shdr, name: &[u8], v: Survey) -> Survey
     requires { (v.texts ≤ index) × (index < 65536) }
     ensures { result ≡ survey_named len index h name.now v }

@@ -43,6 +43,7 @@ pub struct Job {
 }
 
 // The sizes that a load refuses before it looks at the file.
+#[tactic(auto, using(ebpf::specs::Choice::choices), unfolding(crate::specs::Validate::size_check))]
 fn check_sizes(len: u64, image: u64, ro: u64) -> Result<(), ElfError>
     ensures { result ≡ size_check len image ro }
 {
@@ -77,6 +78,7 @@ fn is_ascending(s: &[u32]) -> bool
 }
 
 // The file header's part: ABI, machine, type, version, and version 2's limits.
+#[tactic(auto, using(ebpf::specs::Choice::choices), unfolding(crate::specs::Validate::header_check))]
 fn check_header(h: Elf64Ehdr, c: Config, version2: bool) -> Result<(), ElfError>
     ensures { result ≡ header_check h c version2 }
 {
@@ -120,6 +122,7 @@ fn writable_error(file: &[u8], layout: Layout, sh_name: u32) -> ElfError
     }
 }
 
+#[tactic(auto, using(ebpf::specs::Choice::choices), unfolding(crate::specs::Validate::sections_check))]
 fn check_sections(file: &[u8], layout: Layout, v: Survey) -> Result<(), ElfError>
     ensures { result ≡ sections_check file.now layout v }
 {
@@ -136,6 +139,7 @@ fn check_sections(file: &[u8], layout: Layout, v: Survey) -> Result<(), ElfError
 }
 
 // The entry and the text's place.
+#[tactic(auto, using(ebpf::specs::Choice::choices), unfolding(crate::specs::Validate::text_check))]
 fn check_text(
     version2: bool,
     reject_broken: bool,
@@ -166,6 +170,7 @@ fn check_text(
 }
 
 // What a load needs, where every check passed.
+#[tactic(auto, using(ebpf::specs::Choice::choices), unfolding(crate::specs::Validate::job_of))]
 fn job_of(
     c: Config,
     version2: bool,

@@ -18,18 +18,12 @@ loop-i-init c =
 pub survey_next-surveyed-requires : goal.survey_next-surveyed-requires
 survey_next-surveyed-requires c = (c.loop-i.invariant.1, omega arith)
 
-pub overflow_add-i : goal.overflow_add-i
-overflow_add-i c = omega arith
-
-pub loop-i-smaller : goal.loop-i-smaller
-loop-i-smaller c = omega arith
-
 pub loop-i-preserved : goal.loop-i-preserved
 unfolding survey_step
 loop-i-preserved c =
     let e : c.args.count - (c.loop-i.i + 1) ≡ (c.args.count - c.loop-i.i) - 1 = omega arith in
-    let v : c.survey_next-surveyed.result ≡ survey_step c.args.file.now c.args.layout c.loop-i.i c.loop-i.v = c.survey_next-surveyed.ensures ∙ rw (c.section_name_part-name.ensures, c.section_at-h.ensures) refl in
-    let g : c.gather_next-gathered.result ≡ gather_next c.args.file.now c.args.layout c.args.version2 c.args.reject_broken c.loop-i.i (section_at c.args.file.now c.args.layout c.loop-i.i) (name_of c.args.file.now c.args.layout (section_at c.args.file.now c.args.layout c.loop-i.i)) c.loop-i.g = c.gather_next-gathered.ensures ∙ rw (c.section_name_part-name.ensures, c.section_at-h.ensures) refl in (
+    let v : c.survey_next-surveyed.result ≡ survey_step c.args.file.now c.args.layout c.loop-i.i c.loop-i.v = c.survey_next-surveyed.ensures ∙ rw (c.part_of-name.ensures, c.section_name.ensures, c.section_at-h.ensures) refl in
+    let g : c.gather_next-gathered.result ≡ gather_next c.args.file.now c.args.layout c.args.version2 c.args.reject_broken c.loop-i.i (section_at c.args.file.now c.args.layout c.loop-i.i) (name_of c.args.file.now c.args.layout (section_at c.args.file.now c.args.layout c.loop-i.i)) c.loop-i.g = c.gather_next-gathered.ensures ∙ rw (c.part_of-name.ensures, c.section_name.ensures, c.section_at-h.ensures) refl in (
       omega arith,
       rw v (texts_step c.args.file.now c.args.layout c.loop-i.i c.loop-i.v c.loop-i.invariant.1),
       rw (e, v) (c.loop-i.invariant.2 ∙ survey_next c.args.file.now c.args.layout (c.args.count - c.loop-i.i) c.loop-i.i c.loop-i.v (omega arith)),

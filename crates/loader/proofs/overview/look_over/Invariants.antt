@@ -14,6 +14,3 @@ invariant-loop-i l =
     × (l.v.texts ≤ l.i)
     × (survey l.file l.layout l.count ≡ survey_from l.file l.layout (l.count - l.i) l.i l.v)
     × (gathered l.file l.layout l.count l.version2 l.reject_broken ≡ gather_from l.file l.layout l.version2 l.reject_broken (l.count - l.i) l.i l.g)
-
-abbrev pub decreases-loop-i : goal.decreases-loop-i
-decreases-loop-i l = l.count - l.i

@@ -8,14 +8,11 @@ use Rattle.loader.proofs.relocations.named_call.Goals as goal
 
 pub call_by_name-requires : goal.call_by_name-requires
 call_by_name-requires c =
-    let n = name_within _ _ _ _ _ _ _ (sym c.dynamic_symbol_name.ensures ∙ c.in-At.is) in
+    let n = name_within _ _ _ _ _ _ (sym c.dynamic_symbol_name.ensures ∙ c.in-Ok.is) in
     (c.requires.1, c.requires.0.size, omega (arith, c.requires.0.short, n), omega (arith, n))
 
-pub returns-in-At : goal.returns-in-At
-returns-in-At c =
-    let n = name_within _ _ _ _ _ _ _ (sym c.dynamic_symbol_name.ensures ∙ c.in-At.is) in
-    let part = c.part_of-part.ensures ∙ part_within _ _ _ (omega (arith, n)) in
-    rw (← c.dynamic_symbol_name.ensures, c.in-At.is) (rw part at c.call_by_name.ensures)
-
-pub returns-in-Refused : goal.returns-in-Refused
-returns-in-Refused c = rw (← c.dynamic_symbol_name.ensures, c.in-Refused.is)
+pub returns-in-Ok : goal.returns-in-Ok
+returns-in-Ok c =
+    let n = name_within _ _ _ _ _ _ (sym c.dynamic_symbol_name.ensures ∙ c.in-Ok.is) in
+    let part = c.bytes_at-part.ensures ∙ part_within _ _ _ (omega (arith, n)) in
+    rw (← c.dynamic_symbol_name.ensures, c.in-Ok.is) (rw part at c.call_by_name.ensures)
