@@ -370,10 +370,7 @@ fn plan_relative(image: &[u8], version2: bool, in_text: bool, r: u64, addend: Ad
     let low = immediate_at(r);
     if in_text {
         let high = immediate_at(saturating_add(r, 8));
-        let address = join_halves(
-            read(image, low as usize),
-            read(image, high as usize),
-        );
+        let address = join_halves(read(image, low as usize), read(image, high as usize));
         return relative_text(len, low, high, addend_or(addend, address));
     }
     let value = relative_value(
