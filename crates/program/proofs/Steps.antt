@@ -32,6 +32,13 @@ pub record Counts (t : Slices) (used n : ℕ) : Type 0 where
 pub counts : (t u : Slices) (used used' n : ℕ) → u ≡ t → used' ≡ used → n ≡ counted u used' → Within n u → Counts t used n
 counts t u used used' n e f is w = record { is = rw (e, f) at is; within = rw e at w }
 
+pub counts_lent : (t : Slices) (used rows n : ℕ) → rows ≡ capacity t → Within rows t → n ≡ min used rows → Counts t used n
+unfolding counted
+counts_lent t used rows n e w is = record {
+  is = is ∙ ap (min used) e;
+  within = record { in_keys = omega arith; in_indices = omega arith; in_kinds = omega arith; in_starts = omega arith; in_lengths = omega arith };
+}
+
 pub row_within : (t : Slices) (n at : ℕ) → Within n t → at < n → Within (at + 1) t
 row_within t n at w l = record { in_keys = omega arith; in_indices = omega arith; in_kinds = omega arith; in_starts = omega arith; in_lengths = omega arith }
 

@@ -3,6 +3,7 @@ ghost use Rattle.std.specs.Prelude.{◌≡◌, ◌≤◌, ◌<◌, length};
 ghost use Rattle.program.specs.Table.{opened, closed};
 
 // Opens the place `at` among the first `n` numbers, and puts `v` there.
+#[tactic(auto, using(crate::proofs::Shift::opened_move))]
 pub(crate) fn open_at(s: &mut [u32], at: usize, n: usize, v: u32)
     requires { (at ≤ n) × (n < length s.old) }
     ensures { s.new ≡ opened at n v s.old }
@@ -13,6 +14,7 @@ pub(crate) fn open_at(s: &mut [u32], at: usize, n: usize, v: u32)
 
 // Closes the place `at` among the first `n` numbers: those behind it come one nearer, and the last
 // place is zero.
+#[tactic(auto, using(crate::proofs::Shift::closed_move))]
 pub(crate) fn close_at(s: &mut [u32], at: usize, n: usize)
     requires { (at < n) × (n ≤ length s.old) }
     ensures { s.new ≡ closed at n s.old }

@@ -13,11 +13,7 @@ fn is_entrypoint(name: FunctionName) -> bool
     ensures { result ≡ is_entrypoint name }
 {
     match name {
-        FunctionName::Symbol {
-            start: _,
-            length: _,
-            entrypoint,
-        } => entrypoint,
+        FunctionName::Symbol { entrypoint, .. } => entrypoint,
         FunctionName::OfIndex => false,
         FunctionName::Entrypoint => true,
     }
@@ -25,6 +21,7 @@ fn is_entrypoint(name: FunctionName) -> bool
 
 // The key of a name and an index: in version 2 the index; in version 1 the hash of the name
 // entrypoint for that name, else the index's key, from the lent table of the first keys or worked out.
+#[tactic(auto, using(ebpf::specs::Choice::choices, crate::proofs::Keys::entrypoint_key), unfolding(crate::specs::HashedLegacy::legacy_key))]
 pub fn legacy_key(table: &[u32], version2: bool, name: FunctionName, index: u32) -> u32
     ensures { result ≡ legacy_key table.now version2 name index }
 {
@@ -37,15 +34,19 @@ pub fn legacy_key(table: &[u32], version2: bool, name: FunctionName, index: u32)
     ebpf::index_key_in(table, index as u64)
 }
 
+// A name that is empty or not kept.
+const EMPTY: KeptName = KeptName {
+    kind: crate::NAME_EMPTY,
+    start: 0,
+    length: 0,
+};
+
+#[tactic(auto, using(ebpf::specs::Choice::choices), unfolding(crate::specs::HashedLegacy::kept_symbol))]
 fn kept_symbol(labels: bool, start: u32, length: u32, entrypoint: bool) -> KeptName
     ensures { result ≡ kept_symbol labels start length entrypoint }
 {
     if length == 0 {
-        return KeptName {
-            kind: crate::NAME_EMPTY,
-            start: 0,
-            length: 0,
-        };
+        return EMPTY;
     }
     if labels | entrypoint {
         return KeptName {
@@ -54,14 +55,11 @@ fn kept_symbol(labels: bool, start: u32, length: u32, entrypoint: bool) -> KeptN
             length,
         };
     }
-    KeptName {
-        kind: crate::NAME_EMPTY,
-        start: 0,
-        length: 0,
-    }
+    EMPTY
 }
 
 // What a row keeps of a name. Without labels only the name entrypoint is kept.
+#[tactic(auto, using(ebpf::specs::Choice::choices))]
 pub fn kept_name(labels: bool, name: FunctionName) -> KeptName
     ensures { result ≡ kept_name labels name }
 {
@@ -71,15 +69,12 @@ pub fn kept_name(labels: bool, name: FunctionName) -> KeptName
             length,
             entrypoint,
         } => kept_symbol(labels, start, length, entrypoint),
-        FunctionName::OfIndex => KeptName {
-            kind: if labels {
-                crate::NAME_OF_INDEX
-            } else {
-                crate::NAME_EMPTY
-            },
+        FunctionName::OfIndex if labels => KeptName {
+            kind: crate::NAME_OF_INDEX,
             start: 0,
             length: 0,
         },
+        FunctionName::OfIndex => EMPTY,
         FunctionName::Entrypoint => KeptName {
             kind: crate::NAME_ENTRYPOINT,
             start: 0,
@@ -89,6 +84,7 @@ pub fn kept_name(labels: bool, name: FunctionName) -> KeptName
 }
 
 // Whether a binary search finds the key: on keys that ascend strictly, whether it is among them.
+#[tactic(auto, using(crate::proofs::Searches::among_past, crate::proofs::Searches::among_at))]
 pub fn is_builtin(builtins: &[u32], key: u32) -> bool
     ensures { result ≡ is_among key builtins.now }
 {
@@ -101,19 +97,15 @@ pub fn is_builtin(builtins: &[u32], key: u32) -> bool
 }
 
 // Whether a built-in has the key already: asked in version 1 with the check on only.
+#[tactic(auto, using(ebpf::specs::Choice::choices), unfolding(crate::specs::HashedLegacy::is_taken))]
 pub fn is_taken(builtins: &[u32], version2: bool, check: bool, key: u32) -> bool
     ensures { result ≡ is_taken builtins.now version2 check key }
 {
-    if version2 {
-        return false;
-    }
-    if check {
-        return is_builtin(builtins, key);
-    }
-    false
+    !version2 && check && is_builtin(builtins, key)
 }
 
 // The row that a function is registered as, or the collision of its key with a built-in.
+#[tactic(auto, using(ebpf::specs::Choice::choices), unfolding(crate::specs::HashedLegacy::legacy_row))]
 pub fn legacy_row(
     table: &[u32],
     builtins: &[u32],

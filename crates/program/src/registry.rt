@@ -107,6 +107,7 @@ impl FunctionRegistry<'_> {
     }
 
     // Removes the row of a key, where there is one: how many rows moved. At most the rows lent count.
+    #[tactic(auto, using(crate::proofs::Steps::row_inside))]
     pub fn unregister_function(&mut self, key: u32) -> Option<usize>
         ensures same { SameColumns self.old self.new }
         ensures unregisters { Unregisters (columns_of self.old) (columns_of self.new) self.old.used key result }

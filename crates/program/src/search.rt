@@ -13,6 +13,7 @@ fn half_where(half: usize, a: u32, b: u32) -> usize
 }
 
 // A turn of the search outside a loop, where a test becomes no branch.
+#[tactic(auto, using(crate::proofs::Searches::halved_up, crate::proofs::Searches::halved_down))]
 fn halve(ranks: &[u32], base: usize, half: usize, key: u32) -> usize
     requires { base + half < length ranks.now }
     ensures { Halved key ranks.now base half result }
@@ -57,8 +58,10 @@ fn narrow(ranks: &[u32], n: usize, key: u32) -> usize
     narrow_few(ranks, base, size, key)
 }
 
+// Kept: the library has no `partition_point` or `binary_search`, and here no branch depends on a key.
 // The binary search: the place of `key` among the first `n` numbers. Where they ascend, it is how many
 // are below `key`; on any others it is at most `n`.
+#[tactic(auto, using(crate::proofs::Searches::search_none, crate::proofs::Searches::search_next, crate::proofs::Searches::search_here))]
 pub(crate) fn binary_search(ranks: &[u32], n: usize, key: u32) -> usize
     requires { n ≤ length ranks.now }
     ensures { result ≡ binary_search key (take n ranks.now) }
@@ -73,8 +76,9 @@ pub(crate) fn binary_search(ranks: &[u32], n: usize, key: u32) -> usize
     at
 }
 
-// Whether one of the eight numbers from `at` on is `key`. All are compared, without a branch between
-// them, so that the processor does it at once.
+// Whether one of the eight numbers from `at` on is `key`.
+// Kept: all are compared, without a branch between them, so that the processor does it at once; `contains`
+// stops at the first.
 fn one_of_eight(keys: &[u32], at: usize, key: u32) -> bool
     requires { at + 8 ≤ length keys.now }
     ensures { result ≡ one_of 8 key keys.now at }
@@ -112,12 +116,10 @@ pub(crate) fn first_of(keys: &[u32], n: usize, key: u32) -> usize
     requires { n ≤ length keys.now }
     ensures { result ≡ index_of key (take n keys.now) }
 {
-    let mut i = pass_eights(keys, n, key);
-    while i < n {
+    for i in pass_eights(keys, n, key)..n {
         if keys[i] == key {
             return i;
         }
-        i += 1;
     }
-    i
+    n
 }

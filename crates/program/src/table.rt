@@ -28,11 +28,14 @@ impl FunctionTable<'_> {
         self.used.min(self.rows_lent())
     }
 
-    // What a registration answers, before anything moves.
+    // What a registration answers, before anything moves. Inlined, since as a call's result it would go
+    // through memory.
+    #[inline(always)]
     pub(crate) fn answer_of(self, row: Row) -> Result<Registered, RegisterError>
         ensures { result ≡ register_in (columns_in self.entry) self.entry.used row }
     {
-        let n = self.counted();
+        let rows = self.rows_lent();
+        let n = self.used.min(rows);
         let at = search::binary_search(self.keys, n, row.key);
         if at < n && self.keys[at] == row.key {
             if self.indices[at] == row.index {
@@ -40,7 +43,7 @@ impl FunctionTable<'_> {
             }
             return Err(RegisterError::Collision);
         }
-        if self.rows_lent() <= n {
+        if rows <= n {
             return Err(RegisterError::Full);
         }
         Ok(Registered::Inserted(n - at))
@@ -86,6 +89,7 @@ impl FunctionTable<'_> {
 // The number of the row under a key, as `lookup_ascending` finds it, by the column of keys alone: the
 // caller reads what it needs of that row in its own columns. As many rows count as the column has
 // numbers.
+#[tactic(auto, using(crate::proofs::Steps::row_past, crate::proofs::Steps::row_other, crate::proofs::Steps::row_here))]
 pub fn row_ascending(keys: &[u32], used: usize, key: u32) -> Option<usize>
     ensures { result ≡ row_ascending_in keys.now used key }
 {
@@ -103,6 +107,7 @@ pub fn row_ascending(keys: &[u32], used: usize, key: u32) -> Option<usize>
 
 // The index of that row, by the columns of keys and indices alone: what a call needs, with less to hand
 // over. As many rows count as the shorter column has numbers.
+#[tactic(auto, using(crate::proofs::Steps::row_inside), unfolding(crate::specs::Table::index_ascending_in))]
 pub fn index_ascending(keys: &[u32], indices: &[u32], used: usize, key: u32) -> Option<u32>
     ensures { result ≡ index_ascending_in keys.now indices.now used key }
 {

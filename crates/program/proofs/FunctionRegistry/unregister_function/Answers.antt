@@ -10,15 +10,6 @@ pub returns-in_err-at-clause-unregisters : goal.returns-in_err-at-clause-unregis
 returns-in_err-at-clause-unregisters c =
     rw c.from_residual.ensures (absent (columns_of c.args.self.now) _ _ (counts _ _ _ _ _ c.as_table-table.ensures.columns c.as_table-table.ensures.used c.counted-n.ensures.is c.counted-n.ensures.within) _ _ (c.row_ascending.ensures ∙ ap (λ (t : Slices). row_ascending_in t.keys c.counted-n.result c.args.key) c.as_table-table.ensures.columns) c.in_err-at.was)
 
-pub close_row-requires-clause-at_within : goal.close_row-requires-clause-at_within
-close_row-requires-clause-at_within c = (row_inside _ _ _ _ _ c.row_ascending.ensures c.in_ok-at.was).1
-
-pub overflow_sub-result : goal.overflow_sub-result
-overflow_sub-result c = omega (arith, (row_inside _ _ _ _ _ c.row_ascending.ensures c.in_ok-at.was).1)
-
-pub overflow_sub-result-2 : goal.overflow_sub-result-2
-overflow_sub-result-2 c = omega (arith, (row_inside _ _ _ _ _ c.row_ascending.ensures c.in_ok-at.was).1)
-
 pub returns-clause-unregisters : goal.returns-clause-unregisters
 returns-clause-unregisters c =
     gone (columns_of c.args.self.now) _ _ (counts _ _ _ _ _ c.as_table-table.ensures.columns c.as_table-table.ensures.used c.counted-n.ensures.is c.counted-n.ensures.within) _ _ (c.row_ascending.ensures ∙ ap (λ (t : Slices). row_ascending_in t.keys c.counted-n.result c.args.key) c.as_table-table.ensures.columns) _ _ c.in_ok-at.was c.close_row.ensures.closed
