@@ -50,7 +50,7 @@ def listed():
 RULES = [(re.compile(rule), to) for rule, to in (
     (r' < ', ' <= '), (r' <= ', ' < '), (r' == ', ' != '), (r' != ', ' == '), (r' & ', ' | '), (r' \| ', ' & '), (r'!(?=[a-z])', ''),
     (r'\btrue\b', 'false'), (r'\bfalse\b', 'true'), (r' - 1\b', ''), (r' / 8\b', ' / 4'), (r' \* [0-9]+', ''),
-    (r'saturating_(?:add|sub)\(([^,()]+), [^,()]+\)', r'\1'), (r'\blesser\(', 'greater('), (r'\bgreater\(', 'lesser('),
+    (r'\.saturating_(?:add|sub)\([^()]+\)', ''), (r'\.min\(', '.max('), (r'\.max\(', '.min('),
     (r'\b[1-9][0-9_]*\b', lambda m: str(int(m[0]) + 1)), (r'\b0x[0-9a-f_]+\b', lambda m: hex(int(m[0], 16) - 1)))]
 # Lines without code, and those of contracts.
 NO_CODE = ('//', 'use ', 'ghost ', 'ensures ', 'requires ', 'mod ', 'pub use ', 'pub mod ')

@@ -83,5 +83,5 @@ file =
 
 -- accepted 2 0 1 0, and 0 0 2
 two_slots : lines_of file ≡ 97 ∷ 99 ∷ 99 ∷ 101 ∷ 112 ∷ 116 ∷ 101 ∷ 100 ∷ 32 ∷ 50 ∷ 32 ∷ 48 ∷ 32 ∷ 49 ∷ 32 ∷ 48 ∷ 10 ∷ 48 ∷ 32 ∷ 48 ∷ 32 ∷ 50 ∷ 10 ∷ []
-unfolding file lines_of word_line row_line row_lines spaced decimal digits_in ◌if◌else◌ slot_at insn_at le bytes_of first_with segment_slice section_slice or_else values_from relocations_of symbols_of linking dynamic_in parser.◌then◌ header_fixed header_right header_check tables_check ◌into◌ over name_by first_check file_check named_layout parsed bytes_at entry_at symbol_table_of file_range section_check leaves section_step same_bytes role_of placed named string_check before_zero terminated gives string_in file_header section_header legacy_key is_taken legacy_row register registered machine_addr is_local_call call_of call_at call_deed slot_trace deed_trace entry_deed row_for label_symbols load_of job_trace ro.read_only ro.invalid_by ro.end_of ro.grown ro.taken ro.gather_step ro.can_borrow ro.borrowed ro.placed ro.placing section_at starts_with unsupported outside_file survey_step survey_from and_then each settle load.size_check load.ascends load.header_check load.sections_check load.text_check load.job_of load.◌then◌ load.validated load.prepared
+unfolding file lines_of word_line row_line row_lines spaced decimal digits_in ◌if◌else◌ slot_at insn_at le bytes_of first_with segment_slice section_slice or_else values_from relocations_of symbols_of linking dynamic_in parser.◌then◌ header_fixed header_right header_check tables_check ◌into◌ over name_by first_check file_check named_layout parsed bytes_at entry_at symbol_table_of file_range section_check leaves section_step same_bytes role_of placed named string_check before_zero terminated gives string_in file_header section_header legacy_key is_taken legacy_row register registered machine_addr is_local_call call_of call_at call_deed slot_trace deed_trace entry_deed row_for label_symbols load_of job_trace ro.read_only ro.invalid_by ro.end_of ro.grown ro.taken ro.gather_step ro.can_borrow ro.borrowed ro.placed ro.placing section_at starts_with unsupported outside_file survey_step survey_from and_then each settle load.size_check load.ascends load.header_check load.sections_check load.text_check load.job_of load.validated load.prepared
 two_slots = refl

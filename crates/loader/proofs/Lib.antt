@@ -1,4 +1,3 @@
-pub mod Copies
 pub mod Going
 pub mod Entering
 pub mod Performing

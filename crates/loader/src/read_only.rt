@@ -275,12 +275,7 @@ pub(crate) fn copy_bytes(to: &mut [u8], from: &[u8], at: usize, start: usize, n:
     requires { (at + n ≤ length to.old) × (start + n ≤ length from.now) }
     ensures { to.new ≡ paste to.old at (drop start from.now) n }
 {
-    let mut i = 0;
-    while i < n {
-        let b = from[start + i];
-        to[at + i] = b;
-        i += 1;
-    }
+    to[at..at + n].copy_from_slice(&from[start..start + n]);
 }
 
 // The same, where both lie inside; else nothing changes.

@@ -3,8 +3,8 @@
 use mathlib.Core.Path.{refl}
 use Rattle.writers.proofs.naming.named_in.Goals as goal
 
-pub returns-in-Refused : goal.returns-in-Refused
-returns-in-Refused c = rw c.in-Refused.is (λ b. refl)
+pub returns-in-None : goal.returns-in-None
+returns-in-None c = rw c.in-None.is (λ b. refl)
 
-pub returns-in-At : goal.returns-in-At
-returns-in-At c = rw (c.in-At.is, ← c.is_within-in_text.ensures) c.named_by.ensures
+pub returns-in-Some : goal.returns-in-Some
+returns-in-Some c = rw (c.in-Some.is, ← c.is_within-in_text.ensures) c.named_by.ensures

@@ -16,7 +16,7 @@ returns-then-past c = rw (le-ltb _ _ c.if-len-gt16777216.false, ← c.past.ensur
 pub returns-in-Refused : goal.returns-in-Refused
 unfolding text_of ◌if◌else◌
 returns-in-Refused c =
-    rw (le-ltb _ _ c.if-len-gt16777216.false, ← c.past.ensures, c.if-past.false, ← c.parse.ensures, c.in-Refused.is, ← c.from_parser.ensures)
+    rw (le-ltb _ _ c.if-len-gt16777216.false, ← c.past.ensures, c.if-past.false, ← c.parse.ensures, c.in-Refused.is, ← c.from.ensures)
 
 pub returns-in-File : goal.returns-in-File
 unfolding text_of ◌if◌else◌
