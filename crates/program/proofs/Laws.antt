@@ -251,7 +251,7 @@ keys_registered n k r rs room = (split (ℕ_discrete (rank r) k), join)
 -- ---- a removal
 
 module _ (k : ℕ) (rs : List Row) where
-  -- Absent exactly where the key is not held; Gone exactly where it is, and the moves are the rows above
+  -- None exactly where the key is not held; Some exactly where it is, and the moves are the rows above
   pub absent_iff : (unregister k rs ≡ None) ↔ (find k rs ≡ None)
   unfolding unregister
   absent_iff = (go (find k rs), λ h. rw h refl)

@@ -8,7 +8,7 @@ use native.Mathlib.Omega.{arith}
 use lib.ListN.{length, take, drop, get_or, length-append, length-replicate, length-map, length-take, length-drop, get_or-append, get_or-map}
 use Rattle.program.specs.declared.Row.{Row}
 use Rattle.program.specs.Rows.{rank}
-use Rattle.program.specs.Table.{Slices, opened, closed, ranks_of, column, lay, capacity, Within, tab, row_at, rows_of, opened_row, closed_row, least, Least}
+use Rattle.program.specs.Table.{Slices, opened, closed, ranks_of, column, lay, capacity, Within, tab, row_at, rows_of, opened_row, closed_row, least}
 
 -- ---- opening and closing a place before a seam
 
@@ -75,11 +75,6 @@ module _ (f : Row → ℕ) (rs : List Row) (n : ℕ) where
 pub within_room : (n : ℕ) (t : Slices) → n ≤ capacity t → Within n t
 unfolding capacity least
 within_room n t h = record { in_keys = omega arith; in_indices = omega arith; in_kinds = omega arith; in_starts = omega arith; in_lengths = omega arith }
-
--- what `rows_lent` answers for a table's lengths
-pub lent_capacity : (t : Slices) (n : ℕ) → Least n (length t.keys) (length t.indices) (length t.kinds) (length t.starts) (length t.lengths) → n ≡ capacity t
-unfolding capacity
-lent_capacity t n l = l.is
 
 -- ---- the rows of the slices
 

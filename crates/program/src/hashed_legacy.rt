@@ -90,10 +90,7 @@ pub fn is_builtin(builtins: &[u32], key: u32) -> bool
 {
     let n = builtins.len();
     let at = search::binary_search(builtins, n, key);
-    if n <= at {
-        return false;
-    }
-    builtins[at] == key
+    at < n && builtins[at] == key
 }
 
 // Whether a built-in has the key already: asked in version 1 with the check on only.

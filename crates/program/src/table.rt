@@ -95,14 +95,10 @@ pub fn row_ascending(keys: &[u32], used: usize, key: u32) -> Option<usize>
 {
     let n = used.min(keys.len());
     let at = search::binary_search(keys, n, key);
-    if n <= at {
-        return None;
+    if at < n && keys[at] == key {
+        return Some(at);
     }
-    let held = keys[at];
-    if held != key {
-        return None;
-    }
-    Some(at)
+    None
 }
 
 // The index of that row, by the columns of keys and indices alone: what a call needs, with less to hand

@@ -1,9 +1,8 @@
 -- `program::FunctionRegistry::unregister_function` meets its contract: by the number of the row, where there is one.
 -- Assumes nothing.
-use native.Mathlib.Omega.{arith}
 use mathlib.Core.Path.{ap, ◌∙◌}
 use Rattle.program.specs.Table.{Slices, columns_of, row_ascending_in}
-use Rattle.program.proofs.Steps.{counts, row_inside, absent, gone}
+use Rattle.program.proofs.Steps.{counts, absent, gone}
 use Rattle.program.proofs.FunctionRegistry.unregister_function.Goals as goal
 
 pub returns-in_err-at-clause-unregisters : goal.returns-in_err-at-clause-unregisters
