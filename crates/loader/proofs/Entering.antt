@@ -22,7 +22,6 @@ use Rattle.loader.specs.declared.error.ElfError.{ElfError}
 use Rattle.loader.specs.declared.error.ElfError.TheVariants.{SymbolHashCollision, TableFull}
 use Rattle.loader.specs.declared.deeds.Held.{Held}
 use Rattle.std.specs.Prelude.{Result, Ok, Err}
-use Rattle.loader.specs.Deeds.{holding}
 use Rattle.loader.specs.Trace.{Settled, refused, on_registered, settle}
 use Rattle.loader.specs.InnerContracts.{entered_by, Begins, Enters}
 

@@ -21,7 +21,7 @@ use Rattle.program.specs.Table.{Slices, capacity, rows_of, Ready, Alike, Registe
 use Rattle.program.proofs.Alike.{alike_none, alike_named, alike_after, alike_kept}
 use Rattle.program.proofs.Cases.{zero_one}
 use Rattle.program.proofs.Laws.{find_stays, repeat_held, find_registered_same}
-use Rattle.loader.specs.declared.error.ElfError.TheVariants.{SymbolHashCollision, RelativeJumpOutOfBounds}
+use Rattle.loader.specs.declared.error.ElfError.TheVariants.{SymbolHashCollision}
 use Rattle.loader.specs.declared.validate.Job.{Job}
 use Rattle.loader.specs.declared.deeds.Held.{Held}
 use Rattle.loader.specs.declared.error.ElfError.{ElfError}

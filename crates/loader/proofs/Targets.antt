@@ -16,7 +16,7 @@ use Rattle.program.specs.declared.Row.{Row}
 use Rattle.program.specs.declared.FunctionName.TheVariants.{OfIndex}
 use Rattle.program.proofs.Cases.{by_test, by_lt, zero_one}
 use Rattle.loader.specs.declared.validate.Job.{Job}
-use Rattle.std.specs.Prelude.{Some, None, Ok, Err, Option, Result}
+use Rattle.std.specs.Prelude.{Some, None, Ok, Err, Result}
 use Rattle.loader.specs.declared.error.ElfError.{ElfError}
 use Rattle.loader.specs.declared.error.ElfError.TheVariants.{RelativeJumpOutOfBounds}
 use Rattle.loader.specs.Results.{not_ok}

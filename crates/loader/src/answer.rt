@@ -1,6 +1,6 @@
 // The answer of a load.
 ghost use Rattle.std.specs.Prelude.{◌≡◌, ◌-◌, ◌≤◌, ◌^◌};
-ghost use Rattle.loader.specs.Load.{accepted_as, answer_for};
+ghost use Rattle.loader.specs.Load.{accepted_as, answer_by};
 
 use crate::addresses::pick;
 use crate::deeds::Held;
@@ -57,11 +57,11 @@ fn accepted_as(
 }
 
 // The answer of a file that passed the checks.
-pub(crate) fn answer_of(a: Result<Held, ElfError>, job: Job) -> Result<Accepted, ElfError>
+pub(crate) fn answer_of(held: Held, job: Job) -> Result<Accepted, ElfError>
     requires { job.e_entry - job.sh_addr ≤ 2 ^ 24 }
-    ensures { result ≡ answer_for a job }
+    ensures { result ≡ answer_by job job.placing held.used held.moves }
 {
-    let Held { used, moves } = a?;
+    let Held { used, moves } = held;
     match job.placing? {
         Placing::Borrowed {
             offset,

@@ -74,7 +74,7 @@ fn attempt(
         starts,
         lengths,
     );
-    let a = fill_all(
+    let held = fill_all(
         &mut image[..n],
         ro_section,
         keys,
@@ -86,8 +86,8 @@ fn attempt(
         builtins,
         job,
         rows,
-    );
-    answer_of(a, job)
+    )?;
+    answer_of(held, job)
 }
 
 // A LOAD: the image, the read-only bytes and the table of a file, or a refusal and only zeros

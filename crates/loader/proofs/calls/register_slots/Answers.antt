@@ -12,9 +12,8 @@ use Rattle.program.specs.Table.{Slices, slices}
 use Rattle.program.proofs.Tables.{SameLens}
 use Rattle.loader.specs.declared.deeds.Held.{Held}
 use Rattle.loader.specs.declared.error.ElfError.{ElfError}
-use Rattle.std.specs.Prelude.{Result, Err, Ok}
+use Rattle.std.specs.Prelude.{Result, Ok}
 use Rattle.std.proofs.lemmas.Result.{err_from_is_err_and}
-use Rattle.loader.specs.Deeds.{holding}
 use Rattle.loader.specs.Trace.{Trace}
 use Rattle.loader.specs.Calls.{slot_count, slot_trace}
 use Rattle.loader.specs.CallLoop.{ahead, StillHeld}

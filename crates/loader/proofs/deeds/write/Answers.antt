@@ -1,7 +1,6 @@
 -- `loader::deeds::write` meets its contract, deed by deed.
 -- Assumes nothing.
 use native.Mathlib.Omega.{arith}
-use borrow.Author.Rules.{rules}
 use Rattle.loader.proofs.deeds.write.Goals as goal
 
 pub store_halves-requires : goal.store_halves-requires

@@ -9,10 +9,9 @@ use Rattle.program.specs.Table.{Slices, slices}
 use Rattle.program.proofs.Tables.{SameLens}
 use Rattle.loader.specs.declared.deeds.Held.{Held}
 use Rattle.loader.specs.declared.error.ElfError.{ElfError}
-use Rattle.std.specs.Prelude.{Result, Err, Ok}
+use Rattle.std.specs.Prelude.{Result, Ok}
 use Rattle.std.proofs.lemmas.Result.{err_from_is_err_and}
 use Rattle.loader.proofs.Performing.{refuses}
-use Rattle.loader.specs.Deeds.{holding}
 use Rattle.loader.specs.Labels.{label_symbols, label_trace}
 use Rattle.loader.proofs.Turns.{turn_fits, symbols_fit, label_settles, deed_fits, more_labels, no_more_labels}
 use Rattle.loader.specs.InnerContracts.{Settles}

@@ -6,13 +6,12 @@ use mathlib.Core.List.{List}
 use Prim.Native.Nat.{ℕ}
 use borrow.Author.Count.{falls}
 use Rattle.program.specs.Table.{Slices, slices}
-use Rattle.program.proofs.Tables.{SameLens, same_trans}
+use Rattle.program.proofs.Tables.{SameLens}
 use Rattle.loader.specs.declared.deeds.Held.{Held}
 use Rattle.loader.specs.declared.error.ElfError.{ElfError}
-use Rattle.std.specs.Prelude.{Result, Err, Ok}
+use Rattle.std.specs.Prelude.{Result, Ok}
 use Rattle.std.proofs.lemmas.Result.{err_from_is_err_and}
 use Rattle.loader.proofs.Performing.{refuses}
-use Rattle.loader.specs.Deeds.{holding}
 use Rattle.loader.specs.Relocations.{relocation_trace, relocation_count}
 use Rattle.loader.proofs.Turns.{turn_fits, relocations_fit, counts_fit, none_before, header_next, relocation_settles, relocation_fits}
 use Rattle.loader.specs.InnerContracts.{Settles}
