@@ -19,9 +19,11 @@ fn padded<const N: usize>(s: &[u8]) -> [u8; N]
 fn bytes_at<const N: usize>(s: &[u8], at: usize) -> [u8; N]
     ensures { result ≡ bytes_at N s.now at }
 {
-    let Some(rest) = s.get(at..) else {
+    // Kept: `s.get(at..)` in place of the test takes an instruction more at each read.
+    if s.len() <= at {
         return [0; N];
-    };
+    }
+    let rest = &s[at..];
     match rest.first_chunk() {
         Some(bytes) => *bytes,
         None => padded(rest),
