@@ -44,7 +44,7 @@ fill_all-requires c =
     let T : Slices = slices c.args.keys.now c.args.indices.now c.args.kinds.now c.args.starts.now c.args.lengths.now in
     let T₁ : Slices = slices c.clear_all.new.keys c.clear_all.new.indices c.clear_all.new.kinds c.clear_all.new.starts c.clear_all.new.lengths in
     let lens₁ : SameLens (T) (T₁) = record { keys_as = c.clear_all.auto.keys; indices_as = c.clear_all.auto.indices; kinds_as = c.clear_all.auto.kinds; starts_as = c.clear_all.auto.starts; lengths_as = c.clear_all.auto.lengths } in
-    (in_file (goal.at.fill_all-a-requires c).After-rows_lent-rows, behind_front (length c.args.file.now) c.args.image.now c.clear_all.new.image (within (goal.at.fill_all-a-requires c).After-rows_lent-rows) c.clear_all.ensures.image, as_lent T T₁ _ lens₁ c.rows_lent-rows.ensures.is, empty T T₁ c.clear_all.ensures.table lens₁)
+    (in_file (goal.at.fill_all-requires c).After-rows_lent-rows, behind_front (length c.args.file.now) c.args.image.now c.clear_all.new.image (within (goal.at.fill_all-requires c).After-rows_lent-rows) c.clear_all.ensures.image, as_lent T T₁ _ lens₁ c.rows_lent-rows.ensures.is, empty T T₁ c.clear_all.ensures.table lens₁)
 
 pub answer_of-requires : goal.answer_of-requires
 answer_of-requires c = (in_file (goal.at.answer_of-requires c).After-rows_lent-rows).entry
