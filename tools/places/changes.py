@@ -96,7 +96,7 @@ def definitions_of(text):
         while end < len(lines):
             l = lines[end]
             d = len(l) - len(l.lstrip())
-            more = d > depth or l.strip().startswith(name + ' ') or name[0] == '◌' or re.match(r'unfolding\b|using\b', l.strip())
+            more = d > depth or l.strip()[:1] in '})' or l.strip().startswith(name + ' ') or name[0] == '◌' or re.match(r'unfolding\b|using\b', l.strip())
             if l.strip() and (d < depth or not more or (d == depth and START.match(l) and ' : ' in l.split('=')[0] and l.split()[0] != name)):
                 break
             end += 1
@@ -117,7 +117,7 @@ def collect(files):
         if not path.startswith('crates/'):
             continue
         crate = path.split('/')[1]
-        found = out.setdefault(crate, {'functions': {}, 'private': {}, 'types': {}, 'definitions': {}, 'theorems': {}, 'laws': {}})
+        found = out.setdefault(crate, {'functions': {}, 'private': {}, 'types': {}, 'definitions': {}, 'theorems': {}, 'laws': {}, 'own': {}})
         place = path.split('/', 2)[2]
         if path.endswith('.rt') and place.startswith('src/'):
             for name, head, public, kind in functions_of(text):
@@ -127,7 +127,7 @@ def collect(files):
                 found['theorems' if kind == 'theorem' else 'definitions'].setdefault(name, []).append((place, body))
         elif re.match(r'proofs/\w+\.antt$', place):
             for name, kind, body in definitions_of(text):
-                found['laws'].setdefault(name, []).append((place, body))
+                found['laws' if kind == 'theorem' else 'own'].setdefault(name, []).append((place, body))
     return out
 
 
@@ -211,30 +211,33 @@ def columns(name, place, old, new):
 
 TITLES = {'functions': 'Public functions', 'types': 'Types', 'definitions': 'Definitions', 'theorems': 'Theorems and examples of specs/',
           'laws': 'Theorems of proofs/ that README.md or docs/ names'}
-KINDS = [('functions', 'private'), ('types',), ('definitions', 'theorems', 'laws')]
+KINDS = [('functions', 'private'), ('types',), ('definitions', 'own'), ('theorems', 'laws')]
 
 
 def crate_lists(crate, old, new, everywhere, names, cited, open_items):
     renamed, gone, spelled = names
     out, spelling = [], {}
+
+    def why_gone(name, where):
+        if (crate, name) not in gone:
+            open_items.append('%s %s %s' % (crate, name, where))
+        return gone.get((crate, name), 'NOT ACCOUNTED FOR')
+
     for kind, title in TITLES.items():
         beside, missing = [], []
         for name, places in sorted(old[kind].items()):
             if kind == 'laws' and name not in cited:
                 continue
-            now, why = name, ''
-            if (crate, name) in renamed:
-                now, why = renamed[crate, name]
             kinds = [kind] + [k for k in KINDS if kind in k for k in k]
+            now, why = renamed.get((crate, name), (name, ''))
             found = next((new[k][now] for k in kinds if now in new[k]), None)
+            if found is None and now != name:
+                now, why = name, ''
+                found = next((new[k][now] for k in kinds if now in new[k]), None)
             if found is None:
-                elsewhere = [x for c in everywhere for k in kinds for x in c[k].get(now, []) if words(x[1]) == words(places[0][1])]
-                found = elsewhere or None
-            if (crate, name) in gone or found is None:
-                where = ', '.join(sorted({p for p, _ in places}))
-                if (crate, name) not in gone:
-                    open_items.append('%s %s %s' % (crate, name, where))
-                missing.append((name, places, gone.get((crate, name), 'NOT ACCOUNTED FOR')))
+                found = [x for c in everywhere for k in kinds for x in c[k].get(now, []) if words(x[1]) == words(places[0][1])]
+            if not found:
+                missing.append((places, why_gone(name, places[0][0])))
                 continue
             left = [w for _, w in found]
             for place, text in places:
@@ -248,6 +251,9 @@ def crate_lists(crate, old, new, everywhere, names, cited, open_items):
                     left.remove(how[0][0])
                     spelling.setdefault(tuple(how[0][1]), []).append(name)
                     continue
+                if not left and now == name:
+                    missing.append(([(place, text)], why_gone(name, place)))
+                    continue
                 after = left.pop(0) if left else '\n'.join(w for _, w in found)
                 label = name if now == name else '%s, now %s' % (name, now)
                 beside.append(columns(label, place + (': ' + why if why else ''), text, after))
@@ -257,16 +263,12 @@ def crate_lists(crate, old, new, everywhere, names, cited, open_items):
             out += ['<table><tr><th>old</th><th>new</th></tr>'] + beside + ['</table>', '']
         if missing:
             out += ['<table><tr><th>gone</th><th>what states its promise now</th></tr>']
-            for name, places, why in missing:
-                text = '\n'.join(t for _, t in places)
-                out += ['<tr><td>', '', '```', text, '```', '', '</td><td>', '', why, '', '</td></tr>']
+            for places, why in missing:
+                out += ['<tr><td>', '', '```', '\n'.join(t for _, t in places), '```', '', '</td><td>', '', why, '', '</td></tr>']
             out += ['</table>', '']
     private = sorted(n for n in old['private'] if n not in new['private'] and n not in new['functions'] and (crate, n) not in renamed)
-    for n in private:
-        if (crate, n) not in gone:
-            open_items.append('%s %s (private)' % (crate, n))
     if private:
-        out += ['Private functions that are gone: ' + '; '.join('`%s` (%s)' % (n, gone.get((crate, n), 'NOT ACCOUNTED FOR')) for n in private) + '.', '']
+        out += ['Private functions that are gone: ' + '; '.join('`%s` (%s)' % (n, why_gone(n, '(private)')) for n in private) + '.', '']
     if spelling:
         out += ['#### Respelled only', '', '| Spelling | In |', '|---|---|']
         for rules, where in sorted(spelling.items(), key=lambda x: (len(x[0]), x[0])):
@@ -280,7 +282,7 @@ def main():
     before, after = old_files(commit), new_files()
     old, new, names = collect(before), collect(after), read_names()
     cited, open_items, out = named_in_pages(before), [], []
-    empty = {'functions': {}, 'private': {}, 'types': {}, 'definitions': {}, 'theorems': {}, 'laws': {}}
+    empty = {'functions': {}, 'private': {}, 'types': {}, 'definitions': {}, 'theorems': {}, 'laws': {}, 'own': {}}
     order = [re.split(r'[ :]', l)[0] for l in open('crates.txt') if l.strip() and not l.startswith('#')]
     for crate in order:
         if crate in old:
