@@ -136,7 +136,7 @@ def words(text):
 
 
 def read_names():
-    """names.txt: `CRATE OLD -> NEW: why` (a new name), `CRATE OLD: why` (gone), `* OLD = NEW` (a spelling)."""
+    """names.txt: `CRATE OLD -> NEW: why` (a new name), `CRATE OLD: why` (gone), `* OLD now NEW` (a spelling)."""
     renamed, gone, spelled = {}, {}, []
     for line in open(NAMES):
         line = line.rstrip('\n')
@@ -144,7 +144,7 @@ def read_names():
             continue
         crate, rest = line.split(' ', 1)
         if crate == '*':
-            a, b = rest.split(' = ')
+            a, b = rest.split(' now ')
             spelled.append((TOKEN.findall(a), TOKEN.findall(b), '`%s` is `%s`' % (a, b)))
             continue
         names, why = rest.split(': ', 1)
@@ -239,22 +239,20 @@ def crate_lists(crate, old, new, everywhere, names, cited, open_items):
             if not found:
                 missing.append((places, why_gone(name, places[0][0])))
                 continue
-            left = [w for _, w in found]
+            left = list(found)
             for place, text in places:
-                same = [w for w in left if words(w) == words(text)]
-                if same:
-                    left.remove(same[0])
-                    continue
-                how = [(w, respelled(words(text), words(w), spelled)) for w in left]
-                how = [(w, h) for w, h in how if h is not None]
+                left.sort(key=lambda x: (x[0] != place, words(x[1]) != words(text)))
+                how = [(x, respelled(words(text), words(x[1]), spelled)) for x in left]
+                how = [(x, h) for x, h in how if h is not None]
                 if how:
                     left.remove(how[0][0])
-                    spelling.setdefault(tuple(how[0][1]), []).append(name)
+                    if how[0][1]:
+                        spelling.setdefault(tuple(how[0][1]), []).append(name)
                     continue
                 if not left and now == name:
                     missing.append(([(place, text)], why_gone(name, place)))
                     continue
-                after = left.pop(0) if left else '\n'.join(w for _, w in found)
+                after = left.pop(0)[1] if left else '\n'.join(w for _, w in found)
                 label = name if now == name else '%s, now %s' % (name, now)
                 beside.append(columns(label, place + (': ' + why if why else ''), text, after))
         if beside or missing:
