@@ -11,8 +11,8 @@ pub use hashed_legacy::{ENTRYPOINT_KEY, is_builtin, is_taken, kept_name, legacy_
 pub use table::{index_ascending, row_ascending};
 
 // What a row says of its name: it is empty or not kept, a part of the file, the text entrypoint, or
-// made from the index. Only a part of the file has a start. Numbers and no enum, since the column of
-// kinds is C's to read.
+// made from the index. Only a part of the file has a start.
+// Kept: numbers and no enum, since the column of kinds is C's to read.
 pub const NAME_EMPTY: u32 = 0;
 
 pub const NAME_IN_FILE: u32 = 1;
