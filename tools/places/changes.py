@@ -136,7 +136,8 @@ def words(text):
 
 
 def read_names():
-    """names.txt: `CRATE OLD -> NEW: why` (a new name), `CRATE OLD: why` (gone), `* OLD now NEW` (a spelling)."""
+    """names.txt: `CRATE OLD -> NEW: why` (a new name), `CRATE OLD: why` (gone), `* OLD now NEW` (a spelling),
+    `~ CRATE NAME` (a law that only shares its name with what a page names)."""
     renamed, gone, spelled = {}, {}, []
     for line in open(NAMES):
         line = line.rstrip('\n')
@@ -146,6 +147,9 @@ def read_names():
         if crate == '*':
             a, b = rest.split(' now ')
             spelled.append((TOKEN.findall(a), TOKEN.findall(b), '`%s` is `%s`' % (a, b)))
+            continue
+        if crate == '~':
+            gone['~', rest] = ''
             continue
         names, why = rest.split(': ', 1)
         a, _, b = names.partition(' -> ')
@@ -226,7 +230,7 @@ def crate_lists(crate, old, new, everywhere, names, cited, open_items):
     for kind, title in TITLES.items():
         beside, missing = [], []
         for name, places in sorted(old[kind].items()):
-            if kind == 'laws' and name not in cited:
+            if kind == 'laws' and (name not in cited or ('~', crate + ' ' + name) in gone):
                 continue
             kinds = [kind] + [k for k in KINDS if kind in k for k in k]
             now, why = renamed.get((crate, name), (name, ''))
