@@ -1,3 +1,4 @@
+pub mod Stored
 pub mod Going
 pub mod Entering
 pub mod Performing

@@ -6,6 +6,7 @@ ghost use Rattle.loader.specs.Addresses.{machine_addr};
 use ebpf::MM_PROGRAM_START;
 
 // `x` where `b` holds, else `y`.
+// Kept: at an `if` in its place the branches join, and a later call's proof no longer knows the value.
 #[tactic(auto, using(ebpf::specs::Choice::choices))]
 pub(crate) fn pick<T: Copy>(b: bool, x: T, y: T) -> T
     ensures { result ≡ (x if b else y) }

@@ -62,16 +62,7 @@ pub(crate) fn store_u32(image: &mut [u8], at: usize, v: u32)
     requires { at + 4 ≤ length image.old }
     ensures { image.new ≡ put 4 image.old at v }
 {
-    let at1 = at + 1;
-    let at2 = at1 + 1;
-    let at3 = at2 + 1;
-    let v1 = v / 256;
-    let v2 = v1 / 256;
-    let v3 = v2 / 256;
-    image[at] = (v % 256) as u8;
-    image[at1] = (v1 % 256) as u8;
-    image[at2] = (v2 % 256) as u8;
-    image[at3] = (v3 % 256) as u8;
+    image[at..at + 4].copy_from_slice(&v.to_le_bytes());
 }
 
 // Two halves of a number.
