@@ -6,17 +6,15 @@ use Prim.Native.Nat.{ℕ, suc, ◌+◌, ◌-◌, ◌*◌, ◌≤◌, ◌<◌, �
 use native.Mathlib.Omega.{arith}
 use lib.ListN.{length}
 use Rattle.program.specs.Table.{Slices, capacity, rows_of, Ready}
-use Rattle.program.proofs.Tables.{SameLens, same_trans, capacity_same}
+use Rattle.program.specs.Table.{SameLens}
+use Rattle.program.proofs.Tables.{same_refl, same_trans, capacity_same}
 use Rattle.loader.specs.declared.error.ElfError.{ElfError}
-use Rattle.loader.specs.declared.deeds.Held.{Held}
+use Rattle.loader.specs.Deeds.{Held}
 use Rattle.std.specs.Prelude.{Result, Ok, Err}
 use Rattle.loader.specs.Deeds.{holding}
 use Rattle.loader.specs.Trace.{Trace, and_then, each, refused, settle, settle_and_then}
 use Rattle.loader.specs.CallLoop.{Leads}
-use Rattle.loader.specs.InnerContracts.{Near, Begins, Settles}
-
-same_refl : (t : Slices) → SameLens t t
-same_refl t = record { keys_as = refl; indices_as = refl; kinds_as = refl; starts_as = refl; lengths_as = refl }
+use Rattle.loader.specs.InnerContracts.{Near, BeginsIn, Settles}
 
 -- a part that was held, and then another
 then_on : (T : Trace) (K : List ℕ → Trace) (im : List ℕ) (t u : Slices) (n used moves used' moves' : ℕ) → SameLens t u
@@ -35,8 +33,8 @@ pub settles_stop : (T : Trace) (K : List ℕ → Trace) (im im' : List ℕ) (t u
     → Settles T im t u n used moves (Err r) → Settles (and_then T K) im' t v m used moves (Err r)
 settles_stop T K im im' t u v n m used moves r did = record { answers = sym (then_not T K im t u n used moves r did); sound = tt; near = tt }
 
-pub begins_fewer : (n m : ℕ) (t : Slices) (rows used moves : ℕ) → Begins (n + m) t rows used moves → Begins n t rows used moves
-begins_fewer n m t rows used moves b = record { rows_are = b.rows_are; ready = b.ready; room = record { few = omega (arith, b.room.few); moved = omega (arith, b.room.moved) } }
+pub begins_fewer : (n m : ℕ) (t : Slices) (used moves : ℕ) → BeginsIn (n + m) t used moves → BeginsIn n t used moves
+begins_fewer n m t used moves b = record { ready = b.ready; room = record { few = omega (arith, b.room.few); moved = omega (arith, b.room.moved) } }
 
 near_add : (n m used moves used' moves' : ℕ) (a : Result Held ElfError) → used' ≤ used + n → moves' ≤ moves + n * 2 ^ 26 → Near m used' moves' a → Near (n + m) used moves a
 near_add n m used moves used' moves' (Ok held) p q h = (omega (arith, h.0), omega (arith, h.1))
@@ -44,9 +42,8 @@ near_add n m used moves used' moves' (Err r) p q h = tt
 
 module _ (T : Trace) (K : List ℕ → Trace) (im im' : List ℕ) (t u v : Slices) (n m used moves used' moves' : ℕ) (lens : SameLens t u) (did : Settles T im t u n used moves (holding used' moves')) where
   -- room is left for the second part
-  pub begins_then : (rows : ℕ) → Begins (n + m) t rows used moves → Begins m u rows used' moves'
-  begins_then rows b = record {
-    rows_are = b.rows_are ∙ sym (capacity_same t u lens);
+  pub begins_then : BeginsIn (n + m) t used moves → BeginsIn m u used' moves'
+  begins_then b = record {
     ready = did.sound;
     room = record { few = omega (arith, b.room.few, did.near.0); moved = omega (arith, b.room.moved, did.near.1) };
   }
@@ -71,8 +68,8 @@ pub record GoingIn (step : ℕ → List ℕ → Trace) (n o k : ℕ) (im₀ im :
   pub onward : settle (capacity t) (each step (n - i) i im) (rows_of t used) moves ≡ settle (capacity t₀) (each step (n - o) o im₀) (rows_of t₀ used₀) moves₀
 
 module _ (step : ℕ → List ℕ → Trace) (n o k : ℕ) (within : k ≤ n) where
-  pub in_start : (im : List ℕ) (t : Slices) (rows used moves : ℕ) → o ≤ k → Begins (k - o) t rows used moves → GoingIn step n o k im im t t used moves used moves o
-  in_start im t rows used moves l b = record {
+  pub in_start : (im : List ℕ) (t : Slices) (used moves : ℕ) → o ≤ k → BeginsIn (k - o) t used moves → GoingIn step n o k im im t t used moves used moves o
+  in_start im t used moves l b = record {
     same = same_refl t;
     image_as = refl;
     ready = b.ready;
@@ -83,16 +80,15 @@ module _ (step : ℕ → List ℕ → Trace) (n o k : ℕ) (within : k ≤ n) wh
     onward = refl;
   }
 
-  module _ (im₀ im : List ℕ) (t₀ t : Slices) (rows used₀ moves₀ used moves i : ℕ) (begins : Begins (k - o) t₀ rows used₀ moves₀) (going : GoingIn step n o k im₀ im t₀ t used₀ moves₀ used moves i) where
+  module _ (im₀ im : List ℕ) (t₀ t : Slices) (used₀ moves₀ used moves i : ℕ) (begins : BeginsIn (k - o) t₀ used₀ moves₀) (going : GoingIn step n o k im₀ im t₀ t used₀ moves₀ used moves i) where
     pub in_done : k ≤ i → Leads step n o k im₀ im t₀ t used₀ moves₀ (holding used moves)
     in_done l =
         let j : i ≡ k = omega (arith, going.passed) in
         record { answers = rw j at (sym going.onward); sound = going.ready; near = (omega (arith, going.few), omega (arith, going.moved)) }
 
     -- a part begins
-    pub in_begins : i < k → Begins 1 t rows used moves
+    pub in_begins : i < k → BeginsIn 1 t used moves
     in_begins l = record {
-      rows_are = begins.rows_are ∙ sym (capacity_same t₀ t going.same);
       ready = going.ready;
       room = record { few = omega (arith, begins.room.few, going.few, going.begun); moved = omega (arith, begins.room.moved, going.moved, going.begun) };
     }
@@ -132,9 +128,8 @@ module _ (step : ℕ → List ℕ → Trace) (n o k : ℕ) (within : k ≤ n) wh
 
     -- a run of parts, up to number j
     module _ (j : ℕ) (l : i ≤ j) (h : j ≤ k) (im' : List ℕ) (u : Slices) where
-      pub in_begins_run : Begins (j - i) t rows used moves
+      pub in_begins_run : BeginsIn (j - i) t used moves
       in_begins_run = record {
-        rows_are = begins.rows_are ∙ sym (capacity_same t₀ t going.same);
         ready = going.ready;
         room = record { few = omega (arith, begins.room.few, going.few, going.begun); moved = omega (arith, begins.room.moved, going.moved, going.begun) };
       }
@@ -168,29 +163,29 @@ all_lead step n im₀ im t₀ t used moves (Err r) did =
     let z : n - 0 ≡ n = omega arith in
     record { answers = sym (rw z at did.answers); sound = tt; near = tt }
 
-pub all_begin : (n : ℕ) (t : Slices) (rows used moves : ℕ) → Begins n t rows used moves → Begins (n - 0) t rows used moves
-all_begin n t rows used moves b = let z : n - 0 ≡ n = omega arith in rw z b
+pub all_begin : (n : ℕ) (t : Slices) (used moves : ℕ) → BeginsIn n t used moves → BeginsIn (n - 0) t used moves
+all_begin n t used moves b = let z : n - 0 ≡ n = omega arith in rw z b
 
 abbrev pub Going : (ℕ → List ℕ → Trace) → ℕ → List ℕ → List ℕ → Slices → Slices → ℕ → ℕ → ℕ → ℕ → ℕ → Type 0
 Going step n im₀ im t₀ t used₀ moves₀ used moves i = GoingIn step n 0 n im₀ im t₀ t used₀ moves₀ used moves i
 
 module _ (step : ℕ → List ℕ → Trace) (n : ℕ) where
-  pub going_start : (im : List ℕ) (t : Slices) (rows used moves : ℕ) → Begins n t rows used moves → Going step n im im t t used moves used moves 0
-  going_start im t rows used moves b = in_start step n 0 n (omega arith) im t rows used moves (omega arith) (all_begin n t rows used moves b)
+  pub going_start : (im : List ℕ) (t : Slices) (used moves : ℕ) → BeginsIn n t used moves → Going step n im im t t used moves used moves 0
+  going_start im t used moves b = in_start step n 0 n (omega arith) im t used moves (omega arith) (all_begin n t used moves b)
 
-  module _ (im₀ im : List ℕ) (t₀ t : Slices) (rows used₀ moves₀ used moves i : ℕ) (begins : Begins n t₀ rows used₀ moves₀) (going : Going step n im₀ im t₀ t used₀ moves₀ used moves i) where
-    all : Begins (n - 0) t₀ rows used₀ moves₀
-    all = all_begin n t₀ rows used₀ moves₀ begins
+  module _ (im₀ im : List ℕ) (t₀ t : Slices) (used₀ moves₀ used moves i : ℕ) (begins : BeginsIn n t₀ used₀ moves₀) (going : Going step n im₀ im t₀ t used₀ moves₀ used moves i) where
+    all : BeginsIn (n - 0) t₀ used₀ moves₀
+    all = all_begin n t₀ used₀ moves₀ begins
 
     pub going_done : n ≤ i → Settles (each step n 0 im₀) im t₀ t n used₀ moves₀ (holding used moves)
-    going_done l = all_lead step n im₀ im t₀ t used₀ moves₀ (holding used moves) (in_done step n 0 n (omega arith) im₀ im t₀ t rows used₀ moves₀ used moves i all going l)
+    going_done l = all_lead step n im₀ im t₀ t used₀ moves₀ (holding used moves) (in_done step n 0 n (omega arith) im₀ im t₀ t used₀ moves₀ used moves i all going l)
 
-    pub going_begins : i < n → Begins 1 t rows used moves
-    going_begins = in_begins step n 0 n (omega arith) im₀ im t₀ t rows used₀ moves₀ used moves i all going
+    pub going_begins : i < n → BeginsIn 1 t used moves
+    going_begins = in_begins step n 0 n (omega arith) im₀ im t₀ t used₀ moves₀ used moves i all going
 
     module _ (more : i < n) (im' : List ℕ) (u : Slices) where
       pub going_stop : (r : ElfError) → Settles (step i im) im' t u 1 used moves (Err r) → Settles (each step n 0 im₀) im' t₀ u n used₀ moves₀ (Err r)
-      going_stop r did = all_lead step n im₀ im' t₀ u used₀ moves₀ (Err r) (in_stop step n 0 n (omega arith) im₀ im t₀ t rows used₀ moves₀ used moves i all going more im' u r im' did)
+      going_stop r did = all_lead step n im₀ im' t₀ u used₀ moves₀ (Err r) (in_stop step n 0 n (omega arith) im₀ im t₀ t used₀ moves₀ used moves i all going more im' u r im' did)
 
       pub going_on : (used' moves' : ℕ) → SameLens t u → length im' ≡ length im → Settles (step i im) im' t u 1 used moves (holding used' moves') → Going step n im₀ im' t₀ u used₀ moves₀ used' moves' (i + 1)
-      going_on = in_on step n 0 n (omega arith) im₀ im t₀ t rows used₀ moves₀ used moves i all going more im' u
+      going_on = in_on step n 0 n (omega arith) im₀ im t₀ t used₀ moves₀ used moves i all going more im' u

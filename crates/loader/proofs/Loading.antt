@@ -10,14 +10,15 @@ use borrow.Rule.Slice.PartMut.{mid_of, post_of, put_mid, same_len_mid, mid_len, 
 use Rattle.program.specs.Table.{Slices, capacity, lay, rows_of}
 use Rattle.program.proofs.Laying.{length_rows}
 use Rattle.std.specs.Prelude.{Result, Ok, Err}
-use Rattle.program.proofs.Tables.{SameLens, capacity_same, lay_same, ready_none}
+use Rattle.program.specs.Table.{SameLens}
+use Rattle.program.proofs.Tables.{capacity_same, lay_same, ready_none}
 use Rattle.loader.specs.declared.read_only.Placing.TheVariants.{Borrowed, Owned}
 use Rattle.loader.specs.declared.read_only.Placing.{Placing}
 use Rattle.loader.specs.declared.answer.Accepted.{Accepted}
 use Rattle.loader.specs.declared.validate.Config.{Config}
 use Rattle.loader.specs.declared.validate.Job.{Job}
 use Rattle.loader.specs.declared.error.ElfError.{ElfError}
-use Rattle.loader.specs.declared.deeds.Held.{Held}
+use Rattle.loader.specs.Deeds.{Held}
 use Rattle.loader.specs.Deeds.{holding}
 use Rattle.loader.specs.Trace.{Trace, and_then, settle, settle_and_then}
 use Rattle.loader.specs.Labels.{few_symbols}
@@ -25,7 +26,8 @@ use Rattle.loader.specs.Parts.{writing_trace, naming_trace, placed_trace, job_tr
 use Rattle.elf_parser.specs.Types.{file_header}
 use Rattle.loader.specs.Validate.{is_version2, prepared}
 use Rattle.loader.specs.Load.{all_count, placed_by, after_placing, Cleared, placed_bytes, HeldBytes, answer_by, answer_for, Loading, refuses, held_by, on_trace, on_prepared, load_of, Loaded, Tried}
-use Rattle.loader.specs.InnerContracts.{outcome, InFile, Begins, Settles}
+use Rattle.loader.specs.InnerContracts.{outcome, InFile, BeginsIn, Settles, held_of}
+use Rattle.loader.specs.declared.deeds.Outputs.{Outputs}
 use Rattle.loader.proofs.Going.{settles_stop, settles_then}
 use Rattle.loader.proofs.Readied.{readied, placed_as}
 use Rattle.loader.proofs.Front.{copied_front}
@@ -81,11 +83,10 @@ all_few file j f =
     let k = few_symbols file j in
     omega (arith, k, f.text, f.short, f.relocations, f.relas)
 
-pub begins_all : (file : List ℕ) (j : Job) (t : Slices) (rows : ℕ) → InFile file j → rows ≡ capacity t → t ≡ lay t [] → Begins (all_count file j) t rows 0 0
-begins_all file j t rows f r z =
+pub begins_all : (file : List ℕ) (j : Job) (t : Slices) → InFile file j → t ≡ lay t [] → BeginsIn (all_count file j) t 0 0
+begins_all file j t f z =
     let few = all_few file j f in
     record {
-      rows_are = r;
       ready = ready_none t z;
       room = record { few = omega (arith, few); moved = omega (arith, few) };
     }
@@ -119,9 +120,6 @@ module _ (n : ℕ) (im z : List ℕ) (fits : n ≤ length im) (clear : z ≡ rep
 
 pub empty : (t t₁ : Slices) → t₁ ≡ lay t [] → SameLens t t₁ → t₁ ≡ lay t₁ []
 empty t t₁ laid lens = laid ∙ sym (lay_same t t₁ [] lens)
-
-pub as_lent : (t t₁ : Slices) (rows : ℕ) → SameLens t t₁ → rows ≡ capacity t → rows ≡ capacity t₁
-as_lent t t₁ rows lens r = r ∙ sym (capacity_same t t₁ lens)
 
 rows_none : (t : Slices) → rows_of t 0 ≡ []
 unfolding rows_of

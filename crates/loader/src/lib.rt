@@ -4,8 +4,9 @@ ghost use Rattle.loader.specs.Load.{Tries};
 ghost use Rattle.loader.specs.Loads.{Loads};
 
 use answer::answer_of;
+use deeds::Outputs;
 use filling::{clear_all, fill_all};
-use program::FunctionTable;
+use program::FunctionRegistry;
 use validate::prepare;
 
 mod addresses;
@@ -56,15 +57,6 @@ fn attempt(
 {
     let job = prepare(file, builtins, config, image.len(), ro_section.len())?;
     let n = file.len();
-    let table = FunctionTable {
-        keys,
-        indices,
-        kinds,
-        starts,
-        lengths,
-        used: 0,
-    };
-    let rows = table.rows_lent() as u64;
     clear_all(
         &mut image[n..],
         ro_section,
@@ -74,20 +66,20 @@ fn attempt(
         starts,
         lengths,
     );
-    let held = fill_all(
-        &mut image[..n],
-        ro_section,
-        keys,
-        indices,
-        kinds,
-        starts,
-        lengths,
-        file,
-        builtins,
-        job,
-        rows,
-    )?;
-    answer_of(held, job)
+    let mut out = Outputs {
+        image: &mut image[..n],
+        registry: FunctionRegistry {
+            keys: &mut *keys,
+            indices: &mut *indices,
+            kinds: &mut *kinds,
+            starts: &mut *starts,
+            lengths: &mut *lengths,
+            used: 0,
+        },
+        moves: 0,
+    };
+    fill_all(&mut out, ro_section, file, builtins, job)?;
+    answer_of(out.registry.used, out.moves, job)
 }
 
 // A LOAD: the image, the read-only bytes and the table of a file, or a refusal and only zeros

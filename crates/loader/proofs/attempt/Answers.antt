@@ -5,7 +5,7 @@ use mathlib.Core.Path.{sym, ◌∙◌, ap}
 use lib.ListN.{length}
 use Rattle.std.proofs.lemmas.Result.{err_from_is_err_and}
 use Rattle.program.specs.Table.{Slices, slices}
-use Rattle.program.proofs.Tables.{SameLens}
+use Rattle.program.specs.Table.{SameLens}
 use Rattle.std.specs.Prelude.{Result, Err}
 use Rattle.loader.specs.declared.deeds.Held.{Held}
 use Rattle.loader.specs.declared.error.ElfError.{ElfError}

@@ -9,7 +9,7 @@ use mir.Val.{Fits}
 use native.Mathlib.Omega.{arith}
 use lib.ListN.{length}
 use Rattle.program.specs.Table.{Slices, slices}
-use Rattle.program.proofs.Tables.{SameLens}
+use Rattle.program.specs.Table.{SameLens}
 use Rattle.loader.specs.declared.deeds.Held.{Held}
 use Rattle.loader.specs.declared.error.ElfError.{ElfError}
 use Rattle.std.specs.Prelude.{Result, Ok}
