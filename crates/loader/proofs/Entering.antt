@@ -1,6 +1,6 @@
 -- A registration's answer, with the rows and the moves up to there: what it makes of the rest of a trace. For every part of a load.
 -- Assumes nothing.
-use mathlib.Core.Path.{◌≡◌, refl, sym, ap, ◌∙◌}
+use mathlib.Core.Path.{◌≡◌, refl, sym, ap, subst, ◌∙◌}
 use mathlib.Core.List.{List}
 use Prim.Native.Nat.{ℕ, ◌+◌, ◌≤◌, ◌<◌, ◌^◌}
 use native.Mathlib.Omega.{arith}
@@ -11,13 +11,13 @@ use Rattle.program.specs.declared.RegisterError.TheVariants.{Collision, Full}
 use Rattle.program.specs.declared.Registered.TheVariants.{Inserted, Repeat}
 use Rattle.std.specs.Prelude.{Ok, Err}
 use Rattle.program.specs.declared.Row.{Row}
-use Rattle.program.specs.Table.{Slices, capacity, rows_of, Registration, used_after}
+use Rattle.program.specs.Table.{Slices, SameColumns, SameLens, columns_of, capacity, rows_of, Registration, used_after}
 use Rattle.program.specs.Rows.{register, registered, RegisterResult}
 use Rattle.program.specs.Runs.{moves_of}
 use Rattle.program.proofs.Cases.{zero_one}
 use Rattle.program.proofs.Laying.{length_rows}
 use Rattle.program.proofs.Laws.{kept_rows, more_rows}
-use Rattle.program.proofs.Tables.{ready_after, rows_after_lem}
+use Rattle.program.proofs.Tables.{ready_after, rows_after_lem, same_after, capacity_same}
 use Rattle.loader.specs.declared.error.ElfError.{ElfError}
 use Rattle.loader.specs.declared.error.ElfError.TheVariants.{SymbolHashCollision, TableFull}
 use Rattle.loader.specs.Deeds.{Held}
@@ -25,7 +25,8 @@ use Rattle.std.specs.Prelude.{Result, Ok, Err}
 use Rattle.loader.specs.Trace.{Settled, done, refused, on_registered, settle}
 use Rattle.loader.specs.Trace as trace
 use Rattle.loader.specs.declared.deeds.Outputs.{Outputs}
-use Rattle.loader.specs.InnerContracts.{entered_as, entered_by, held_of, BeginsIn, Settles}
+use Rattle.program.specs.declared.FunctionRegistry.{FunctionRegistry}
+use Rattle.loader.specs.InnerContracts.{entered_as, entered_by, moved_by, held_of, Begins, BeginsIn, Keeps, Enters, Settles}
 
 -- one row more, whatever the image
 abbrev pub EntersIn : Row → Slices → Slices → ℕ → ℕ → Result Held ElfError → Type 0
@@ -104,3 +105,25 @@ module _ (t u : Slices) (used moves : ℕ) (row : Row) (a : RegisterResult) (beg
 
   pub enters : (b : Result Held ElfError) → b ≡ entered_by a used moves row.key (capacity t) → EntersIn row t u used moves b
   enters b e = entering b (sym e)
+
+-- the outputs after a registration in their table
+module _ (o : Outputs) (r : FunctionRegistry) (o' : Outputs) (row : Row) (a : RegisterResult) (res : Result (Unit {0}) ElfError)
+  (begins : Begins 1 o) (did : Registration (columns_of o.registry) (columns_of r) o.registry.used row a) (used : r.used ≡ used_after o.registry.used a)
+  (moved : o' ≡ moved_by (moves_of a) (record { image = o.image; registry = r; moves = o.moves }))
+  (answers : res ≡ entered_as a row.key (capacity (columns_of r))) where
+  lens : SameLens (columns_of o.registry) (columns_of r)
+  lens = same_after (columns_of o.registry) (columns_of r) o.registry.used row a begins.ready did
+
+  pub held_row : held_of res o' ≡ entered_by a o.registry.used o.moves row.key (capacity (columns_of o.registry))
+  held_row =
+      rw (moved, answers, ← capacity_same (columns_of o.registry) (columns_of r) lens)
+      (entered_held a o.registry.used o.moves row.key (capacity (columns_of r)) (moved_by (moves_of a) (record { image = o.image; registry = r; moves = o.moves })) used refl)
+
+  pub keeps_row : SameColumns o.registry r → Keeps o o'
+  keeps_row same = rw moved (record { image_is = refl; image_as = refl; table_is = same; table_as = lens })
+
+  pub enters_row : Enters row o o' res
+  enters_row im =
+      let b : Result Held ElfError = held_of res o' in
+      subst (λ (u : Slices). Settles (trace.register row (done im)) im (columns_of o.registry) u 1 o.registry.used o.moves b) (ap (λ (x : Outputs). columns_of x.registry) (sym moved))
+      (enters (columns_of o.registry) (columns_of r) o.registry.used o.moves row a begins did b held_row im)

@@ -5,7 +5,7 @@ use mathlib.Core.List.{List}
 use Prim.Native.Nat.{ℕ, suc, ◌+◌, ◌-◌, ◌*◌, ◌≤◌, ◌<◌, ◌^◌}
 use native.Mathlib.Omega.{arith}
 use lib.ListN.{length}
-use Rattle.program.specs.Table.{Slices, capacity, rows_of, Ready}
+use Rattle.program.specs.Table.{Slices, columns_of, capacity, rows_of, Ready}
 use Rattle.program.specs.Table.{SameLens}
 use Rattle.program.proofs.Tables.{same_refl, same_trans, capacity_same}
 use Rattle.loader.specs.declared.error.ElfError.{ElfError}
@@ -14,7 +14,8 @@ use Rattle.std.specs.Prelude.{Result, Ok, Err}
 use Rattle.loader.specs.Deeds.{holding}
 use Rattle.loader.specs.Trace.{Trace, and_then, each, refused, settle, settle_and_then}
 use Rattle.loader.specs.CallLoop.{Leads}
-use Rattle.loader.specs.InnerContracts.{Near, BeginsIn, Settles}
+use Rattle.loader.specs.declared.deeds.Outputs.{Outputs}
+use Rattle.loader.specs.InnerContracts.{Near, Begins, BeginsIn, Keeps, Settles, SettlesTo, held_of}
 
 -- a part that was held, and then another
 then_on : (T : Trace) (K : List ℕ → Trace) (im : List ℕ) (t u : Slices) (n used moves used' moves' : ℕ) → SameLens t u
@@ -189,3 +190,53 @@ module _ (step : ℕ → List ℕ → Trace) (n : ℕ) where
 
       pub going_on : (used' moves' : ℕ) → SameLens t u → length im' ≡ length im → Settles (step i im) im' t u 1 used moves (holding used' moves') → Going step n im₀ im' t₀ u used₀ moves₀ used' moves' (i + 1)
       going_on = in_on step n 0 n (omega arith) im₀ im t₀ t used₀ moves₀ used moves i all going more im' u
+
+-- ---- over a load's outputs
+
+-- parts 0 to i of n are done
+abbrev pub GoingOver : (ℕ → List ℕ → Trace) → ℕ → Outputs → Outputs → ℕ → Type 0
+GoingOver step n o₀ o i = Going step n o₀.image.now o.image.now (columns_of o₀.registry) (columns_of o.registry) o₀.registry.used o₀.moves o.registry.used o.moves i
+
+pub over_start : (step : ℕ → List ℕ → Trace) (n : ℕ) (o : Outputs) → Begins n o → GoingOver step n o o 0
+over_start step n o b = going_start step n o.image.now (columns_of o.registry) o.registry.used o.moves b
+
+module _ (step : ℕ → List ℕ → Trace) (n : ℕ) (o₀ o : Outputs) (i : ℕ) (begins : Begins n o₀) (going : GoingOver step n o₀ o i) where
+  pub over_done : n ≤ i → SettlesTo (each step n 0 o₀.image.now) n o₀ o (Ok tt)
+  over_done = going_done step n o₀.image.now o.image.now (columns_of o₀.registry) (columns_of o.registry) o₀.registry.used o₀.moves o.registry.used o.moves i begins going
+
+  pub over_begins : i < n → Begins 1 o
+  over_begins = going_begins step n o₀.image.now o.image.now (columns_of o₀.registry) (columns_of o.registry) o₀.registry.used o₀.moves o.registry.used o.moves i begins going
+
+  module _ (more : i < n) (o' : Outputs) where
+    pub over_stop : (r : ElfError) → SettlesTo (step i o.image.now) 1 o o' (Err r) → SettlesTo (each step n 0 o₀.image.now) n o₀ o' (Err r)
+    over_stop = going_stop step n o₀.image.now o.image.now (columns_of o₀.registry) (columns_of o.registry) o₀.registry.used o₀.moves o.registry.used o.moves i begins going more o'.image.now (columns_of o'.registry)
+
+    pub over_on : Keeps o o' → SettlesTo (step i o.image.now) 1 o o' (Ok tt) → GoingOver step n o₀ o' (i + 1)
+    over_on keeps did = going_on step n o₀.image.now o.image.now (columns_of o₀.registry) (columns_of o.registry) o₀.registry.used o₀.moves o.registry.used o.moves i begins going more o'.image.now (columns_of o'.registry) o'.registry.used o'.moves keeps.table_as keeps.image_as did
+
+-- slices kept, and kept again
+pub keeps_all : (o : Outputs) → Keeps o o
+keeps_all o = record { image_is = refl; image_as = refl; table_is = (refl, refl, refl, refl, refl); table_as = same_refl (columns_of o.registry) }
+
+pub keeps_on : (o o₁ o' : Outputs) → Keeps o o₁ → Keeps o₁ o' → Keeps o o'
+keeps_on o o₁ o' p q = record {
+  image_is = q.image_is ∙ p.image_is;
+  image_as = q.image_as ∙ p.image_as;
+  table_is = (q.table_is.0 ∙ p.table_is.0, q.table_is.1 ∙ p.table_is.1, q.table_is.2 ∙ p.table_is.2, q.table_is.3 ∙ p.table_is.3, q.table_is.4 ∙ p.table_is.4);
+  table_as = same_trans (columns_of o.registry) (columns_of o₁.registry) (columns_of o'.registry) p.table_as q.table_as;
+}
+
+-- two parts over a load's outputs
+module _ (T : Trace) (K : List ℕ → Trace) (o o₁ : Outputs) (n m : ℕ) where
+  pub part_stop : (r : ElfError) → SettlesTo T n o o₁ (Err r) → SettlesTo (and_then T K) (n + m) o o₁ (Err r)
+  part_stop r did = settles_stop T K o₁.image.now o₁.image.now (columns_of o.registry) (columns_of o₁.registry) (columns_of o₁.registry) n (n + m) o.registry.used o.moves r did
+
+  pub first_begins : Begins (n + m) o → Begins n o
+  first_begins b = begins_fewer n m (columns_of o.registry) o.registry.used o.moves b
+
+  module _ (keeps : Keeps o o₁) (did : SettlesTo T n o o₁ (Ok tt)) where
+    pub part_begins : Begins (n + m) o → Begins m o₁
+    part_begins = begins_then T K o₁.image.now o₁.image.now (columns_of o.registry) (columns_of o₁.registry) (columns_of o₁.registry) n m o.registry.used o.moves o₁.registry.used o₁.moves keeps.table_as did
+
+    pub part_then : (o' : Outputs) (a : Result (Unit {0}) ElfError) → SettlesTo (K o₁.image.now) m o₁ o' a → SettlesTo (and_then T K) (n + m) o o' a
+    part_then o' a next = settles_then T K o₁.image.now o'.image.now (columns_of o.registry) (columns_of o₁.registry) (columns_of o'.registry) n m o.registry.used o.moves o₁.registry.used o₁.moves keeps.table_as did (held_of a o') next

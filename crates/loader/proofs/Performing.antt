@@ -24,7 +24,8 @@ use Rattle.loader.specs.Entry.{entry_deed, forget_trace}
 use Rattle.loader.specs.Entry as part
 use Rattle.loader.specs.Trace.{Trace, done, stop, register, accepted, refused, on_registered, settle, and_then}
 use Rattle.loader.specs.Deeds.{written, entry_of, behind, entry_trace, deed_trace, holding}
-use Rattle.loader.specs.InnerContracts.{Settles}
+use Rattle.loader.specs.declared.deeds.Outputs.{Outputs}
+use Rattle.loader.specs.InnerContracts.{held_of, finished_by, Settles}
 use Rattle.loader.proofs.Entering.{EntersIn}
 
 -- a registration's outcome, refused all the same where the place of its key is outside
@@ -32,6 +33,11 @@ abbrev pub finished_in : Result Held ElfError → Bool → Result Held ElfError
 finished_in (Err r) outside = Err r
 finished_in (Ok held) false = Ok held
 finished_in (Ok held) true = Err ValueOutOfBounds
+
+pub finished_held : (o : Outputs) (a : Result (Unit {0}) ElfError) (outside : Bool) (b : Result (Unit {0}) ElfError) → b ≡ finished_by a outside → held_of b o ≡ finished_in (held_of a o) outside
+finished_held o (Ok tt) false b e = rw e refl
+finished_held o (Ok tt) true b e = rw e refl
+finished_held o (Err r) outside b e = rw e refl
 
 -- a registration that is held, and then refused
 held_stop : (x : RegisterResult) (rows key m : ℕ) (im : List ℕ) (rs rs' : List Row) (m' : ℕ) (r : ElfError)

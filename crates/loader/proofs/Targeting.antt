@@ -31,8 +31,12 @@ use Rattle.loader.specs.Functions.{row_for}
 use Rattle.loader.specs.Trace.{accepted, on_registered, settle}
 use Rattle.loader.specs.Deeds.{deed_trace, holding}
 use Rattle.loader.specs.Calls.{call_at, text_of, immediate, call_row, call_deed, slot_trace}
-use Rattle.loader.specs.CallLoop.{target_key, target_row, Known, Seen, CallsHeld, StillHeldIn, StillAlikeIn, target_trace}
-use Rattle.loader.specs.InnerContracts.{entered_by, Settles}
+use Rattle.loader.specs.CallLoop.{AlikeIn, StillAlike, target_key, target_row, Known, Seen, CallsHeld, StillHeldIn, StillAlikeIn, target_trace}
+use Rattle.loader.specs.InnerContracts.{entered_by, moved_by, held_of, Settles}
+use Rattle.loader.specs.declared.deeds.Outputs.{Outputs}
+use Rattle.program.specs.declared.FunctionRegistry.{FunctionRegistry}
+use Rattle.program.specs.Runs.{moves_of}
+use Rattle.program.specs.Table.{columns_of}
 use Rattle.loader.proofs.Entering.{EntersIn}
 use Rattle.loader.proofs.Rowing.{row_is}
 
@@ -50,6 +54,17 @@ entered_still t u used moves key rows row alike (Err Full) did = tt
 
 pub still_alike : (t u : Slices) (used moves key rows : ℕ) (row : Row) → Alike t used row → (a : RegisterResult) → RegistersAlike t u used row a → (b : Result Held ElfError) → b ≡ entered_by a used moves key rows → StillAlikeIn row u b
 still_alike t u used moves key rows row alike a did b e = subst (StillAlikeIn row u) (sym e) (entered_still t u used moves key rows row alike a did)
+
+-- over a load's outputs
+pub still_alike_row : (o : Outputs) (r : FunctionRegistry) (o' : Outputs) (row : Row) (a : RegisterResult) (res : Result (Unit {0}) ElfError)
+    → AlikeIn o row
+    → RegistersAlike (columns_of o.registry) (columns_of r) o.registry.used row a
+    → o' ≡ moved_by (moves_of a) (record { image = o.image; registry = r; moves = o.moves })
+    → held_of res o' ≡ entered_by a o.registry.used o.moves row.key (capacity (columns_of o.registry))
+    → StillAlike row o' res
+still_alike_row o r o' row a res alike did moved held =
+    subst (λ (u : Slices). StillAlikeIn row u (held_of res o')) (ap (λ (x : Outputs). columns_of x.registry) (sym moved))
+    (still_alike (columns_of o.registry) (columns_of r) o.registry.used o.moves row.key (capacity (columns_of o.registry)) row alike a did (held_of res o') held)
 
 module _ (j : Job) (key index : ℕ) (name : KeptName) (is : name ≡ kept_name j.labels OfIndex) where
   pub target_alike : (t : Slices) (n : ℕ) → Alike t n (target_row j) → Alike t n (row_of key index name)

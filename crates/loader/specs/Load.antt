@@ -1,21 +1,21 @@
 -- A whole load: its answer, and every lent byte and number afterwards.
 use Rattle.std.specs.Prelude.{ℕ, ◌+◌, ◌-◌, ◌/◌, ◌≡◌, Bool, true, false, List, [], ◌++◌, length, replicate, Result, Ok, Err}
+use Rattle.std.specs.Borrow.{Bor, MutBor}
 use Rattle.ebpf.specs.Choice.{◌if◌else◌}
 use Rattle.program.specs.declared.Row.{Row}
-use Rattle.program.specs.Table.{Slices, Lent, Shared, table_before, table_after, columns_of, capacity, lay}
+use Rattle.program.specs.Table.{Slices, Lent, Shared, table_of, table_before, table_after, capacity, lay}
 use Rattle.loader.specs.declared.read_only.Placing.TheVariants.{Borrowed, Owned}
 use Rattle.loader.specs.declared.read_only.Placing.{Placing}
 use Rattle.loader.specs.declared.error.ElfError.{ElfError}
 use Rattle.loader.specs.declared.answer.Accepted.{Accepted}
 use Rattle.loader.specs.declared.validate.Config.{Config}
-use Rattle.loader.specs.declared.deeds.Outputs.{Outputs}
 use Rattle.loader.specs.Deeds.{Held, holding}
 use Rattle.loader.specs.Trace.{Settled, accepted, refused, settle}
 use Rattle.loader.specs.Parts.{job_trace}
 use Rattle.loader.specs.Validate.{prepared}
 use Rattle.loader.specs.declared.validate.Job.{Job}
 use Rattle.loader.specs.Calls.{slot_count}
-use Rattle.loader.specs.InnerContracts.{InFile}
+use Rattle.loader.specs.InnerContracts.{InFile, Settles}
 use Rattle.loader.specs.Labels.{label_count}
 use Rattle.loader.specs.Relocations.{relocation_count}
 use Rattle.elf_parser.specs.declared.layout.Layout.{Layout}
@@ -55,8 +55,8 @@ placed_bytes file l (Ok (Borrowed offset start n)) im ro = ro
 placed_bytes file l (Err r) im ro = ro
 
 -- where a load holds, its read-only bytes are these
-abbrev pub HeldBytes : Result (Unit {0}) ElfError → List ℕ → List ℕ → Type 0
-HeldBytes (Ok tt) ro' ro = ro' ≡ ro
+abbrev pub HeldBytes : Result Held ElfError → List ℕ → List ℕ → Type 0
+HeldBytes (Ok held) ro' ro = ro' ≡ ro
 HeldBytes (Err r) ro' ro = Unit {0}
 
 -- ---- the answer
@@ -155,10 +155,17 @@ Tried x im ro t im' ro' t' (Err r) = x ≡ refuses r
 abbrev pub Clears : Lent → Lent → Lent → Lent → Lent → Lent → Lent → Type 0
 Clears image ro k i d s l = Cleared image.entry.now ro.entry.now (table_before k i d s l) image.exit.now ro.exit.now (table_after k i d s l)
 
--- the parts of a job in cleared slices ask this
-abbrev pub FillAsks : List ℕ → Job → Outputs → Type 0
-FillAsks file j o =
-    InFile file j × (length o.image.now ≡ length file) × (columns_of o.registry ≡ lay (columns_of o.registry) []) × (o.registry.used ≡ 0) × (o.moves ≡ 0)
+-- the parts of a job in cleared slices: what they ask, and what they leave, with the answer that follows from their outcome h
+abbrev pub FillAsks : Bor (List ℕ) → Job → MutBor (List ℕ) → MutBor (List ℕ) → MutBor (List ℕ) → MutBor (List ℕ) → MutBor (List ℕ) → MutBor (List ℕ) → Type 0
+FillAsks file j image k i d s l =
+    InFile file.now j × (length image.now ≡ length file.now) × (table_of k i d s l ≡ lay (table_of k i d s l) [])
+
+abbrev pub Fills : Shared → Shared → Job → Lent → Lent → Lent → Lent → Lent → Lent → Lent → Result Accepted ElfError → Type 0
+Fills file builtins j image ro k i d s l a =
+    (h : Result Held ElfError)
+    × (a ≡ answer_for h j)
+    × Settles (job_trace file.entry.now builtins.entry.now j file.entry.now) image.exit.now (table_before k i d s l) (table_after k i d s l) (all_count file.entry.now j) 0 0 h
+    × HeldBytes h ro.exit.now (placed_bytes file.entry.now j.layout j.placing image.exit.now ro.entry.now)
 
 -- what comes of a load of these
 abbrev pub load_of_lent : Shared → Shared → Config → Lent → Lent → Lent → Lent → Lent → Lent → Lent → Loading

@@ -121,6 +121,13 @@ fn finished(outcome: Result<(), ElfError>, outside: bool) -> Result<(), ElfError
 }
 
 impl Outputs<'_, '_> {
+    // The image as it stands.
+    pub(crate) fn image(&self) -> &[u8]
+        ensures { result.now ≡ self.now.image.now }
+    {
+        self.image
+    }
+
     // Counts the moves of a registration that answered so, or refuses.
     fn entered(
         &mut self,

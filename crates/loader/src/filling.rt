@@ -1,9 +1,10 @@
 // The lent slices cleared, and the parts of a load one after another.
 ghost use Rattle.std.specs.Prelude.{◌≡◌, length, replicate};
 ghost use Rattle.loader.specs.Parts.{job_trace};
-ghost use Rattle.loader.specs.Load.{all_count, placed_bytes, Clears, FillAsks, HeldBytes};
+ghost use Rattle.loader.specs.Load.{all_count, placed_bytes, Clears, FillAsks, Fills};
 ghost use Rattle.loader.specs.InnerContracts.{InFile, Starts, FirstAsks, Keeps, SettlesTo};
 
+use crate::answer::{Accepted, answer_of};
 use crate::deeds::{Inputs, Outputs};
 use crate::error::ElfError;
 use crate::parts::{calls_and_relocations, labels_and_entry};
@@ -11,6 +12,7 @@ use crate::read_only::{Placing, copy_sections};
 use crate::validate::Job;
 use ebpf::key_table;
 use elf_parser::{Layout, file_header};
+use program::FunctionRegistry;
 
 // Every number zero.
 pub fn clear_words(s: &mut [u32])
@@ -105,20 +107,39 @@ fn copy_placed(
     }
 }
 
-// The image, the read-only bytes and the table of a file that passed the checks.
+// The image, the read-only bytes and the table of a file that passed the checks, and the answer.
 pub(crate) fn fill_all(
-    out: &mut Outputs<'_, '_>,
+    image: &mut [u8],
     ro: &mut [u8],
+    keys: &mut [u32],
+    indices: &mut [u32],
+    kinds: &mut [u32],
+    starts: &mut [u32],
+    lengths: &mut [u32],
     file: &[u8],
     builtins: &[u32],
     job: Job,
-) -> Result<(), ElfError>
-    requires { FillAsks file.now job out.old }
-    ensures keeps { Keeps out.old out.new }
-    ensures settles { SettlesTo (job_trace file.now builtins.now job file.now) (all_count file.now job) out.old out.new result }
-    ensures bytes { HeldBytes result ro.new (placed_bytes file.now job.layout job.placing out.new.image.now ro.old) }
+) -> Result<Accepted, ElfError>
+    requires { FillAsks file job image keys indices kinds starts lengths }
+    ensures { Fills file builtins job image ro keys indices kinds starts lengths result }
 {
-    keyed_parts(out, file, builtins, job)?;
-    copy_placed(ro, out.image, file, job.layout, job.placing);
-    Ok(())
+    let registry = FunctionRegistry {
+        keys: &mut *keys,
+        indices: &mut *indices,
+        kinds: &mut *kinds,
+        starts: &mut *starts,
+        lengths: &mut *lengths,
+        used: 0,
+    };
+    let mut out = Outputs {
+        image: &mut *image,
+        registry,
+        moves: 0,
+    };
+    let parts = keyed_parts(&mut out, file, builtins, job);
+    let used = out.registry.used;
+    let moves = out.moves;
+    parts?;
+    copy_placed(ro, image, file, job.layout, job.placing);
+    answer_of(used, moves, job)
 }

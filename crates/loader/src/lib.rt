@@ -3,10 +3,7 @@
 ghost use Rattle.loader.specs.Load.{Tries};
 ghost use Rattle.loader.specs.Loads.{Loads};
 
-use answer::answer_of;
-use deeds::Outputs;
 use filling::{clear_all, fill_all};
-use program::FunctionRegistry;
 use validate::prepare;
 
 mod addresses;
@@ -66,20 +63,18 @@ fn attempt(
         starts,
         lengths,
     );
-    let mut out = Outputs {
-        image: &mut image[..n],
-        registry: FunctionRegistry {
-            keys: &mut *keys,
-            indices: &mut *indices,
-            kinds: &mut *kinds,
-            starts: &mut *starts,
-            lengths: &mut *lengths,
-            used: 0,
-        },
-        moves: 0,
-    };
-    fill_all(&mut out, ro_section, file, builtins, job)?;
-    answer_of(out.registry.used, out.moves, job)
+    fill_all(
+        &mut image[..n],
+        ro_section,
+        keys,
+        indices,
+        kinds,
+        starts,
+        lengths,
+        file,
+        builtins,
+        job,
+    )
 }
 
 // A LOAD: the image, the read-only bytes and the table of a file, or a refusal and only zeros

@@ -26,7 +26,15 @@ pub(crate) fn apply_relocations(out: &mut Outputs<'_, '_>, inputs: &Inputs<'_>) 
         let r = relocation_at(file, layout, i);
         header = used_header(file, layout, version2, header, r.r_offset);
         let deed = plan_relocation(
-            file, out.image, builtins, table, job, header, r.r_offset, r.r_info, r.addend,
+            file,
+            out.image(),
+            builtins,
+            table,
+            job,
+            header,
+            r.r_offset,
+            r.r_info,
+            r.addend,
         )?;
         out.perform(deed)?;
     }

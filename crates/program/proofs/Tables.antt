@@ -127,7 +127,7 @@ index_at t None = refl
 -- ---- a table
 
 module _ (t : Slices) (used : ℕ) (ready : Ready t used) where
-  counted_ready : counted t used ≡ used
+  pub counted_ready : counted t used ≡ used
   unfolding counted
   counted_ready = let r = ready.room in omega arith
 
