@@ -25,6 +25,7 @@ use Rattle.std.specs.Prelude.{Result, Ok, Err}
 use Rattle.loader.specs.Trace.{Settled, done, refused, on_registered, settle}
 use Rattle.loader.specs.Trace as trace
 use Rattle.loader.specs.declared.deeds.Outputs.{Outputs}
+use Rattle.std.specs.Borrow.{MutBor}
 use Rattle.program.specs.declared.FunctionRegistry.{FunctionRegistry}
 use Rattle.loader.specs.InnerContracts.{entered_as, entered_by, moved_by, held_of, Begins, BeginsIn, Keeps, Enters, Settles}
 
@@ -36,7 +37,7 @@ pub moves_fit : (a : RegisterResult) (n moves : ℕ) → a ≡ Ok (Inserted n) �
 moves_fit a n moves e h = record { fits = rw e at h }
 
 -- the answer, with the rows and moves that the outputs hold then
-pub entered_held : (a : RegisterResult) (used moves key rows : ℕ) (o : Outputs) → o.registry.used ≡ used_after used a → o.moves ≡ moves + moves_of a → held_of (entered_as a key rows) o ≡ entered_by a used moves key rows
+pub entered_held : (a : RegisterResult) (used moves key rows : ℕ) (o : Outputs) → o.registry.now.used ≡ used_after used a → o.moves ≡ moves + moves_of a → held_of (entered_as a key rows) o ≡ entered_by a used moves key rows
 entered_held (Ok (Inserted n)) used moves key rows o u m = rw (u, m) refl
 entered_held (Ok Repeat) used moves key rows o u m = let m' : o.moves ≡ moves = omega (arith, m) in rw (u, m') refl
 entered_held (Err Collision) used moves key rows o u m = refl
@@ -107,23 +108,23 @@ module _ (t u : Slices) (used moves : ℕ) (row : Row) (a : RegisterResult) (beg
   enters b e = entering b (sym e)
 
 -- the outputs after a registration in their table
-module _ (o : Outputs) (r : FunctionRegistry) (o' : Outputs) (row : Row) (a : RegisterResult) (res : Result (Unit {0}) ElfError)
-  (begins : Begins 1 o) (did : Registration (columns_of o.registry) (columns_of r) o.registry.used row a) (used : r.used ≡ used_after o.registry.used a)
-  (moved : o' ≡ moved_by (moves_of a) (record { image = o.image; registry = r; moves = o.moves }))
-  (answers : res ≡ entered_as a row.key (capacity (columns_of r))) where
-  lens : SameLens (columns_of o.registry) (columns_of r)
-  lens = same_after (columns_of o.registry) (columns_of r) o.registry.used row a begins.ready did
+module _ (o : Outputs) (r : MutBor FunctionRegistry) (o' : Outputs) (row : Row) (a : RegisterResult) (res : Result (Unit {0}) ElfError)
+    (begins : Begins 1 o) (did : Registration (columns_of o.registry.now) (columns_of r.now) o.registry.now.used row a) (used : r.now.used ≡ used_after o.registry.now.used a)
+    (moved : o' ≡ moved_by (moves_of a) (record { image = o.image; registry = r; moves = o.moves }))
+    (answers : res ≡ entered_as a row.key (capacity (columns_of r.now))) where
+  lens : SameLens (columns_of o.registry.now) (columns_of r.now)
+  lens = same_after (columns_of o.registry.now) (columns_of r.now) o.registry.now.used row a begins.ready did
 
-  pub held_row : held_of res o' ≡ entered_by a o.registry.used o.moves row.key (capacity (columns_of o.registry))
+  pub held_row : held_of res o' ≡ entered_by a o.registry.now.used o.moves row.key (capacity (columns_of o.registry.now))
   held_row =
-      rw (moved, answers, ← capacity_same (columns_of o.registry) (columns_of r) lens)
-      (entered_held a o.registry.used o.moves row.key (capacity (columns_of r)) (moved_by (moves_of a) (record { image = o.image; registry = r; moves = o.moves })) used refl)
+      rw (moved, answers, ← capacity_same (columns_of o.registry.now) (columns_of r.now) lens)
+      (entered_held a o.registry.now.used o.moves row.key (capacity (columns_of r.now)) (moved_by (moves_of a) (record { image = o.image; registry = r; moves = o.moves })) used refl)
 
-  pub keeps_row : SameColumns o.registry r → Keeps o o'
-  keeps_row same = rw moved (record { image_is = refl; image_as = refl; table_is = same; table_as = lens })
+  pub keeps_row : r.ghost_name ≡ o.registry.ghost_name → SameColumns o.registry.now r.now → Keeps o o'
+  keeps_row is same = rw moved (record { image_is = refl; image_as = refl; registry_is = is; table_is = same; table_as = lens })
 
   pub enters_row : Enters row o o' res
   enters_row im =
       let b : Result Held ElfError = held_of res o' in
-      subst (λ (u : Slices). Settles (trace.register row (done im)) im (columns_of o.registry) u 1 o.registry.used o.moves b) (ap (λ (x : Outputs). columns_of x.registry) (sym moved))
-      (enters (columns_of o.registry) (columns_of r) o.registry.used o.moves row a begins did b held_row im)
+      subst (λ (u : Slices). Settles (trace.register row (done im)) im (columns_of o.registry.now) u 1 o.registry.now.used o.moves b) (ap (λ (x : Outputs). columns_of x.registry.now) (sym moved))
+      (enters (columns_of o.registry.now) (columns_of r.now) o.registry.now.used o.moves row a begins did b held_row im)

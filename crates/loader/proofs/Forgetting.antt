@@ -77,26 +77,26 @@ module _ (t u : Slices) (used moves : ℕ) (begins : BeginsIn 1 t used moves) wh
       rw (e, entrypoint_key) (forgets_by 0x71e3cf81 a (unregisters_ready t used begins.ready u 0x71e3cf81 a did) im)
 
 -- the outputs after a removal from their table
-module _ (o : Outputs) (r : FunctionRegistry) (a : Option ℕ) (begins : Begins 1 o) (did : Unregisters (columns_of o.registry) (columns_of r) o.registry.used 0x71e3cf81 a) where
-  pub lens_row : SameLens (columns_of o.registry) (columns_of r)
+module _ (o : Outputs) (r : FunctionRegistry) (a : Option ℕ) (begins : Begins 1 o) (did : Unregisters (columns_of o.registry.now) (columns_of r) o.registry.now.used 0x71e3cf81 a) where
+  pub lens_row : SameLens (columns_of o.registry.now) (columns_of r)
   lens_row =
-      same_removed (columns_of o.registry) (columns_of r) o.registry.used 0x71e3cf81 begins.ready a
-      (unregisters_ready (columns_of o.registry) o.registry.used begins.ready (columns_of r) 0x71e3cf81 a did)
+      same_removed (columns_of o.registry.now) (columns_of r) o.registry.now.used 0x71e3cf81 begins.ready a
+      (unregisters_ready (columns_of o.registry.now) o.registry.now.used begins.ready (columns_of r) 0x71e3cf81 a did)
 
   -- the sum of the moves does not wrap
   pub gone_fit : (n : ℕ) → a ≡ Some n → Fits w64 (o.moves + n)
-  gone_fit n e = record { fits = rw e at (gone_sums (columns_of o.registry) (columns_of r) o.registry.used o.moves begins 0x71e3cf81 a did) }
+  gone_fit n e = record { fits = rw e at (gone_sums (columns_of o.registry.now) (columns_of r) o.registry.now.used o.moves begins 0x71e3cf81 a did) }
 
   -- all rows of a table count
-  used_row : r.used ≡ used_without (columns_of o.registry) o.registry.used a → held_after a r.used o.moves ≡ forgotten_by a o.registry.used o.moves
+  used_row : r.used ≡ used_without (columns_of o.registry.now) o.registry.now.used a → held_after a r.used o.moves ≡ forgotten_by a o.registry.now.used o.moves
   used_row u = go a u
     where
-      go : (a : Option ℕ) → r.used ≡ used_without (columns_of o.registry) o.registry.used a → held_after a r.used o.moves ≡ forgotten_by a o.registry.used o.moves
-      go (Some n) u = rw (u, counted_ready (columns_of o.registry) o.registry.used begins.ready) refl
+      go : (a : Option ℕ) → r.used ≡ used_without (columns_of o.registry.now) o.registry.now.used a → held_after a r.used o.moves ≡ forgotten_by a o.registry.now.used o.moves
+      go (Some n) u = rw (u, counted_ready (columns_of o.registry.now) o.registry.now.used begins.ready) refl
       go None u = rw u refl
 
-  pub forgets_row : r.used ≡ used_without (columns_of o.registry) o.registry.used a → (b : Option ℕ) → a ≡ b
-      → ForgetsIn false (columns_of o.registry) (columns_of r) o.registry.used o.moves (held_after b r.used o.moves)
+  pub forgets_row : r.used ≡ used_without (columns_of o.registry.now) o.registry.now.used a → (b : Option ℕ) → a ≡ b
+      → ForgetsIn false (columns_of o.registry.now) (columns_of r) o.registry.now.used o.moves (held_after b r.used o.moves)
   forgets_row u b e =
-      forgets (columns_of o.registry) (columns_of r) o.registry.used o.moves begins a (held_after b r.used o.moves) did
-      (subst (λ (x : Option ℕ). held_after x r.used o.moves ≡ forgotten_by a o.registry.used o.moves) e (used_row u))
+      forgets (columns_of o.registry.now) (columns_of r) o.registry.now.used o.moves begins a (held_after b r.used o.moves) did
+      (subst (λ (x : Option ℕ). held_after x r.used o.moves ≡ forgotten_by a o.registry.now.used o.moves) e (used_row u))

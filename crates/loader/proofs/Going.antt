@@ -195,48 +195,49 @@ module _ (step : ℕ → List ℕ → Trace) (n : ℕ) where
 
 -- parts 0 to i of n are done
 abbrev pub GoingOver : (ℕ → List ℕ → Trace) → ℕ → Outputs → Outputs → ℕ → Type 0
-GoingOver step n o₀ o i = Going step n o₀.image.now o.image.now (columns_of o₀.registry) (columns_of o.registry) o₀.registry.used o₀.moves o.registry.used o.moves i
+GoingOver step n o₀ o i = Going step n o₀.image.now o.image.now (columns_of o₀.registry.now) (columns_of o.registry.now) o₀.registry.now.used o₀.moves o.registry.now.used o.moves i
 
 pub over_start : (step : ℕ → List ℕ → Trace) (n : ℕ) (o : Outputs) → Begins n o → GoingOver step n o o 0
-over_start step n o b = going_start step n o.image.now (columns_of o.registry) o.registry.used o.moves b
+over_start step n o b = going_start step n o.image.now (columns_of o.registry.now) o.registry.now.used o.moves b
 
 module _ (step : ℕ → List ℕ → Trace) (n : ℕ) (o₀ o : Outputs) (i : ℕ) (begins : Begins n o₀) (going : GoingOver step n o₀ o i) where
   pub over_done : n ≤ i → SettlesTo (each step n 0 o₀.image.now) n o₀ o (Ok tt)
-  over_done = going_done step n o₀.image.now o.image.now (columns_of o₀.registry) (columns_of o.registry) o₀.registry.used o₀.moves o.registry.used o.moves i begins going
+  over_done = going_done step n o₀.image.now o.image.now (columns_of o₀.registry.now) (columns_of o.registry.now) o₀.registry.now.used o₀.moves o.registry.now.used o.moves i begins going
 
   pub over_begins : i < n → Begins 1 o
-  over_begins = going_begins step n o₀.image.now o.image.now (columns_of o₀.registry) (columns_of o.registry) o₀.registry.used o₀.moves o.registry.used o.moves i begins going
+  over_begins = going_begins step n o₀.image.now o.image.now (columns_of o₀.registry.now) (columns_of o.registry.now) o₀.registry.now.used o₀.moves o.registry.now.used o.moves i begins going
 
   module _ (more : i < n) (o' : Outputs) where
     pub over_stop : (r : ElfError) → SettlesTo (step i o.image.now) 1 o o' (Err r) → SettlesTo (each step n 0 o₀.image.now) n o₀ o' (Err r)
-    over_stop = going_stop step n o₀.image.now o.image.now (columns_of o₀.registry) (columns_of o.registry) o₀.registry.used o₀.moves o.registry.used o.moves i begins going more o'.image.now (columns_of o'.registry)
+    over_stop = going_stop step n o₀.image.now o.image.now (columns_of o₀.registry.now) (columns_of o.registry.now) o₀.registry.now.used o₀.moves o.registry.now.used o.moves i begins going more o'.image.now (columns_of o'.registry.now)
 
     pub over_on : Keeps o o' → SettlesTo (step i o.image.now) 1 o o' (Ok tt) → GoingOver step n o₀ o' (i + 1)
-    over_on keeps did = going_on step n o₀.image.now o.image.now (columns_of o₀.registry) (columns_of o.registry) o₀.registry.used o₀.moves o.registry.used o.moves i begins going more o'.image.now (columns_of o'.registry) o'.registry.used o'.moves keeps.table_as keeps.image_as did
+    over_on keeps did = going_on step n o₀.image.now o.image.now (columns_of o₀.registry.now) (columns_of o.registry.now) o₀.registry.now.used o₀.moves o.registry.now.used o.moves i begins going more o'.image.now (columns_of o'.registry.now) o'.registry.now.used o'.moves keeps.table_as keeps.image_as did
 
 -- slices kept, and kept again
 pub keeps_all : (o : Outputs) → Keeps o o
-keeps_all o = record { image_is = refl; image_as = refl; table_is = (refl, refl, refl, refl, refl); table_as = same_refl (columns_of o.registry) }
+keeps_all o = record { image_is = refl; image_as = refl; registry_is = refl; table_is = (refl, refl, refl, refl, refl); table_as = same_refl (columns_of o.registry.now) }
 
 pub keeps_on : (o o₁ o' : Outputs) → Keeps o o₁ → Keeps o₁ o' → Keeps o o'
 keeps_on o o₁ o' p q = record {
   image_is = q.image_is ∙ p.image_is;
   image_as = q.image_as ∙ p.image_as;
+  registry_is = q.registry_is ∙ p.registry_is;
   table_is = (q.table_is.0 ∙ p.table_is.0, q.table_is.1 ∙ p.table_is.1, q.table_is.2 ∙ p.table_is.2, q.table_is.3 ∙ p.table_is.3, q.table_is.4 ∙ p.table_is.4);
-  table_as = same_trans (columns_of o.registry) (columns_of o₁.registry) (columns_of o'.registry) p.table_as q.table_as;
+  table_as = same_trans (columns_of o.registry.now) (columns_of o₁.registry.now) (columns_of o'.registry.now) p.table_as q.table_as;
 }
 
 -- two parts over a load's outputs
 module _ (T : Trace) (K : List ℕ → Trace) (o o₁ : Outputs) (n m : ℕ) where
   pub part_stop : (r : ElfError) → SettlesTo T n o o₁ (Err r) → SettlesTo (and_then T K) (n + m) o o₁ (Err r)
-  part_stop r did = settles_stop T K o₁.image.now o₁.image.now (columns_of o.registry) (columns_of o₁.registry) (columns_of o₁.registry) n (n + m) o.registry.used o.moves r did
+  part_stop r did = settles_stop T K o₁.image.now o₁.image.now (columns_of o.registry.now) (columns_of o₁.registry.now) (columns_of o₁.registry.now) n (n + m) o.registry.now.used o.moves r did
 
   pub first_begins : Begins (n + m) o → Begins n o
-  first_begins b = begins_fewer n m (columns_of o.registry) o.registry.used o.moves b
+  first_begins b = begins_fewer n m (columns_of o.registry.now) o.registry.now.used o.moves b
 
   module _ (keeps : Keeps o o₁) (did : SettlesTo T n o o₁ (Ok tt)) where
     pub part_begins : Begins (n + m) o → Begins m o₁
-    part_begins = begins_then T K o₁.image.now o₁.image.now (columns_of o.registry) (columns_of o₁.registry) (columns_of o₁.registry) n m o.registry.used o.moves o₁.registry.used o₁.moves keeps.table_as did
+    part_begins = begins_then T K o₁.image.now o₁.image.now (columns_of o.registry.now) (columns_of o₁.registry.now) (columns_of o₁.registry.now) n m o.registry.now.used o.moves o₁.registry.now.used o₁.moves keeps.table_as did
 
     pub part_then : (o' : Outputs) (a : Result (Unit {0}) ElfError) → SettlesTo (K o₁.image.now) m o₁ o' a → SettlesTo (and_then T K) (n + m) o o' a
-    part_then o' a next = settles_then T K o₁.image.now o'.image.now (columns_of o.registry) (columns_of o₁.registry) (columns_of o'.registry) n m o.registry.used o.moves o₁.registry.used o₁.moves keeps.table_as did (held_of a o') next
+    part_then o' a next = settles_then T K o₁.image.now o'.image.now (columns_of o.registry.now) (columns_of o₁.registry.now) (columns_of o'.registry.now) n m o.registry.now.used o.moves o₁.registry.now.used o₁.moves keeps.table_as did (held_of a o') next

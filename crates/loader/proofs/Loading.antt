@@ -87,7 +87,7 @@ placed_not p r used moves e = rw e refl
 -- over a load's outputs
 module _ (file builtins : List ℕ) (j : Job) (im : List ℕ) (o o₁ : Outputs) (n m : ℕ) where
   pub job_stop : (r : ElfError) → SettlesTo (writing_trace file builtins j im) n o o₁ (Err r) → SettlesTo (job_trace file builtins j im) (n + m) o o₁ (Err r)
-  job_stop r did = parts_stop file builtins j im o₁.image.now (columns_of o.registry) (columns_of o₁.registry) n m o.registry.used o.moves r did
+  job_stop r did = parts_stop file builtins j im o₁.image.now (columns_of o.registry.now) (columns_of o₁.registry.now) n m o.registry.now.used o.moves r did
 
   pub job_all : (o₂ : Outputs) (a b : Result (Unit {0}) ElfError)
       → Keeps o o₁
@@ -96,7 +96,7 @@ module _ (file builtins : List ℕ) (j : Job) (im : List ℕ) (o o₁ : Outputs)
       → held_of b o₂ ≡ after_placing (held_of a o₂) j.placing
       → SettlesTo (job_trace file builtins j im) (n + m) o o₂ b
   job_all o₂ a b keeps first second e =
-      parts_all file builtins j im o₁.image.now (columns_of o.registry) (columns_of o₁.registry) n m o.registry.used o.moves o₂.image.now (columns_of o₂.registry) o₁.registry.used o₁.moves (held_of a o₂) (held_of b o₂) keeps.table_as first second e
+      parts_all file builtins j im o₁.image.now (columns_of o.registry.now) (columns_of o₁.registry.now) n m o.registry.now.used o.moves o₂.image.now (columns_of o₂.registry.now) o₁.registry.now.used o₁.moves (held_of a o₂) (held_of b o₂) keeps.table_as first second e
 
   -- the second pair of parts is refused; or the placing is
   pub job_refused : (o₂ : Outputs) (r : ElfError)
@@ -112,7 +112,7 @@ module _ (file builtins : List ℕ) (j : Job) (im : List ℕ) (o o₁ : Outputs)
       → SettlesTo (naming_trace file builtins j o₁.image.now) m o₁ o₂ (Ok tt)
       → j.placing ≡ Err r
       → SettlesTo (job_trace file builtins j im) (n + m) o o₂ (Err r)
-  job_unplaced o₂ r keeps first second e = job_all o₂ (Ok tt) (Err r) keeps first second (placed_not j.placing r o₂.registry.used o₂.moves e)
+  job_unplaced o₂ r keeps first second e = job_all o₂ (Ok tt) (Err r) keeps first second (placed_not j.placing r o₂.registry.now.used o₂.moves e)
 
 -- ---- in an empty table
 

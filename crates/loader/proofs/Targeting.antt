@@ -34,6 +34,7 @@ use Rattle.loader.specs.Calls.{call_at, text_of, immediate, call_row, call_deed,
 use Rattle.loader.specs.CallLoop.{AlikeIn, StillAlike, target_key, target_row, Known, Seen, CallsHeld, StillHeldIn, StillAlikeIn, target_trace}
 use Rattle.loader.specs.InnerContracts.{entered_by, moved_by, held_of, Settles}
 use Rattle.loader.specs.declared.deeds.Outputs.{Outputs}
+use Rattle.std.specs.Borrow.{MutBor}
 use Rattle.program.specs.declared.FunctionRegistry.{FunctionRegistry}
 use Rattle.program.specs.Runs.{moves_of}
 use Rattle.program.specs.Table.{columns_of}
@@ -56,15 +57,15 @@ pub still_alike : (t u : Slices) (used moves key rows : ℕ) (row : Row) → Ali
 still_alike t u used moves key rows row alike a did b e = subst (StillAlikeIn row u) (sym e) (entered_still t u used moves key rows row alike a did)
 
 -- over a load's outputs
-pub still_alike_row : (o : Outputs) (r : FunctionRegistry) (o' : Outputs) (row : Row) (a : RegisterResult) (res : Result (Unit {0}) ElfError)
+pub still_alike_row : (o : Outputs) (r : MutBor FunctionRegistry) (o' : Outputs) (row : Row) (a : RegisterResult) (res : Result (Unit {0}) ElfError)
     → AlikeIn o row
-    → RegistersAlike (columns_of o.registry) (columns_of r) o.registry.used row a
+    → RegistersAlike (columns_of o.registry.now) (columns_of r.now) o.registry.now.used row a
     → o' ≡ moved_by (moves_of a) (record { image = o.image; registry = r; moves = o.moves })
-    → held_of res o' ≡ entered_by a o.registry.used o.moves row.key (capacity (columns_of o.registry))
+    → held_of res o' ≡ entered_by a o.registry.now.used o.moves row.key (capacity (columns_of o.registry.now))
     → StillAlike row o' res
 still_alike_row o r o' row a res alike did moved held =
-    subst (λ (u : Slices). StillAlikeIn row u (held_of res o')) (ap (λ (x : Outputs). columns_of x.registry) (sym moved))
-    (still_alike (columns_of o.registry) (columns_of r) o.registry.used o.moves row.key (capacity (columns_of o.registry)) row alike a did (held_of res o') held)
+    subst (λ (u : Slices). StillAlikeIn row u (held_of res o')) (ap (λ (x : Outputs). columns_of x.registry.now) (sym moved))
+    (still_alike (columns_of o.registry.now) (columns_of r.now) o.registry.now.used o.moves row.key (capacity (columns_of o.registry.now)) row alike a did (held_of res o') held)
 
 module _ (j : Job) (key index : ℕ) (name : KeptName) (is : name ≡ kept_name j.labels OfIndex) where
   pub target_alike : (t : Slices) (n : ℕ) → Alike t n (target_row j) → Alike t n (row_of key index name)

@@ -73,18 +73,18 @@ pub record Leads (step : ℕ → List ℕ → Trace) (n i k : ℕ) (im im' : Lis
 
 -- every row has the row's name
 abbrev pub AlikeIn : Outputs → Row → Type 0
-AlikeIn o row = Alike (columns_of o.registry) o.registry.used row
+AlikeIn o row = Alike (columns_of o.registry.now) o.registry.now.used row
 
 -- and still has, where the answer holds
 abbrev pub StillAlike : Row → Outputs → Result (Unit {0}) ElfError → Type 0
-StillAlike row o' a = StillAlikeIn row (columns_of o'.registry) (held_of a o')
+StillAlike row o' a = StillAlikeIn row (columns_of o'.registry.now) (held_of a o')
 
 -- what the loop keeps, and still keeps
 abbrev pub Holds : Inputs → List ℕ → Outputs → Type 0
-Holds i seen o = CallsHeld i.builtins.now i.job seen (columns_of o.registry) o.registry.used
+Holds i seen o = CallsHeld i.builtins.now i.job seen (columns_of o.registry.now) o.registry.now.used
 
 abbrev pub StillHeld : Inputs → List ℕ → Outputs → Result (Unit {0}) ElfError → Type 0
-StillHeld i seen o' a = StillHeldIn i.builtins.now i.job seen (columns_of o'.registry) (held_of a o')
+StillHeld i seen o' a = StillHeldIn i.builtins.now i.job seen (columns_of o'.registry.now) (held_of a o')
 
 -- a target: what its registration asks, and what it leaves, whatever the image
 abbrev pub TargetAsks : Job → ℕ → ℕ → Outputs → Type 0
@@ -106,4 +106,4 @@ SlotsLead from to i o o' a =
     Leads (slot_trace i.file.now i.builtins.now i.job) (slot_count i.job) from to
     (ahead (i.job.start + 8 * to) o.image.now i.file.now)
     (ahead (i.job.start + 8 * to) o'.image.now i.file.now)
-    (columns_of o.registry) (columns_of o'.registry) o.registry.used o.moves (held_of a o')
+    (columns_of o.registry.now) (columns_of o'.registry.now) o.registry.now.used o.moves (held_of a o')

@@ -80,7 +80,7 @@ pub record Settles (trace : Trace) (im' : List ℕ) (t t' : Slices) (n used move
 
 -- an answer, with the rows and moves that the outputs hold
 abbrev pub held_of : Result (Unit {0}) ElfError → Outputs → Result Held ElfError
-held_of (Ok tt) o = holding o.registry.used o.moves
+held_of (Ok tt) o = holding o.registry.now.used o.moves
 held_of (Err r) o = Err r
 
 -- n moves more
@@ -91,19 +91,20 @@ moved_by n o = record { image = o.image; registry = o.registry; moves = o.moves 
 pub record Keeps (o o' : Outputs) : Type 0 where
   pub image_is : o'.image.ghost_name ≡ o.image.ghost_name
   pub image_as : length o'.image.now ≡ length o.image.now
-  pub table_is : SameColumns o.registry o'.registry
-  pub table_as : SameLens (columns_of o.registry) (columns_of o'.registry)
+  pub registry_is : o'.registry.ghost_name ≡ o.registry.ghost_name
+  pub table_is : SameColumns o.registry.now o'.registry.now
+  pub table_as : SameLens (columns_of o.registry.now) (columns_of o'.registry.now)
 
 abbrev pub Begins : ℕ → Outputs → Type 0
-Begins n o = BeginsIn n (columns_of o.registry) o.registry.used o.moves
+Begins n o = BeginsIn n (columns_of o.registry.now) o.registry.now.used o.moves
 
 -- the same, with no row
 abbrev pub Starts : ℕ → Outputs → Type 0
-Starts n o = Begins n o × (o.registry.used ≡ 0)
+Starts n o = Begins n o × (o.registry.now.used ≡ 0)
 
 -- what a trace leaves, with this image
 abbrev pub SettlesAs : Trace → List ℕ → ℕ → Outputs → Outputs → Result (Unit {0}) ElfError → Type 0
-SettlesAs trace im' n o o' a = Settles trace im' (columns_of o.registry) (columns_of o'.registry) n o.registry.used o.moves (held_of a o')
+SettlesAs trace im' n o o' a = Settles trace im' (columns_of o.registry.now) (columns_of o'.registry.now) n o.registry.now.used o.moves (held_of a o')
 
 -- with the outputs' own
 abbrev pub SettlesTo : Trace → ℕ → Outputs → Outputs → Result (Unit {0}) ElfError → Type 0

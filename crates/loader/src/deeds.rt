@@ -39,9 +39,9 @@ pub enum Entry {
 
 // What a load fills: the image, the table, and the moves up to here.
 #[derive(Drop)]
-pub struct Outputs<'i, 't> {
-    pub image: &'i mut [u8],
-    pub registry: FunctionRegistry<'t>,
+pub struct Outputs<'o, 't> {
+    pub image: &'o mut [u8],
+    pub registry: &'o mut FunctionRegistry<'t>,
     pub moves: u64,
 }
 
@@ -136,7 +136,7 @@ impl Outputs<'_, '_> {
     ) -> Result<(), ElfError>
         requires { self.old.moves + moves_of answer < 2 ^ 64 }
         ensures moved { self.new ≡ moved_by (moves_of answer) self.old }
-        ensures answers { result ≡ entered_as answer key (capacity (columns_of self.old.registry)) }
+        ensures answers { result ≡ entered_as answer key (capacity (columns_of self.old.registry.now)) }
     {
         match answer {
             Ok(Registered::Inserted(n)) => {

@@ -123,23 +123,20 @@ pub(crate) fn fill_all(
     requires { FillAsks file job image keys indices kinds starts lengths }
     ensures { Fills file builtins job image ro keys indices kinds starts lengths result }
 {
-    let registry = FunctionRegistry {
-        keys: &mut *keys,
-        indices: &mut *indices,
-        kinds: &mut *kinds,
-        starts: &mut *starts,
-        lengths: &mut *lengths,
+    let mut registry = FunctionRegistry {
+        keys,
+        indices,
+        kinds,
+        starts,
+        lengths,
         used: 0,
     };
     let mut out = Outputs {
-        image: &mut *image,
-        registry,
+        image,
+        registry: &mut registry,
         moves: 0,
     };
-    let parts = keyed_parts(&mut out, file, builtins, job);
-    let used = out.registry.used;
-    let moves = out.moves;
-    parts?;
-    copy_placed(ro, image, file, job.layout, job.placing);
-    answer_of(used, moves, job)
+    keyed_parts(&mut out, file, builtins, job)?;
+    copy_placed(ro, out.image(), file, job.layout, job.placing);
+    answer_of(out.registry.used, out.moves, job)
 }

@@ -7,7 +7,10 @@ use crate::error::ElfError;
 use crate::labels::{label_deed, label_symbols};
 
 // Every symbol in turn, up to the first refusal.
-pub(crate) fn register_labels(out: &mut Outputs<'_, '_>, inputs: &Inputs<'_>) -> Result<(), ElfError>
+pub(crate) fn register_labels(
+    out: &mut Outputs<'_, '_>,
+    inputs: &Inputs<'_>,
+) -> Result<(), ElfError>
     requires { PartAsks (label_count inputs.now.file.now inputs.now.job) inputs.now out.old }
     ensures keeps { Keeps out.old out.new }
     ensures settles { SettlesTo (labels_trace inputs.now.file.now inputs.now.builtins.now inputs.now.job out.old.image.now) (label_count inputs.now.file.now inputs.now.job) out.old out.new result }

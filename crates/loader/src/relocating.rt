@@ -7,7 +7,10 @@ use crate::error::ElfError;
 use crate::relocations::{plan_relocation, relocation_at, used_header};
 
 // Every relocation in turn, up to the first refusal. `header` is the program header used last.
-pub(crate) fn apply_relocations(out: &mut Outputs<'_, '_>, inputs: &Inputs<'_>) -> Result<(), ElfError>
+pub(crate) fn apply_relocations(
+    out: &mut Outputs<'_, '_>,
+    inputs: &Inputs<'_>,
+) -> Result<(), ElfError>
     requires { PartAsks (relocation_count inputs.now.job) inputs.now out.old }
     ensures keeps { Keeps out.old out.new }
     ensures settles { SettlesTo (relocations_trace inputs.now.file.now inputs.now.builtins.now inputs.now.job out.old.image.now) (relocation_count inputs.now.job) out.old out.new result }

@@ -47,8 +47,8 @@ loop-i-init c =
     let e : i.job.start + 0 ≡ 0 + i.job.start = omega arith in
     let front : ahead (i.job.start + 0) c.copy_bytes.new.to i.file.now ≡ i.file.now = rw (e, c.copy_bytes.ensures) (ahead_more o.image.now i.file.now 0 i.job.start c.requires.2 (omega (arith, c.requires.0.text))) in (
       keeps_all _,
-      rw front (going_start (slot_trace i.file.now i.builtins.now i.job) (slot_count i.job) i.file.now (columns_of o.registry) o.registry.used o.moves c.requires.3.0),
-      rw c.requires.3.1 (none_held i.builtins.now i.job (columns_of o.registry) 1024 (omega arith)),
+      rw front (going_start (slot_trace i.file.now i.builtins.now i.job) (slot_count i.job) i.file.now (columns_of o.registry.now) o.registry.now.used o.moves c.requires.3.0),
+      rw c.requires.3.1 (none_held i.builtins.now i.job (columns_of o.registry.now) 1024 (omega arith)),
       length-replicate {A = ℕ} 1024 0,
     )
 
@@ -62,9 +62,9 @@ copy_bytes-requires-in-loop-i c =
 -- the slots up to the run's end, once their bytes are copied, whatever their answer
 ran_all : (r : After-register_slots) (a : Result (Unit {0}) ElfError) → r.register_slots.result ≡ a
     → Leads (slot_trace r.args.inputs.now.file.now r.args.inputs.now.builtins.now r.args.inputs.now.job) (slot_count r.args.inputs.now.job) r.loop-i.i r.run_end-to.result
-      (ahead (r.args.inputs.now.job.start + 8 * r.loop-i.i) r.loop-i.out.image.now r.args.inputs.now.file.now)
-      (ahead (r.args.inputs.now.job.start + 8 * r.run_end-to.result) r.register_slots.new.out.image.now r.args.inputs.now.file.now)
-      (columns_of r.loop-i.out.registry) (columns_of r.register_slots.new.out.registry) r.loop-i.out.registry.used r.loop-i.out.moves (held_of a r.register_slots.new.out)
+    (ahead (r.args.inputs.now.job.start + 8 * r.loop-i.i) r.loop-i.out.image.now r.args.inputs.now.file.now)
+    (ahead (r.args.inputs.now.job.start + 8 * r.run_end-to.result) r.register_slots.new.out.image.now r.args.inputs.now.file.now)
+    (columns_of r.loop-i.out.registry.now) (columns_of r.register_slots.new.out.registry.now) r.loop-i.out.registry.now.used r.loop-i.out.moves (held_of a r.register_slots.new.out)
 ran_all r a e =
     let i = r.args.inputs.now in
     let o = r.loop-i.out in
@@ -72,8 +72,8 @@ ran_all r a e =
     let bounds = runs _ _ _ r.loop-i-test.true r.run_end-to.ensures in
     let was : length o.image.now ≡ length i.file.now = r.loop-i.invariant.0.image_as ∙ r.copy_bytes.auto.to ∙ r.requires.2 in
     let same = copied i.file.now o.image.now r.copy_bytes-in-loop-i.new.to i.job.start r.loop-i.i r.run_end-to.result (omega (arith, bounds.0)) was (text_in i.job.start i.job.length r.run_end-to.result _ r.requires.0.text bounds.1) r.copy_bytes-in-loop-i.ensures in
-    subst (λ (b : Result (Unit {0}) ElfError). Leads (slot_trace i.file.now i.builtins.now i.job) (slot_count i.job) r.loop-i.i r.run_end-to.result (ahead (i.job.start + 8 * r.loop-i.i) o.image.now i.file.now) (ahead (i.job.start + 8 * r.run_end-to.result) o'.image.now i.file.now) (columns_of o.registry) (columns_of o'.registry) o.registry.used o.moves (held_of b o')) e
-    (subst (λ (im : List ℕ). Leads (slot_trace i.file.now i.builtins.now i.job) (slot_count i.job) r.loop-i.i r.run_end-to.result im (ahead (i.job.start + 8 * r.run_end-to.result) o'.image.now i.file.now) (columns_of o.registry) (columns_of o'.registry) o.registry.used o.moves (held_of r.register_slots.result o')) same r.register_slots.ensures.leads)
+    subst (λ (b : Result (Unit {0}) ElfError). Leads (slot_trace i.file.now i.builtins.now i.job) (slot_count i.job) r.loop-i.i r.run_end-to.result (ahead (i.job.start + 8 * r.loop-i.i) o.image.now i.file.now) (ahead (i.job.start + 8 * r.run_end-to.result) o'.image.now i.file.now) (columns_of o.registry.now) (columns_of o'.registry.now) o.registry.now.used o.moves (held_of b o')) e
+    (subst (λ (im : List ℕ). Leads (slot_trace i.file.now i.builtins.now i.job) (slot_count i.job) r.loop-i.i r.run_end-to.result im (ahead (i.job.start + 8 * r.run_end-to.result) o'.image.now i.file.now) (columns_of o.registry.now) (columns_of o'.registry.now) o.registry.now.used o.moves (held_of r.register_slots.result o')) same r.register_slots.ensures.leads)
 
 pub register_slots-requires : goal.register_slots-requires
 register_slots-requires c =
@@ -85,7 +85,7 @@ register_slots-requires c =
         c.requires.0,
         c.requires.1,
         c.copy_bytes-in-loop-i.auto.to ∙ c.loop-i.invariant.0.image_as ∙ c.copy_bytes.auto.to ∙ c.requires.2,
-        in_begins_run (slot_trace i.file.now i.builtins.now i.job) (slot_count i.job) 0 (slot_count i.job) (omega arith) i.file.now (ahead (i.job.start + 8 * c.loop-i.i) o.image.now i.file.now) (columns_of o₀.registry) (columns_of o.registry) o₀.registry.used o₀.moves o.registry.used o.moves c.loop-i.i (all_begin (slot_count i.job) (columns_of o₀.registry) o₀.registry.used o₀.moves c.requires.3.0) c.loop-i.invariant.1 c.run_end-to.result (omega (arith, bounds.0)) bounds.1 i.file.now (columns_of o.registry),
+        in_begins_run (slot_trace i.file.now i.builtins.now i.job) (slot_count i.job) 0 (slot_count i.job) (omega arith) i.file.now (ahead (i.job.start + 8 * c.loop-i.i) o.image.now i.file.now) (columns_of o₀.registry.now) (columns_of o.registry.now) o₀.registry.now.used o₀.moves o.registry.now.used o.moves c.loop-i.i (all_begin (slot_count i.job) (columns_of o₀.registry.now) o₀.registry.now.used o₀.moves c.requires.3.0) c.loop-i.invariant.1 c.run_end-to.result (omega (arith, bounds.0)) bounds.1 i.file.now (columns_of o.registry.now),
       ),
       omega (arith, bounds.0),
       bounds.1,
@@ -100,8 +100,8 @@ returns-in_err-register_slots-clause-settles c =
     let o' = c.register_slots.new.out in
     let bounds = ran (goal.at.returns-in_err-register_slots-clause-settles c).After-run_end-to in
     let p = err_from_is_err_and c.from_residual.result c.from_residual.ensures.1 in
-    rw (p.1, p.2) (all_lead (slot_trace i.file.now i.builtins.now i.job) (slot_count i.job) i.file.now _ (columns_of o₀.registry) (columns_of o'.registry) o₀.registry.used o₀.moves _
-    (in_run_stop (slot_trace i.file.now i.builtins.now i.job) (slot_count i.job) 0 (slot_count i.job) (omega arith) i.file.now (ahead (i.job.start + 8 * c.loop-i.i) o.image.now i.file.now) (columns_of o₀.registry) (columns_of o.registry) o₀.registry.used o₀.moves o.registry.used o.moves c.loop-i.i (all_begin (slot_count i.job) (columns_of o₀.registry) o₀.registry.used o₀.moves c.requires.3.0) c.loop-i.invariant.1 c.run_end-to.result (omega (arith, bounds.0)) bounds.1 _ (columns_of o'.registry) _ _
+    rw (p.1, p.2) (all_lead (slot_trace i.file.now i.builtins.now i.job) (slot_count i.job) i.file.now _ (columns_of o₀.registry.now) (columns_of o'.registry.now) o₀.registry.now.used o₀.moves _
+    (in_run_stop (slot_trace i.file.now i.builtins.now i.job) (slot_count i.job) 0 (slot_count i.job) (omega arith) i.file.now (ahead (i.job.start + 8 * c.loop-i.i) o.image.now i.file.now) (columns_of o₀.registry.now) (columns_of o.registry.now) o₀.registry.now.used o₀.moves o.registry.now.used o.moves c.loop-i.i (all_begin (slot_count i.job) (columns_of o₀.registry.now) o₀.registry.now.used o₀.moves c.requires.3.0) c.loop-i.invariant.1 c.run_end-to.result (omega (arith, bounds.0)) bounds.1 _ (columns_of o'.registry.now) _ _
     (ran_all (goal.at.returns-in_err-register_slots-clause-settles c).After-register_slots _ c.in_err-register_slots.was)))
 
 pub loop-i-smaller : goal.loop-i-smaller
@@ -119,8 +119,8 @@ loop-i-preserved c =
     let was : length o.image.now ≡ length i.file.now = c.loop-i.invariant.0.image_as ∙ c.copy_bytes.auto.to ∙ c.requires.2 in
     let len : length o'.image.now ≡ length i.file.now = c.register_slots.ensures.keeps.image_as ∙ c.copy_bytes-in-loop-i.auto.to ∙ was in
     let same : length (ahead (i.job.start + 8 * c.run_end-to.result) o'.image.now i.file.now) ≡ length (ahead (i.job.start + 8 * c.loop-i.i) o.image.now i.file.now) = ahead_length o'.image.now i.file.now (i.job.start + 8 * c.run_end-to.result) len ∙ len ∙ sym (ahead_length o.image.now i.file.now (i.job.start + 8 * c.loop-i.i) was ∙ was) in (
-      record { image_is = c.register_slots.ensures.keeps.image_is ∙ c.loop-i.invariant.0.image_is; image_as = c.register_slots.ensures.keeps.image_as ∙ c.copy_bytes-in-loop-i.auto.to ∙ c.loop-i.invariant.0.image_as; table_is = (keeps_on _ o o' c.loop-i.invariant.0 (record { image_is = c.register_slots.ensures.keeps.image_is; image_as = c.register_slots.ensures.keeps.image_as ∙ c.copy_bytes-in-loop-i.auto.to; table_is = c.register_slots.ensures.keeps.table_is; table_as = c.register_slots.ensures.keeps.table_as })).table_is; table_as = (keeps_on _ o o' c.loop-i.invariant.0 (record { image_is = c.register_slots.ensures.keeps.image_is; image_as = c.register_slots.ensures.keeps.image_as ∙ c.copy_bytes-in-loop-i.auto.to; table_is = c.register_slots.ensures.keeps.table_is; table_as = c.register_slots.ensures.keeps.table_as })).table_as },
-      in_run (slot_trace i.file.now i.builtins.now i.job) (slot_count i.job) 0 (slot_count i.job) (omega arith) i.file.now (ahead (i.job.start + 8 * c.loop-i.i) o.image.now i.file.now) (columns_of o₀.registry) (columns_of o.registry) o₀.registry.used o₀.moves o.registry.used o.moves c.loop-i.i (all_begin (slot_count i.job) (columns_of o₀.registry) o₀.registry.used o₀.moves c.requires.3.0) c.loop-i.invariant.1 c.run_end-to.result (omega (arith, bounds.0)) bounds.1 (ahead (i.job.start + 8 * c.run_end-to.result) o'.image.now i.file.now) (columns_of o'.registry) o'.registry.used o'.moves c.register_slots.ensures.keeps.table_as same
+      record { image_is = c.register_slots.ensures.keeps.image_is ∙ c.loop-i.invariant.0.image_is; image_as = c.register_slots.ensures.keeps.image_as ∙ c.copy_bytes-in-loop-i.auto.to ∙ c.loop-i.invariant.0.image_as; registry_is = c.register_slots.ensures.keeps.registry_is ∙ c.loop-i.invariant.0.registry_is; table_is = (keeps_on _ o o' c.loop-i.invariant.0 (record { image_is = c.register_slots.ensures.keeps.image_is; image_as = c.register_slots.ensures.keeps.image_as ∙ c.copy_bytes-in-loop-i.auto.to; registry_is = c.register_slots.ensures.keeps.registry_is; table_is = c.register_slots.ensures.keeps.table_is; table_as = c.register_slots.ensures.keeps.table_as })).table_is; table_as = (keeps_on _ o o' c.loop-i.invariant.0 (record { image_is = c.register_slots.ensures.keeps.image_is; image_as = c.register_slots.ensures.keeps.image_as ∙ c.copy_bytes-in-loop-i.auto.to; registry_is = c.register_slots.ensures.keeps.registry_is; table_is = c.register_slots.ensures.keeps.table_is; table_as = c.register_slots.ensures.keeps.table_as })).table_as },
+      in_run (slot_trace i.file.now i.builtins.now i.job) (slot_count i.job) 0 (slot_count i.job) (omega arith) i.file.now (ahead (i.job.start + 8 * c.loop-i.i) o.image.now i.file.now) (columns_of o₀.registry.now) (columns_of o.registry.now) o₀.registry.now.used o₀.moves o.registry.now.used o.moves c.loop-i.i (all_begin (slot_count i.job) (columns_of o₀.registry.now) o₀.registry.now.used o₀.moves c.requires.3.0) c.loop-i.invariant.1 c.run_end-to.result (omega (arith, bounds.0)) bounds.1 (ahead (i.job.start + 8 * c.run_end-to.result) o'.image.now i.file.now) (columns_of o'.registry.now) o'.registry.now.used o'.moves c.register_slots.ensures.keeps.table_as same
           (ran_all (goal.at.loop-i-preserved c).After-register_slots (Ok tt) c.in_ok-register_slots.was),
       subst (StillHeld i c.register_slots.new.seen o') c.in_ok-register_slots.was c.register_slots.ensures.held,
       c.register_slots.auto.seen ∙ c.loop-i.invariant.3,
@@ -140,5 +140,5 @@ returns-clause-settles c =
     let end : c.loop-i.i ≡ slot_count i.job = omega (arith, c.loop-i.invariant.1.passed, c.loop-i-test.false) in
     let was : length o.image.now ≡ length i.file.now = c.loop-i.invariant.0.image_as ∙ c.copy_bytes.auto.to ∙ c.requires.2 in
     let im : c.copy_bytes-2.new.to ≡ ahead (i.job.start + 8 * c.loop-i.i) o.image.now i.file.now = rest i.file.now o.image.now c.copy_bytes-2.new.to i.job.start c.loop-i.i (slot_count i.job) end was (text_in i.job.start i.job.length (slot_count i.job) _ c.requires.0.text (omega arith)) c.copy_bytes-2.ensures in
-    subst (λ (x : List ℕ). Settles (calls_trace i.file.now i.builtins.now i.job i.file.now) x (columns_of o₀.registry) (columns_of o.registry) (slot_count i.job) o₀.registry.used o₀.moves (holding o.registry.used o.moves)) (sym im)
-    (going_done (slot_trace i.file.now i.builtins.now i.job) (slot_count i.job) i.file.now (ahead (i.job.start + 8 * c.loop-i.i) o.image.now i.file.now) (columns_of o₀.registry) (columns_of o.registry) o₀.registry.used o₀.moves o.registry.used o.moves c.loop-i.i c.requires.3.0 c.loop-i.invariant.1 c.loop-i-test.false)
+    subst (λ (x : List ℕ). Settles (calls_trace i.file.now i.builtins.now i.job i.file.now) x (columns_of o₀.registry.now) (columns_of o.registry.now) (slot_count i.job) o₀.registry.now.used o₀.moves (holding o.registry.now.used o.moves)) (sym im)
+    (going_done (slot_trace i.file.now i.builtins.now i.job) (slot_count i.job) i.file.now (ahead (i.job.start + 8 * c.loop-i.i) o.image.now i.file.now) (columns_of o₀.registry.now) (columns_of o.registry.now) o₀.registry.now.used o₀.moves o.registry.now.used o.moves c.loop-i.i c.requires.3.0 c.loop-i.invariant.1 c.loop-i-test.false)

@@ -10,8 +10,8 @@ use Rattle.loader.proofs.entry.forget_entrypoint.Goals as goal
 
 pub returns-then-version2-clause-forgets : goal.returns-then-version2-clause-forgets
 returns-then-version2-clause-forgets c =
-    subst (λ (b : Bool). ForgetsIn b (columns_of c.args.out.now.registry) (columns_of c.args.out.now.registry) c.args.out.now.registry.used c.args.out.now.moves (holding c.args.out.now.registry.used c.args.out.now.moves)) (sym c.if-version2.true)
-    (forgets_nothing (columns_of c.args.out.now.registry) c.args.out.now.registry.used c.args.out.now.moves c.requires)
+    subst (λ (b : Bool). ForgetsIn b (columns_of c.args.out.now.registry.now) (columns_of c.args.out.now.registry.now) c.args.out.now.registry.now.used c.args.out.now.moves (holding c.args.out.now.registry.now.used c.args.out.now.moves)) (sym c.if-version2.true)
+    (forgets_nothing (columns_of c.args.out.now.registry.now) c.args.out.now.registry.now.used c.args.out.now.moves c.requires)
 
 pub overflow_add-out : goal.overflow_add-out
 overflow_add-out c =
@@ -19,18 +19,18 @@ overflow_add-out c =
 
 pub returns-in-Some-clause-keeps : goal.returns-in-Some-clause-keeps
 returns-in-Some-clause-keeps c =
-    record { image_is = refl; image_as = refl; table_is = c.unregister_function.ensures.same; table_as = lens_row c.args.out.now c.unregister_function.new.self c.unregister_function.result c.requires c.unregister_function.ensures.unregisters }
+    record { image_is = refl; image_as = refl; registry_is = refl; table_is = c.unregister_function.ensures.same; table_as = lens_row c.args.out.now c.unregister_function.new.self c.unregister_function.result c.requires c.unregister_function.ensures.unregisters }
 
 pub returns-in-Some-clause-forgets : goal.returns-in-Some-clause-forgets
 returns-in-Some-clause-forgets c =
-    subst (λ (b : Bool). ForgetsIn b (columns_of c.args.out.now.registry) (columns_of c.unregister_function.new.self) c.args.out.now.registry.used c.args.out.now.moves (holding c.unregister_function.new.self.used (c.args.out.now.moves + c.in-Some.n))) (sym c.if-version2.false)
+    subst (λ (b : Bool). ForgetsIn b (columns_of c.args.out.now.registry.now) (columns_of c.unregister_function.new.self) c.args.out.now.registry.now.used c.args.out.now.moves (holding c.unregister_function.new.self.used (c.args.out.now.moves + c.in-Some.n))) (sym c.if-version2.false)
     (forgets_row c.args.out.now c.unregister_function.new.self c.unregister_function.result c.requires c.unregister_function.ensures.unregisters c.unregister_function.ensures.used _ c.in-Some.is)
 
 pub returns-in_default-clause-keeps : goal.returns-in_default-clause-keeps
 returns-in_default-clause-keeps c =
-    record { image_is = refl; image_as = refl; table_is = c.unregister_function.ensures.same; table_as = lens_row c.args.out.now c.unregister_function.new.self c.unregister_function.result c.requires c.unregister_function.ensures.unregisters }
+    record { image_is = refl; image_as = refl; registry_is = refl; table_is = c.unregister_function.ensures.same; table_as = lens_row c.args.out.now c.unregister_function.new.self c.unregister_function.result c.requires c.unregister_function.ensures.unregisters }
 
 pub returns-in_default-clause-forgets : goal.returns-in_default-clause-forgets
 returns-in_default-clause-forgets c =
-    subst (λ (b : Bool). ForgetsIn b (columns_of c.args.out.now.registry) (columns_of c.unregister_function.new.self) c.args.out.now.registry.used c.args.out.now.moves (holding c.unregister_function.new.self.used c.args.out.now.moves)) (sym c.if-version2.false)
+    subst (λ (b : Bool). ForgetsIn b (columns_of c.args.out.now.registry.now) (columns_of c.unregister_function.new.self) c.args.out.now.registry.now.used c.args.out.now.moves (holding c.unregister_function.new.self.used c.args.out.now.moves)) (sym c.if-version2.false)
     (forgets_row c.args.out.now c.unregister_function.new.self c.unregister_function.result c.requires c.unregister_function.ensures.unregisters c.unregister_function.ensures.used _ c.in_default.is)

@@ -72,4 +72,4 @@ returns-clause-settles c =
     let q = (goal.at.returns-clause-settles c).After-calls_and_relocations in
     let o₂ = c.labels_and_entry.new.out in
     job_all i.file.now i.builtins.now i.job i.file.now c.args.out.now c.calls_and_relocations.new.out (writing_count i.job) (naming_count i.file.now i.job) o₂ (Ok tt) (Ok tt) c.calls_and_relocations.ensures.keeps (wrote q (Ok tt) c.in_ok-calls_and_relocations.was) (named r (Ok tt) c.in_ok-labels_and_entry.was)
-    (placed_held i.job.placing _ o₂.registry.used o₂.moves c.in_ok-inputs.was)
+    (placed_held i.job.placing _ o₂.registry.now.used o₂.moves c.in_ok-inputs.was)

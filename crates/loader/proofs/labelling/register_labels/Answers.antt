@@ -26,7 +26,7 @@ returns-in_err-deed-clause-settles c =
     let o = c.loop-i.out in
     let p = err_from_is_err_and c.from_residual.result c.from_residual.ensures.1 in
     rw (p.1, p.2) (over_stop (label_trace i.file.now i.builtins.now i.job) (label_symbols i.file.now i.job).count c.args.out.now o c.loop-i.i c.requires.3 c.loop-i.invariant.1 (more_labels i.file.now i.job c.label_symbols-symbols.result c.loop-i.i c.label_symbols-symbols.ensures c.loop-i-test.true) o _
-    (label_settles i.file.now i.builtins.now i.job c.label_symbols-symbols.result c.loop-i.i o.image.now o.image.now (columns_of o.registry) (columns_of o.registry) o.registry.used o.moves _ c.label_symbols-symbols.ensures (sym c.in_err-deed.was ∙ c.label_deed.ensures) (refuses _ o.image.now o.image.now (columns_of o.registry) (columns_of o.registry) 1 o.registry.used o.moves)))
+    (label_settles i.file.now i.builtins.now i.job c.label_symbols-symbols.result c.loop-i.i o.image.now o.image.now (columns_of o.registry.now) (columns_of o.registry.now) o.registry.now.used o.moves _ c.label_symbols-symbols.ensures (sym c.in_err-deed.was ∙ c.label_deed.ensures) (refuses _ o.image.now o.image.now (columns_of o.registry.now) (columns_of o.registry.now) 1 o.registry.now.used o.moves)))
 
 pub perform-requires : goal.perform-requires
 perform-requires c =
@@ -42,7 +42,7 @@ turned r a e =
     let o = r.loop-i.out in
     let o' = r.perform.new.self in
     subst (λ (b : Result (Unit {0}) ElfError). SettlesTo (label_trace i.file.now i.builtins.now i.job r.loop-i.i o.image.now) 1 o o' b) e
-    (label_settles i.file.now i.builtins.now i.job r.label_symbols-symbols.result r.loop-i.i o.image.now o'.image.now (columns_of o.registry) (columns_of o'.registry) o.registry.used o.moves (held_of r.perform.result o') r.label_symbols-symbols.ensures (sym r.in_ok-deed.was ∙ r.label_deed.ensures) r.perform.ensures.settles)
+    (label_settles i.file.now i.builtins.now i.job r.label_symbols-symbols.result r.loop-i.i o.image.now o'.image.now (columns_of o.registry.now) (columns_of o'.registry.now) o.registry.now.used o.moves (held_of r.perform.result o') r.label_symbols-symbols.ensures (sym r.in_ok-deed.was ∙ r.label_deed.ensures) r.perform.ensures.settles)
 
 pub returns-in_err-perform-clause-settles : goal.returns-in_err-perform-clause-settles
 returns-in_err-perform-clause-settles c =

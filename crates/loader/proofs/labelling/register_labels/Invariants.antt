@@ -10,4 +10,4 @@ use Rattle.loader.proofs.labelling.register_labels.Given as goal
 abbrev pub invariant-loop-i : goal.invariant-loop-i
 invariant-loop-i l =
     Keeps l.initial.out l.out
-    × Going (label_trace l.inputs.file.now l.inputs.builtins.now l.inputs.job) (label_symbols l.inputs.file.now l.inputs.job).count l.initial.out.image.now l.out.image.now (columns_of l.initial.out.registry) (columns_of l.out.registry) l.initial.out.registry.used l.initial.out.moves l.out.registry.used l.out.moves l.i
+    × Going (label_trace l.inputs.file.now l.inputs.builtins.now l.inputs.job) (label_symbols l.inputs.file.now l.inputs.job).count l.initial.out.image.now l.out.image.now (columns_of l.initial.out.registry.now) (columns_of l.out.registry.now) l.initial.out.registry.now.used l.initial.out.moves l.out.registry.now.used l.out.moves l.i

@@ -11,5 +11,5 @@ use Rattle.loader.proofs.relocating.apply_relocations.Given as goal
 abbrev pub invariant-loop-i : goal.invariant-loop-i
 invariant-loop-i l =
     Keeps l.initial.out l.out
-    × Going (relocation_trace l.inputs.file.now l.inputs.builtins.now l.inputs.job) (relocation_count l.inputs.job) l.initial.out.image.now l.out.image.now (columns_of l.initial.out.registry) (columns_of l.out.registry) l.initial.out.registry.used l.initial.out.moves l.out.registry.used l.out.moves l.i
+    × Going (relocation_trace l.inputs.file.now l.inputs.builtins.now l.inputs.job) (relocation_count l.inputs.job) l.initial.out.image.now l.out.image.now (columns_of l.initial.out.registry.now) (columns_of l.out.registry.now) l.initial.out.registry.now.used l.initial.out.moves l.out.registry.now.used l.out.moves l.i
     × (l.header ≡ used_before l.inputs.file.now l.inputs.job.layout l.inputs.job.version2 l.i)
