@@ -19,7 +19,7 @@ use Rattle.loader.specs.declared.deeds.Deed.TheVariants.{Skip, Halves, Word, Key
 use Rattle.loader.specs.declared.deeds.Entry.{Entry}
 use Rattle.loader.specs.declared.deeds.Entry.TheVariants.{Nothing, Register as Enter}
 use Rattle.loader.specs.declared.validate.Job.{Job}
-use Rattle.loader.specs.declared.deeds.Held.{Held}
+use Rattle.loader.specs.Deeds.{Held}
 use Rattle.loader.specs.declared.error.ElfError.{ElfError}
 use Rattle.std.specs.Prelude.{Result, Ok, Err}
 use Rattle.loader.specs.Bytes.{put, length_put}

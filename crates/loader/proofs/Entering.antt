@@ -1,6 +1,6 @@
 -- A registration's answer, with the rows and the moves up to there: what it makes of the rest of a trace. For every part of a load.
 -- Assumes nothing.
-use mathlib.Core.Path.{◌≡◌, refl, sym, ap, ◌∙◌}
+use mathlib.Core.Path.{◌≡◌, refl, sym, ap, subst, ◌∙◌}
 use mathlib.Core.List.{List}
 use Prim.Native.Nat.{ℕ, ◌+◌, ◌≤◌, ◌<◌, ◌^◌}
 use native.Mathlib.Omega.{arith}
@@ -11,25 +11,37 @@ use Rattle.program.specs.declared.RegisterError.TheVariants.{Collision, Full}
 use Rattle.program.specs.declared.Registered.TheVariants.{Inserted, Repeat}
 use Rattle.std.specs.Prelude.{Ok, Err}
 use Rattle.program.specs.declared.Row.{Row}
-use Rattle.program.specs.Table.{Slices, capacity, rows_of, Registration}
+use Rattle.program.specs.Table.{Slices, SameColumns, SameLens, columns_of, capacity, rows_of, Registration, used_after}
 use Rattle.program.specs.Rows.{register, registered, RegisterResult}
 use Rattle.program.specs.Runs.{moves_of}
 use Rattle.program.proofs.Cases.{zero_one}
 use Rattle.program.proofs.Laying.{length_rows}
 use Rattle.program.proofs.Laws.{kept_rows, more_rows}
-use Rattle.program.proofs.Tables.{ready_after, rows_after_lem}
+use Rattle.program.proofs.Tables.{ready_after, rows_after_lem, same_after, capacity_same}
 use Rattle.loader.specs.declared.error.ElfError.{ElfError}
 use Rattle.loader.specs.declared.error.ElfError.TheVariants.{SymbolHashCollision, TableFull}
-use Rattle.loader.specs.declared.deeds.Held.{Held}
+use Rattle.loader.specs.Deeds.{Held}
 use Rattle.std.specs.Prelude.{Result, Ok, Err}
-use Rattle.loader.specs.Trace.{Settled, refused, on_registered, settle}
-use Rattle.loader.specs.InnerContracts.{entered_by, Begins, Enters}
+use Rattle.loader.specs.Trace.{Settled, done, refused, on_registered, settle}
+use Rattle.loader.specs.Trace as trace
+use Rattle.loader.specs.declared.deeds.Outputs.{Outputs}
+use Rattle.std.specs.Borrow.{MutBor}
+use Rattle.program.specs.declared.FunctionRegistry.{FunctionRegistry}
+use Rattle.loader.specs.InnerContracts.{entered_as, entered_by, moved_by, held_of, Begins, BeginsIn, Keeps, Enters, Settles}
 
-pub entered_as : (a b : RegisterResult) (used moves key rows : ℕ) → a ≡ b → entered_by b used moves key rows ≡ entered_by a used moves key rows
-entered_as a b used moves key rows e = ap (λ (a : RegisterResult). entered_by a used moves key rows) (sym e)
+-- one row more, whatever the image
+abbrev pub EntersIn : Row → Slices → Slices → ℕ → ℕ → Result Held ElfError → Type 0
+EntersIn row t t' used moves a = (im : List ℕ) → Settles (trace.register row (done im)) im t t' 1 used moves a
 
 pub moves_fit : (a : RegisterResult) (n moves : ℕ) → a ≡ Ok (Inserted n) → moves + moves_of a < 2 ^ 64 → Fits w64 (moves + n)
 moves_fit a n moves e h = record { fits = rw e at h }
+
+-- the answer, with the rows and moves that the outputs hold then
+pub entered_held : (a : RegisterResult) (used moves key rows : ℕ) (o : Outputs) → o.registry.now.used ≡ used_after used a → o.moves ≡ moves + moves_of a → held_of (entered_as a key rows) o ≡ entered_by a used moves key rows
+entered_held (Ok (Inserted n)) used moves key rows o u m = rw (u, m) refl
+entered_held (Ok Repeat) used moves key rows o u m = let m' : o.moves ≡ moves = omega (arith, m) in rw (u, m') refl
+entered_held (Err Collision) used moves key rows o u m = refl
+entered_held (Err Full) used moves key rows o u m = refl
 
 -- a registration that is held: the rest goes on with its moves
 held_on : (a : RegisterResult) (used moves key rows : ℕ) (held : Held) (k : ℕ → Settled) → entered_by a used moves key rows ≡ Ok held → on_registered a rows key moves k ≡ k held.moves
@@ -72,28 +84,47 @@ moved_at_most (Err Collision) cap r rs is = omega arith
 moved_at_most (Err Full) cap r rs is = omega arith
 
 -- the slices after a registration
-module _ (t u : Slices) (rows used moves : ℕ) (row : Row) (a : RegisterResult) (begins : Begins 1 t rows used moves) (did : Registration t u used row a) where
+module _ (t u : Slices) (used moves : ℕ) (row : Row) (a : RegisterResult) (begins : BeginsIn 1 t used moves) (did : Registration t u used row a) where
   -- the sums of `entered` do not wrap
   pub sums_fit : (used < 2 ^ 32) × (moves + moves_of a < 2 ^ 64)
   sums_fit =
       let m : moves_of a ≤ used = rw (length_rows t used) at (moved_at_most a (capacity t) row (rows_of t used) did.answers) in
       (omega (arith, begins.room.few), omega (arith, begins.room.few, begins.room.moved))
 
-  entering : (key : ℕ) → key ≡ row.key → (b : Result Held ElfError) → entered_by a used moves key rows ≡ b → Enters row t u used moves b
+  entering : (b : Result Held ElfError) → entered_by a used moves row.key (capacity t) ≡ b → EntersIn row t u used moves b
   unfolding settle
-  entering key k (Ok held) e im =
-      let e' : entered_by a used moves row.key (capacity t) ≡ Ok held = rw (← begins.rows_are, ← k) e in
-      let g = grown a (capacity t) row (rows_of t used) moves key rows held did.answers (rw (length_rows t used) e) in
+  entering (Ok held) e im =
+      let g = grown a (capacity t) row (rows_of t used) moves row.key (capacity t) held did.answers (rw (length_rows t used) e) in
       let l = length_rows t used in
       let rs : rows_of u held.used ≡ registered (capacity t) row (rows_of t used) = rw g.rows_now at (rows_after_lem t u used row a begins.ready did) in
       record {
-        answers = rw (rs, ← did.answers) (sym (held_on a used moves row.key (capacity t) held _ e'));
+        answers = rw (rs, ← did.answers) (sym (held_on a used moves row.key (capacity t) held _ e));
         sound = rw g.rows_now at (ready_after t u used row a begins.ready did);
         near = (omega (arith, g.one_more, l), omega (arith, g.few_moved, l, begins.room.few));
       }
-  entering key k (Err r) e im =
-      let e' : entered_by a used moves row.key (capacity t) ≡ Err r = rw (← begins.rows_are, ← k) e in
-      record { answers = rw (← did.answers) (sym (held_not a used moves row.key (capacity t) r _ e')); sound = tt; near = tt }
+  entering (Err r) e im = record { answers = rw (← did.answers) (sym (held_not a used moves row.key (capacity t) r _ e)); sound = tt; near = tt }
 
-  pub enters : (b : Result Held ElfError) → b ≡ entered_by a used moves row.key rows → Enters row t u used moves b
-  enters b e = entering row.key refl b (sym e)
+  pub enters : (b : Result Held ElfError) → b ≡ entered_by a used moves row.key (capacity t) → EntersIn row t u used moves b
+  enters b e = entering b (sym e)
+
+-- the outputs after a registration in their table
+module _ (o : Outputs) (r : MutBor FunctionRegistry) (o' : Outputs) (row : Row) (a : RegisterResult) (res : Result (Unit {0}) ElfError)
+    (begins : Begins 1 o) (did : Registration (columns_of o.registry.now) (columns_of r.now) o.registry.now.used row a) (used : r.now.used ≡ used_after o.registry.now.used a)
+    (moved : o' ≡ moved_by (moves_of a) (record { image = o.image; registry = r; moves = o.moves }))
+    (answers : res ≡ entered_as a row.key (capacity (columns_of r.now))) where
+  lens : SameLens (columns_of o.registry.now) (columns_of r.now)
+  lens = same_after (columns_of o.registry.now) (columns_of r.now) o.registry.now.used row a begins.ready did
+
+  pub held_row : held_of res o' ≡ entered_by a o.registry.now.used o.moves row.key (capacity (columns_of o.registry.now))
+  held_row =
+      rw (moved, answers, ← capacity_same (columns_of o.registry.now) (columns_of r.now) lens)
+      (entered_held a o.registry.now.used o.moves row.key (capacity (columns_of r.now)) (moved_by (moves_of a) (record { image = o.image; registry = r; moves = o.moves })) used refl)
+
+  pub keeps_row : r.ghost_name ≡ o.registry.ghost_name → SameColumns o.registry.now r.now → Keeps o o'
+  keeps_row is same = rw moved (record { image_is = refl; image_as = refl; registry_is = is; table_is = same; table_as = lens })
+
+  pub enters_row : Enters row o o' res
+  enters_row im =
+      let b : Result Held ElfError = held_of res o' in
+      subst (λ (u : Slices). Settles (trace.register row (done im)) im (columns_of o.registry.now) u 1 o.registry.now.used o.moves b) (ap (λ (x : Outputs). columns_of x.registry.now) (sym moved))
+      (enters (columns_of o.registry.now) (columns_of r.now) o.registry.now.used o.moves row a begins did b held_row im)

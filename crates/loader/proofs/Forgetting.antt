@@ -1,6 +1,6 @@
 -- A removal's answer, with the rows and the moves up to there: what it makes of the rest of a trace. Assumes nothing.
-use mathlib.Core.Path.{◌≡◌, refl, sym, ap, ap₂}
-use mathlib.Core.Bool.{true, false}
+use mathlib.Core.Path.{◌≡◌, refl, sym, ap, ap₂, subst}
+use mathlib.Core.Bool.{Bool, true, false}
 use mathlib.Core.List.{List}
 use Prim.Native.Nat.{ℕ, ◌+◌, ◌≤◌, ◌<◌, ◌^◌}
 use native.Mathlib.Omega.{arith}
@@ -10,31 +10,36 @@ use Rattle.std.specs.Prelude.{Option, Some, None}
 use Rattle.program.specs.declared.Row.{Row}
 use Rattle.program.specs.Rows.{remove, unregister}
 use Rattle.program.specs.Runs.{moves_gone}
-use Rattle.program.specs.Table.{Slices, rows_of, Removal, Unregisters}
+use Rattle.program.specs.declared.FunctionRegistry.{FunctionRegistry}
+use Rattle.program.specs.Table.{Slices, SameLens, columns_of, used_without, rows_of, Removal, Unregisters}
 use Rattle.program.proofs.Rows.{remove_missing}
 use Rattle.program.proofs.Laws.{absent_iff}
 use Rattle.program.proofs.Keys.{entrypoint_key}
-use Rattle.program.proofs.Tables.{unregisters_ready, after_gone, after_absent}
-use Rattle.loader.specs.declared.deeds.Held.{Held}
+use Rattle.program.proofs.Tables.{counted_ready, unregisters_ready, after_gone, after_absent, same_removed}
+use Rattle.loader.specs.Deeds.{Held}
 use Rattle.loader.specs.declared.error.ElfError.{ElfError}
 use Rattle.std.specs.Prelude.{Result}
 use Rattle.loader.specs.Deeds.{holding}
 use Rattle.loader.specs.Trace.{done, forget, accepted, settle}
-use Rattle.loader.specs.Entry.{forgotten_by}
-use Rattle.loader.specs.InnerContracts.{Begins, Forgets, Settles}
+use Rattle.loader.specs.Entry.{forgotten_by, forget_trace}
+use Rattle.loader.specs.declared.deeds.Outputs.{Outputs}
+use Rattle.loader.specs.InnerContracts.{Begins, BeginsIn, Settles}
 
-pub forgotten_as : (a b : Option ℕ) (used moves : ℕ) → a ≡ b → forgotten_by b used moves ≡ forgotten_by a used moves
-forgotten_as a b used moves e = ap (λ (x : Option ℕ). forgotten_by x used moves) (sym e)
+-- the key forgotten in version 1, whatever the image
+abbrev pub ForgetsIn : Bool → Slices → Slices → ℕ → ℕ → Result Held ElfError → Type 0
+ForgetsIn version2 t t' used moves a = (im : List ℕ) → Settles (forget_trace version2 im) im t t' 1 used moves a
 
-pub gone_fit : (a : Option ℕ) (n moves : ℕ) → a ≡ Some n → moves + moves_gone a < 2 ^ 64 → Fits w64 (moves + n)
-gone_fit a n moves e h = record { fits = rw e at h }
+-- the answer, with the rows that are used then
+abbrev pub held_after : Option ℕ → ℕ → ℕ → Result Held ElfError
+held_after (Some n) used' moves = holding used' (moves + n)
+held_after None used' moves = holding used' moves
 
 -- version 2 forgets nothing
-pub forgets_nothing : (t : Slices) (rows used moves : ℕ) → Begins 1 t rows used moves → Forgets true t t used moves (holding used moves)
+pub forgets_nothing : (t : Slices) (used moves : ℕ) → BeginsIn 1 t used moves → ForgetsIn true t t used moves (holding used moves)
 unfolding settle
-forgets_nothing t rows used moves b im = record { answers = refl; sound = b.ready; near = (omega arith, omega arith) }
+forgets_nothing t used moves b im = record { answers = refl; sound = b.ready; near = (omega arith, omega arith) }
 
-module _ (t u : Slices) (rows used moves : ℕ) (begins : Begins 1 t rows used moves) where
+module _ (t u : Slices) (used moves : ℕ) (begins : BeginsIn 1 t used moves) where
   few : (k m : ℕ) → Removal t u used k (Some m) → m < used
   few k m did = (after_gone t u used k begins.ready m did).1
 
@@ -67,6 +72,31 @@ module _ (t u : Slices) (rows used moves : ℕ) (begins : Begins 1 t rows used m
         near = (omega arith, omega arith);
       }
 
-  pub forgets : (a : Option ℕ) (b : Result Held ElfError) → Unregisters t u used 0x71e3cf81 a → b ≡ forgotten_by a used moves → Forgets false t u used moves b
+  pub forgets : (a : Option ℕ) (b : Result Held ElfError) → Unregisters t u used 0x71e3cf81 a → b ≡ forgotten_by a used moves → ForgetsIn false t u used moves b
   forgets a b did e im =
       rw (e, entrypoint_key) (forgets_by 0x71e3cf81 a (unregisters_ready t used begins.ready u 0x71e3cf81 a did) im)
+
+-- the outputs after a removal from their table
+module _ (o : Outputs) (r : FunctionRegistry) (a : Option ℕ) (begins : Begins 1 o) (did : Unregisters (columns_of o.registry.now) (columns_of r) o.registry.now.used 0x71e3cf81 a) where
+  pub lens_row : SameLens (columns_of o.registry.now) (columns_of r)
+  lens_row =
+      same_removed (columns_of o.registry.now) (columns_of r) o.registry.now.used 0x71e3cf81 begins.ready a
+      (unregisters_ready (columns_of o.registry.now) o.registry.now.used begins.ready (columns_of r) 0x71e3cf81 a did)
+
+  -- the sum of the moves does not wrap
+  pub gone_fit : (n : ℕ) → a ≡ Some n → Fits w64 (o.moves + n)
+  gone_fit n e = record { fits = rw e at (gone_sums (columns_of o.registry.now) (columns_of r) o.registry.now.used o.moves begins 0x71e3cf81 a did) }
+
+  -- all rows of a table count
+  used_row : r.used ≡ used_without (columns_of o.registry.now) o.registry.now.used a → held_after a r.used o.moves ≡ forgotten_by a o.registry.now.used o.moves
+  used_row u = go a u
+    where
+      go : (a : Option ℕ) → r.used ≡ used_without (columns_of o.registry.now) o.registry.now.used a → held_after a r.used o.moves ≡ forgotten_by a o.registry.now.used o.moves
+      go (Some n) u = rw (u, counted_ready (columns_of o.registry.now) o.registry.now.used begins.ready) refl
+      go None u = rw u refl
+
+  pub forgets_row : r.used ≡ used_without (columns_of o.registry.now) o.registry.now.used a → (b : Option ℕ) → a ≡ b
+      → ForgetsIn false (columns_of o.registry.now) (columns_of r) o.registry.now.used o.moves (held_after b r.used o.moves)
+  forgets_row u b e =
+      forgets (columns_of o.registry.now) (columns_of r) o.registry.now.used o.moves begins a (held_after b r.used o.moves) did
+      (subst (λ (x : Option ℕ). held_after x r.used o.moves ≡ forgotten_by a o.registry.now.used o.moves) e (used_row u))

@@ -5,18 +5,17 @@ use mathlib.Core.List.{List}
 use Prim.Native.Nat.{ℕ, suc, ◌+◌, ◌-◌, ◌*◌, ◌≤◌, ◌<◌, ◌^◌}
 use native.Mathlib.Omega.{arith}
 use lib.ListN.{length}
-use Rattle.program.specs.Table.{Slices, capacity, rows_of, Ready}
-use Rattle.program.proofs.Tables.{SameLens, same_trans, capacity_same}
+use Rattle.program.specs.Table.{Slices, columns_of, capacity, rows_of, Ready}
+use Rattle.program.specs.Table.{SameLens}
+use Rattle.program.proofs.Tables.{same_refl, same_trans, capacity_same}
 use Rattle.loader.specs.declared.error.ElfError.{ElfError}
-use Rattle.loader.specs.declared.deeds.Held.{Held}
+use Rattle.loader.specs.Deeds.{Held}
 use Rattle.std.specs.Prelude.{Result, Ok, Err}
 use Rattle.loader.specs.Deeds.{holding}
 use Rattle.loader.specs.Trace.{Trace, and_then, each, refused, settle, settle_and_then}
 use Rattle.loader.specs.CallLoop.{Leads}
-use Rattle.loader.specs.InnerContracts.{Near, Begins, Settles}
-
-same_refl : (t : Slices) → SameLens t t
-same_refl t = record { keys_as = refl; indices_as = refl; kinds_as = refl; starts_as = refl; lengths_as = refl }
+use Rattle.loader.specs.declared.deeds.Outputs.{Outputs}
+use Rattle.loader.specs.InnerContracts.{Near, Begins, BeginsIn, Keeps, Settles, SettlesTo, held_of}
 
 -- a part that was held, and then another
 then_on : (T : Trace) (K : List ℕ → Trace) (im : List ℕ) (t u : Slices) (n used moves used' moves' : ℕ) → SameLens t u
@@ -35,8 +34,8 @@ pub settles_stop : (T : Trace) (K : List ℕ → Trace) (im im' : List ℕ) (t u
     → Settles T im t u n used moves (Err r) → Settles (and_then T K) im' t v m used moves (Err r)
 settles_stop T K im im' t u v n m used moves r did = record { answers = sym (then_not T K im t u n used moves r did); sound = tt; near = tt }
 
-pub begins_fewer : (n m : ℕ) (t : Slices) (rows used moves : ℕ) → Begins (n + m) t rows used moves → Begins n t rows used moves
-begins_fewer n m t rows used moves b = record { rows_are = b.rows_are; ready = b.ready; room = record { few = omega (arith, b.room.few); moved = omega (arith, b.room.moved) } }
+pub begins_fewer : (n m : ℕ) (t : Slices) (used moves : ℕ) → BeginsIn (n + m) t used moves → BeginsIn n t used moves
+begins_fewer n m t used moves b = record { ready = b.ready; room = record { few = omega (arith, b.room.few); moved = omega (arith, b.room.moved) } }
 
 near_add : (n m used moves used' moves' : ℕ) (a : Result Held ElfError) → used' ≤ used + n → moves' ≤ moves + n * 2 ^ 26 → Near m used' moves' a → Near (n + m) used moves a
 near_add n m used moves used' moves' (Ok held) p q h = (omega (arith, h.0), omega (arith, h.1))
@@ -44,9 +43,8 @@ near_add n m used moves used' moves' (Err r) p q h = tt
 
 module _ (T : Trace) (K : List ℕ → Trace) (im im' : List ℕ) (t u v : Slices) (n m used moves used' moves' : ℕ) (lens : SameLens t u) (did : Settles T im t u n used moves (holding used' moves')) where
   -- room is left for the second part
-  pub begins_then : (rows : ℕ) → Begins (n + m) t rows used moves → Begins m u rows used' moves'
-  begins_then rows b = record {
-    rows_are = b.rows_are ∙ sym (capacity_same t u lens);
+  pub begins_then : BeginsIn (n + m) t used moves → BeginsIn m u used' moves'
+  begins_then b = record {
     ready = did.sound;
     room = record { few = omega (arith, b.room.few, did.near.0); moved = omega (arith, b.room.moved, did.near.1) };
   }
@@ -71,8 +69,8 @@ pub record GoingIn (step : ℕ → List ℕ → Trace) (n o k : ℕ) (im₀ im :
   pub onward : settle (capacity t) (each step (n - i) i im) (rows_of t used) moves ≡ settle (capacity t₀) (each step (n - o) o im₀) (rows_of t₀ used₀) moves₀
 
 module _ (step : ℕ → List ℕ → Trace) (n o k : ℕ) (within : k ≤ n) where
-  pub in_start : (im : List ℕ) (t : Slices) (rows used moves : ℕ) → o ≤ k → Begins (k - o) t rows used moves → GoingIn step n o k im im t t used moves used moves o
-  in_start im t rows used moves l b = record {
+  pub in_start : (im : List ℕ) (t : Slices) (used moves : ℕ) → o ≤ k → BeginsIn (k - o) t used moves → GoingIn step n o k im im t t used moves used moves o
+  in_start im t used moves l b = record {
     same = same_refl t;
     image_as = refl;
     ready = b.ready;
@@ -83,16 +81,15 @@ module _ (step : ℕ → List ℕ → Trace) (n o k : ℕ) (within : k ≤ n) wh
     onward = refl;
   }
 
-  module _ (im₀ im : List ℕ) (t₀ t : Slices) (rows used₀ moves₀ used moves i : ℕ) (begins : Begins (k - o) t₀ rows used₀ moves₀) (going : GoingIn step n o k im₀ im t₀ t used₀ moves₀ used moves i) where
+  module _ (im₀ im : List ℕ) (t₀ t : Slices) (used₀ moves₀ used moves i : ℕ) (begins : BeginsIn (k - o) t₀ used₀ moves₀) (going : GoingIn step n o k im₀ im t₀ t used₀ moves₀ used moves i) where
     pub in_done : k ≤ i → Leads step n o k im₀ im t₀ t used₀ moves₀ (holding used moves)
     in_done l =
         let j : i ≡ k = omega (arith, going.passed) in
         record { answers = rw j at (sym going.onward); sound = going.ready; near = (omega (arith, going.few), omega (arith, going.moved)) }
 
     -- a part begins
-    pub in_begins : i < k → Begins 1 t rows used moves
+    pub in_begins : i < k → BeginsIn 1 t used moves
     in_begins l = record {
-      rows_are = begins.rows_are ∙ sym (capacity_same t₀ t going.same);
       ready = going.ready;
       room = record { few = omega (arith, begins.room.few, going.few, going.begun); moved = omega (arith, begins.room.moved, going.moved, going.begun) };
     }
@@ -132,9 +129,8 @@ module _ (step : ℕ → List ℕ → Trace) (n o k : ℕ) (within : k ≤ n) wh
 
     -- a run of parts, up to number j
     module _ (j : ℕ) (l : i ≤ j) (h : j ≤ k) (im' : List ℕ) (u : Slices) where
-      pub in_begins_run : Begins (j - i) t rows used moves
+      pub in_begins_run : BeginsIn (j - i) t used moves
       in_begins_run = record {
-        rows_are = begins.rows_are ∙ sym (capacity_same t₀ t going.same);
         ready = going.ready;
         room = record { few = omega (arith, begins.room.few, going.few, going.begun); moved = omega (arith, begins.room.moved, going.moved, going.begun) };
       }
@@ -168,29 +164,80 @@ all_lead step n im₀ im t₀ t used moves (Err r) did =
     let z : n - 0 ≡ n = omega arith in
     record { answers = sym (rw z at did.answers); sound = tt; near = tt }
 
-pub all_begin : (n : ℕ) (t : Slices) (rows used moves : ℕ) → Begins n t rows used moves → Begins (n - 0) t rows used moves
-all_begin n t rows used moves b = let z : n - 0 ≡ n = omega arith in rw z b
+pub all_begin : (n : ℕ) (t : Slices) (used moves : ℕ) → BeginsIn n t used moves → BeginsIn (n - 0) t used moves
+all_begin n t used moves b = let z : n - 0 ≡ n = omega arith in rw z b
 
 abbrev pub Going : (ℕ → List ℕ → Trace) → ℕ → List ℕ → List ℕ → Slices → Slices → ℕ → ℕ → ℕ → ℕ → ℕ → Type 0
 Going step n im₀ im t₀ t used₀ moves₀ used moves i = GoingIn step n 0 n im₀ im t₀ t used₀ moves₀ used moves i
 
 module _ (step : ℕ → List ℕ → Trace) (n : ℕ) where
-  pub going_start : (im : List ℕ) (t : Slices) (rows used moves : ℕ) → Begins n t rows used moves → Going step n im im t t used moves used moves 0
-  going_start im t rows used moves b = in_start step n 0 n (omega arith) im t rows used moves (omega arith) (all_begin n t rows used moves b)
+  pub going_start : (im : List ℕ) (t : Slices) (used moves : ℕ) → BeginsIn n t used moves → Going step n im im t t used moves used moves 0
+  going_start im t used moves b = in_start step n 0 n (omega arith) im t used moves (omega arith) (all_begin n t used moves b)
 
-  module _ (im₀ im : List ℕ) (t₀ t : Slices) (rows used₀ moves₀ used moves i : ℕ) (begins : Begins n t₀ rows used₀ moves₀) (going : Going step n im₀ im t₀ t used₀ moves₀ used moves i) where
-    all : Begins (n - 0) t₀ rows used₀ moves₀
-    all = all_begin n t₀ rows used₀ moves₀ begins
+  module _ (im₀ im : List ℕ) (t₀ t : Slices) (used₀ moves₀ used moves i : ℕ) (begins : BeginsIn n t₀ used₀ moves₀) (going : Going step n im₀ im t₀ t used₀ moves₀ used moves i) where
+    all : BeginsIn (n - 0) t₀ used₀ moves₀
+    all = all_begin n t₀ used₀ moves₀ begins
 
     pub going_done : n ≤ i → Settles (each step n 0 im₀) im t₀ t n used₀ moves₀ (holding used moves)
-    going_done l = all_lead step n im₀ im t₀ t used₀ moves₀ (holding used moves) (in_done step n 0 n (omega arith) im₀ im t₀ t rows used₀ moves₀ used moves i all going l)
+    going_done l = all_lead step n im₀ im t₀ t used₀ moves₀ (holding used moves) (in_done step n 0 n (omega arith) im₀ im t₀ t used₀ moves₀ used moves i all going l)
 
-    pub going_begins : i < n → Begins 1 t rows used moves
-    going_begins = in_begins step n 0 n (omega arith) im₀ im t₀ t rows used₀ moves₀ used moves i all going
+    pub going_begins : i < n → BeginsIn 1 t used moves
+    going_begins = in_begins step n 0 n (omega arith) im₀ im t₀ t used₀ moves₀ used moves i all going
 
     module _ (more : i < n) (im' : List ℕ) (u : Slices) where
       pub going_stop : (r : ElfError) → Settles (step i im) im' t u 1 used moves (Err r) → Settles (each step n 0 im₀) im' t₀ u n used₀ moves₀ (Err r)
-      going_stop r did = all_lead step n im₀ im' t₀ u used₀ moves₀ (Err r) (in_stop step n 0 n (omega arith) im₀ im t₀ t rows used₀ moves₀ used moves i all going more im' u r im' did)
+      going_stop r did = all_lead step n im₀ im' t₀ u used₀ moves₀ (Err r) (in_stop step n 0 n (omega arith) im₀ im t₀ t used₀ moves₀ used moves i all going more im' u r im' did)
 
       pub going_on : (used' moves' : ℕ) → SameLens t u → length im' ≡ length im → Settles (step i im) im' t u 1 used moves (holding used' moves') → Going step n im₀ im' t₀ u used₀ moves₀ used' moves' (i + 1)
-      going_on = in_on step n 0 n (omega arith) im₀ im t₀ t rows used₀ moves₀ used moves i all going more im' u
+      going_on = in_on step n 0 n (omega arith) im₀ im t₀ t used₀ moves₀ used moves i all going more im' u
+
+-- ---- over a load's outputs
+
+-- parts 0 to i of n are done
+abbrev pub GoingOver : (ℕ → List ℕ → Trace) → ℕ → Outputs → Outputs → ℕ → Type 0
+GoingOver step n o₀ o i = Going step n o₀.image.now o.image.now (columns_of o₀.registry.now) (columns_of o.registry.now) o₀.registry.now.used o₀.moves o.registry.now.used o.moves i
+
+pub over_start : (step : ℕ → List ℕ → Trace) (n : ℕ) (o : Outputs) → Begins n o → GoingOver step n o o 0
+over_start step n o b = going_start step n o.image.now (columns_of o.registry.now) o.registry.now.used o.moves b
+
+module _ (step : ℕ → List ℕ → Trace) (n : ℕ) (o₀ o : Outputs) (i : ℕ) (begins : Begins n o₀) (going : GoingOver step n o₀ o i) where
+  pub over_done : n ≤ i → SettlesTo (each step n 0 o₀.image.now) n o₀ o (Ok tt)
+  over_done = going_done step n o₀.image.now o.image.now (columns_of o₀.registry.now) (columns_of o.registry.now) o₀.registry.now.used o₀.moves o.registry.now.used o.moves i begins going
+
+  pub over_begins : i < n → Begins 1 o
+  over_begins = going_begins step n o₀.image.now o.image.now (columns_of o₀.registry.now) (columns_of o.registry.now) o₀.registry.now.used o₀.moves o.registry.now.used o.moves i begins going
+
+  module _ (more : i < n) (o' : Outputs) where
+    pub over_stop : (r : ElfError) → SettlesTo (step i o.image.now) 1 o o' (Err r) → SettlesTo (each step n 0 o₀.image.now) n o₀ o' (Err r)
+    over_stop = going_stop step n o₀.image.now o.image.now (columns_of o₀.registry.now) (columns_of o.registry.now) o₀.registry.now.used o₀.moves o.registry.now.used o.moves i begins going more o'.image.now (columns_of o'.registry.now)
+
+    pub over_on : Keeps o o' → SettlesTo (step i o.image.now) 1 o o' (Ok tt) → GoingOver step n o₀ o' (i + 1)
+    over_on keeps did = going_on step n o₀.image.now o.image.now (columns_of o₀.registry.now) (columns_of o.registry.now) o₀.registry.now.used o₀.moves o.registry.now.used o.moves i begins going more o'.image.now (columns_of o'.registry.now) o'.registry.now.used o'.moves keeps.table_as keeps.image_as did
+
+-- slices kept, and kept again
+pub keeps_all : (o : Outputs) → Keeps o o
+keeps_all o = record { image_is = refl; image_as = refl; registry_is = refl; table_is = (refl, refl, refl, refl, refl); table_as = same_refl (columns_of o.registry.now) }
+
+pub keeps_on : (o o₁ o' : Outputs) → Keeps o o₁ → Keeps o₁ o' → Keeps o o'
+keeps_on o o₁ o' p q = record {
+  image_is = q.image_is ∙ p.image_is;
+  image_as = q.image_as ∙ p.image_as;
+  registry_is = q.registry_is ∙ p.registry_is;
+  table_is = (q.table_is.0 ∙ p.table_is.0, q.table_is.1 ∙ p.table_is.1, q.table_is.2 ∙ p.table_is.2, q.table_is.3 ∙ p.table_is.3, q.table_is.4 ∙ p.table_is.4);
+  table_as = same_trans (columns_of o.registry.now) (columns_of o₁.registry.now) (columns_of o'.registry.now) p.table_as q.table_as;
+}
+
+-- two parts over a load's outputs
+module _ (T : Trace) (K : List ℕ → Trace) (o o₁ : Outputs) (n m : ℕ) where
+  pub part_stop : (r : ElfError) → SettlesTo T n o o₁ (Err r) → SettlesTo (and_then T K) (n + m) o o₁ (Err r)
+  part_stop r did = settles_stop T K o₁.image.now o₁.image.now (columns_of o.registry.now) (columns_of o₁.registry.now) (columns_of o₁.registry.now) n (n + m) o.registry.now.used o.moves r did
+
+  pub first_begins : Begins (n + m) o → Begins n o
+  first_begins b = begins_fewer n m (columns_of o.registry.now) o.registry.now.used o.moves b
+
+  module _ (keeps : Keeps o o₁) (did : SettlesTo T n o o₁ (Ok tt)) where
+    pub part_begins : Begins (n + m) o → Begins m o₁
+    part_begins = begins_then T K o₁.image.now o₁.image.now (columns_of o.registry.now) (columns_of o₁.registry.now) (columns_of o₁.registry.now) n m o.registry.now.used o.moves o₁.registry.now.used o₁.moves keeps.table_as did
+
+    pub part_then : (o' : Outputs) (a : Result (Unit {0}) ElfError) → SettlesTo (K o₁.image.now) m o₁ o' a → SettlesTo (and_then T K) (n + m) o o' a
+    part_then o' a next = settles_then T K o₁.image.now o'.image.now (columns_of o.registry.now) (columns_of o₁.registry.now) (columns_of o'.registry.now) n m o.registry.now.used o.moves o₁.registry.now.used o₁.moves keeps.table_as did (held_of a o') next

@@ -7,17 +7,18 @@ use native.Mathlib.Omega.{arith}
 use lib.ListN.{length, take, drop, replicate, length-replicate}
 use lib.Seq.{drop_at, drop-length, length-take-le}
 use borrow.Rule.Slice.PartMut.{mid_of, post_of, put_mid, same_len_mid, mid_len, Post-is}
-use Rattle.program.specs.Table.{Slices, capacity, lay, rows_of}
+use Rattle.program.specs.Table.{Slices, columns_of, capacity, lay, rows_of}
 use Rattle.program.proofs.Laying.{length_rows}
 use Rattle.std.specs.Prelude.{Result, Ok, Err}
-use Rattle.program.proofs.Tables.{SameLens, capacity_same, lay_same, ready_none}
+use Rattle.program.specs.Table.{SameLens}
+use Rattle.program.proofs.Tables.{capacity_same, lay_same, ready_none}
 use Rattle.loader.specs.declared.read_only.Placing.TheVariants.{Borrowed, Owned}
 use Rattle.loader.specs.declared.read_only.Placing.{Placing}
 use Rattle.loader.specs.declared.answer.Accepted.{Accepted}
 use Rattle.loader.specs.declared.validate.Config.{Config}
 use Rattle.loader.specs.declared.validate.Job.{Job}
 use Rattle.loader.specs.declared.error.ElfError.{ElfError}
-use Rattle.loader.specs.declared.deeds.Held.{Held}
+use Rattle.loader.specs.Deeds.{Held}
 use Rattle.loader.specs.Deeds.{holding}
 use Rattle.loader.specs.Trace.{Trace, and_then, settle, settle_and_then}
 use Rattle.loader.specs.Labels.{few_symbols}
@@ -25,7 +26,8 @@ use Rattle.loader.specs.Parts.{writing_trace, naming_trace, placed_trace, job_tr
 use Rattle.elf_parser.specs.Types.{file_header}
 use Rattle.loader.specs.Validate.{is_version2, prepared}
 use Rattle.loader.specs.Load.{all_count, placed_by, after_placing, Cleared, placed_bytes, HeldBytes, answer_by, answer_for, Loading, refuses, held_by, on_trace, on_prepared, load_of, Loaded, Tried}
-use Rattle.loader.specs.InnerContracts.{outcome, InFile, Begins, Settles}
+use Rattle.loader.specs.InnerContracts.{outcome, InFile, BeginsIn, Keeps, Settles, SettlesTo, held_of}
+use Rattle.loader.specs.declared.deeds.Outputs.{Outputs}
 use Rattle.loader.proofs.Going.{settles_stop, settles_then}
 use Rattle.loader.proofs.Readied.{readied, placed_as}
 use Rattle.loader.proofs.Front.{copied_front}
@@ -74,6 +76,44 @@ module _ (file builtins : List ℕ) (j : Job) (im im₁ : List ℕ) (t u : Slice
       (settles_then (writing_trace file builtins j im) (λ (im₁ : List ℕ). and_then (naming_trace file builtins j im₁) (placed_trace j.placing)) im₁ im₂ t u v n m used moves used' moves' lens first (after_placing a j.placing)
       (settles_placed (naming_trace file builtins j im₁) im₂ u v m used' moves' j.placing a second))
 
+-- where the placing does not refuse
+pub placed_held : (p : Result Placing ElfError) (x : Placing) (used moves : ℕ) → p ≡ Ok x → holding used moves ≡ placed_by p used moves
+placed_held p (Borrowed offset start n) used moves e = rw e refl
+placed_held p (Owned offset lowest n) used moves e = rw e refl
+
+pub placed_not : (p : Result Placing ElfError) (r : ElfError) (used moves : ℕ) → p ≡ Err r → Err r ≡ placed_by p used moves
+placed_not p r used moves e = rw e refl
+
+-- over a load's outputs
+module _ (file builtins : List ℕ) (j : Job) (im : List ℕ) (o o₁ : Outputs) (n m : ℕ) where
+  pub job_stop : (r : ElfError) → SettlesTo (writing_trace file builtins j im) n o o₁ (Err r) → SettlesTo (job_trace file builtins j im) (n + m) o o₁ (Err r)
+  job_stop r did = parts_stop file builtins j im o₁.image.now (columns_of o.registry.now) (columns_of o₁.registry.now) n m o.registry.now.used o.moves r did
+
+  pub job_all : (o₂ : Outputs) (a b : Result (Unit {0}) ElfError)
+      → Keeps o o₁
+      → SettlesTo (writing_trace file builtins j im) n o o₁ (Ok tt)
+      → SettlesTo (naming_trace file builtins j o₁.image.now) m o₁ o₂ a
+      → held_of b o₂ ≡ after_placing (held_of a o₂) j.placing
+      → SettlesTo (job_trace file builtins j im) (n + m) o o₂ b
+  job_all o₂ a b keeps first second e =
+      parts_all file builtins j im o₁.image.now (columns_of o.registry.now) (columns_of o₁.registry.now) n m o.registry.now.used o.moves o₂.image.now (columns_of o₂.registry.now) o₁.registry.now.used o₁.moves (held_of a o₂) (held_of b o₂) keeps.table_as first second e
+
+  -- the second pair of parts is refused; or the placing is
+  pub job_refused : (o₂ : Outputs) (r : ElfError)
+      → Keeps o o₁
+      → SettlesTo (writing_trace file builtins j im) n o o₁ (Ok tt)
+      → SettlesTo (naming_trace file builtins j o₁.image.now) m o₁ o₂ (Err r)
+      → SettlesTo (job_trace file builtins j im) (n + m) o o₂ (Err r)
+  job_refused o₂ r keeps first second = job_all o₂ (Err r) (Err r) keeps first second refl
+
+  pub job_unplaced : (o₂ : Outputs) (r : ElfError)
+      → Keeps o o₁
+      → SettlesTo (writing_trace file builtins j im) n o o₁ (Ok tt)
+      → SettlesTo (naming_trace file builtins j o₁.image.now) m o₁ o₂ (Ok tt)
+      → j.placing ≡ Err r
+      → SettlesTo (job_trace file builtins j im) (n + m) o o₂ (Err r)
+  job_unplaced o₂ r keeps first second e = job_all o₂ (Ok tt) (Err r) keeps first second (placed_not j.placing r o₂.registry.now.used o₂.moves e)
+
 -- ---- in an empty table
 
 all_few : (file : List ℕ) (j : Job) → InFile file j → all_count file j ≤ 2 ^ 24
@@ -81,11 +121,10 @@ all_few file j f =
     let k = few_symbols file j in
     omega (arith, k, f.text, f.short, f.relocations, f.relas)
 
-pub begins_all : (file : List ℕ) (j : Job) (t : Slices) (rows : ℕ) → InFile file j → rows ≡ capacity t → t ≡ lay t [] → Begins (all_count file j) t rows 0 0
-begins_all file j t rows f r z =
+pub begins_all : (file : List ℕ) (j : Job) (t : Slices) → InFile file j → t ≡ lay t [] → BeginsIn (all_count file j) t 0 0
+begins_all file j t f z =
     let few = all_few file j f in
     record {
-      rows_are = r;
       ready = ready_none t z;
       room = record { few = omega (arith, few); moved = omega (arith, few) };
     }
@@ -119,9 +158,6 @@ module _ (n : ℕ) (im z : List ℕ) (fits : n ≤ length im) (clear : z ≡ rep
 
 pub empty : (t t₁ : Slices) → t₁ ≡ lay t [] → SameLens t t₁ → t₁ ≡ lay t₁ []
 empty t t₁ laid lens = laid ∙ sym (lay_same t t₁ [] lens)
-
-pub as_lent : (t t₁ : Slices) (rows : ℕ) → SameLens t t₁ → rows ≡ capacity t → rows ≡ capacity t₁
-as_lent t t₁ rows lens r = r ∙ sym (capacity_same t t₁ lens)
 
 rows_none : (t : Slices) → rows_of t 0 ≡ []
 unfolding rows_of
@@ -184,8 +220,8 @@ module _ (file builtins : List ℕ) (c : Config) (im ro : List ℕ) (t : Slices)
         tried_as n (Err r) did b = settled n (Err r) did
         tried_as n (Ok kept) did b = held kept.used kept.moves j.placing did.sound.laid (settled n (holding kept.used kept.moves) did) b refl
 
-        pub tried : (n : ℕ) (a : Result Held ElfError) (b : Result Accepted ElfError) → Settles (job_trace file builtins j file) q t₁ t₂ n 0 0 a × HeldBytes a ro₂ (placed_bytes file j.layout j.placing q ro₁) → b ≡ answer_for a j → Tried whole im ro t (q ++ rest) ro₂ t₂ b
-        tried n a b did e = subst (Tried whole im ro t (q ++ rest) ro₂ t₂) (sym e) (tried_as n a did.0 did.1)
+        pub tried : (n : ℕ) (b : Result Accepted ElfError) → (a : Result Held ElfError) × (b ≡ answer_for a j) × Settles (job_trace file builtins j file) q t₁ t₂ n 0 0 a × HeldBytes a ro₂ (placed_bytes file j.layout j.placing q ro₁) → Tried whole im ro t (q ++ rest) ro₂ t₂ b
+        tried n b did = subst (Tried whole im ro t (q ++ rest) ro₂ t₂) (sym did.1) (tried_as n did.0 did.2 did.3)
 
 -- ---- the end: an attempt that is held, and one that is refused and cleared
 

@@ -17,14 +17,27 @@ use Rattle.loader.specs.declared.error.ElfError.TheVariants.{ValueOutOfBounds}
 use Rattle.loader.specs.declared.deeds.Deed.{Deed}
 use Rattle.loader.specs.declared.deeds.Entry.{Entry}
 use Rattle.loader.specs.declared.deeds.Entry.TheVariants.{Nothing, Register}
-use Rattle.loader.specs.declared.deeds.Held.{Held}
+use Rattle.loader.specs.Deeds.{Held}
 use Rattle.std.specs.Prelude.{Result, Ok, Err}
 use Rattle.loader.specs.declared.validate.Job.{Job}
 use Rattle.loader.specs.Entry.{entry_deed, forget_trace}
 use Rattle.loader.specs.Entry as part
 use Rattle.loader.specs.Trace.{Trace, done, stop, register, accepted, refused, on_registered, settle, and_then}
 use Rattle.loader.specs.Deeds.{written, entry_of, behind, entry_trace, deed_trace, holding}
-use Rattle.loader.specs.InnerContracts.{finished_by, Settles, Enters}
+use Rattle.loader.specs.declared.deeds.Outputs.{Outputs}
+use Rattle.loader.specs.InnerContracts.{held_of, finished_by, Settles}
+use Rattle.loader.proofs.Entering.{EntersIn}
+
+-- a registration's outcome, refused all the same where the place of its key is outside
+abbrev pub finished_in : Result Held ElfError → Bool → Result Held ElfError
+finished_in (Err r) outside = Err r
+finished_in (Ok held) false = Ok held
+finished_in (Ok held) true = Err ValueOutOfBounds
+
+pub finished_held : (o : Outputs) (a : Result (Unit {0}) ElfError) (outside : Bool) (b : Result (Unit {0}) ElfError) → b ≡ finished_by a outside → held_of b o ≡ finished_in (held_of a o) outside
+finished_held o (Ok tt) false b e = rw e refl
+finished_held o (Ok tt) true b e = rw e refl
+finished_held o (Err r) outside b e = rw e refl
 
 -- a registration that is held, and then refused
 held_stop : (x : RegisterResult) (rows key m : ℕ) (im : List ℕ) (rs rs' : List Row) (m' : ℕ) (r : ElfError)
@@ -46,7 +59,7 @@ refused_stop (Err Full) rows key m im rs q r e = e
 
 outside_row : (row : Row) (im : List ℕ) (t u : Slices) (used moves : ℕ) (a : Result Held ElfError)
     → Settles (register row (done im)) im t u 1 used moves a
-    → Settles (register row (stop ValueOutOfBounds)) im t u 1 used moves (finished_by a true)
+    → Settles (register row (stop ValueOutOfBounds)) im t u 1 used moves (finished_in a true)
 unfolding settle
 outside_row row im t u used moves (Ok held) did =
     record {
@@ -66,7 +79,7 @@ outside_row row im t u used moves (Err r) did =
 
 finished_row : (row : Row) (outside : Bool) (im : List ℕ) (t u : Slices) (used moves : ℕ) (a : Result Held ElfError)
     → Settles (register row (done im)) im t u 1 used moves a
-    → Settles (register row (behind outside im)) im t u 1 used moves (finished_by a outside)
+    → Settles (register row (behind outside im)) im t u 1 used moves (finished_in a outside)
 finished_row row false im t u used moves (Ok held) did = did
 finished_row row false im t u used moves (Err r) did = did
 finished_row row true im t u used moves a did = outside_row row im t u used moves a did
@@ -103,7 +116,7 @@ module _ (d : Result Deed ElfError) (im im' : List ℕ) (t : Slices) (used moves
 
   pub performs_row : (row : Row) (outside : Bool) (u : Slices) (a b : Result Held ElfError)
       → e ≡ Ok (Register row outside)
-      → Enters row t u used moves a
-      → b ≡ finished_by a outside
+      → EntersIn row t u used moves a
+      → b ≡ finished_in a outside
       → Settles (deed_trace d im) im' t u 1 used moves b
   performs_row row outside u a b p did f = trace_as (Ok (Register row outside)) p u b (rw f (finished_row row outside im' t u used moves a (did im')))

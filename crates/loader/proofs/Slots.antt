@@ -26,7 +26,7 @@ use Rattle.loader.specs.Functions.{row_for}
 use Rattle.loader.specs.Deeds.{DeedFits, deed_trace}
 use Rattle.loader.specs.Trace.{and_then, each}
 use Rattle.loader.specs.Calls.{next_call, is_local_call, call_of, call_at, text_of, slot_count, immediate, call_row, call_by, call_deed, slot_trace}
-use Rattle.loader.specs.InnerContracts.{InFile, Begins}
+use Rattle.loader.specs.InnerContracts.{InFile, BeginsIn}
 use Rattle.loader.proofs.Going.{GoingIn, in_ahead}
 
 row_fits : (n at : ℕ) (r : LegacyResult) → at + 4 ≤ n → DeedFits n (call_row at r)
@@ -103,19 +103,19 @@ module _ (file builtins : List ℕ) (j : Job) (inside : InFile file j) (im : Lis
 -- a loop over the slots up to number to goes on at the next call
 pub calls_ahead : (file builtins : List ℕ) (j : Job) → InFile file j
     → (o to : ℕ) → to ≤ slot_count j
-    → (im₀ im : List ℕ) (t₀ t : Slices) (rows used₀ moves₀ used moves i k : ℕ)
-    → Begins (to - o) t₀ rows used₀ moves₀
+    → (im₀ im : List ℕ) (t₀ t : Slices) (used₀ moves₀ used moves i k : ℕ)
+    → BeginsIn (to - o) t₀ used₀ moves₀
     → GoingIn (slot_trace file builtins j) (slot_count j) o to im₀ im t₀ t used₀ moves₀ used moves i
     → k ≡ next_call file j.start (to - i) i
     → GoingIn (slot_trace file builtins j) (slot_count j) o to im₀ im t₀ t used₀ moves₀ used moves k
-calls_ahead file builtins j inside o to l im₀ im t₀ t rows used₀ moves₀ used moves i k b g e =
+calls_ahead file builtins j inside o to l im₀ im t₀ t used₀ moves₀ used moves i k b g e =
     let h : i ≤ to = g.passed in
     let n = slot_count j in
     let at : to - i + (n - to) ≡ n - i = omega (arith, h) in
     let up : i + (to - i) + (n - to) ≡ n = omega (arith, h) in
     let bounds = next_bounds file j.start (to - i) i in
     let on = skipped file builtins j inside im (to - i) (n - to) i (omega (arith, up)) in
-    in_ahead (slot_trace file builtins j) n o to l im₀ im t₀ t rows used₀ moves₀ used moves i b g k (omega (arith, bounds.0, e)) (omega (arith, bounds.1, e, h)) (rw (at, up, ← e) at on)
+    in_ahead (slot_trace file builtins j) n o to l im₀ im t₀ t used₀ moves₀ used moves i b g k (omega (arith, bounds.0, e)) (omega (arith, bounds.1, e, h)) (rw (at, up, ← e) at on)
 
 -- slot number i of a text that lies in the file starts in it, or the text ends there
 pub text_in : (start n i file : ℕ) → start + n ≤ file → i ≤ n / 8 → start + 8 * i ≤ file

@@ -23,7 +23,7 @@ use Rattle.program.proofs.Cases.{zero_one}
 use Rattle.program.proofs.Laws.{find_stays, repeat_held, find_registered_same}
 use Rattle.loader.specs.declared.error.ElfError.TheVariants.{SymbolHashCollision}
 use Rattle.loader.specs.declared.validate.Job.{Job}
-use Rattle.loader.specs.declared.deeds.Held.{Held}
+use Rattle.loader.specs.Deeds.{Held}
 use Rattle.loader.specs.declared.error.ElfError.{ElfError}
 use Rattle.std.specs.Prelude.{Result, Ok, Err, Some, None}
 use Rattle.loader.specs.Bytes.{put}
@@ -31,26 +31,47 @@ use Rattle.loader.specs.Functions.{row_for}
 use Rattle.loader.specs.Trace.{accepted, on_registered, settle}
 use Rattle.loader.specs.Deeds.{deed_trace, holding}
 use Rattle.loader.specs.Calls.{call_at, text_of, immediate, call_row, call_deed, slot_trace}
-use Rattle.loader.specs.CallLoop.{target_key, target_row, Known, Seen, CallsHeld, StillHeld, StillAlike, target_trace, Targets}
-use Rattle.loader.specs.InnerContracts.{entered_by, Settles, Enters}
+use Rattle.loader.specs.CallLoop.{AlikeIn, StillAlike, target_key, target_row, Known, Seen, CallsHeld, StillHeldIn, StillAlikeIn, target_trace}
+use Rattle.loader.specs.InnerContracts.{entered_by, moved_by, held_of, Settles}
+use Rattle.loader.specs.declared.deeds.Outputs.{Outputs}
+use Rattle.std.specs.Borrow.{MutBor}
+use Rattle.program.specs.declared.FunctionRegistry.{FunctionRegistry}
+use Rattle.program.specs.Runs.{moves_of}
+use Rattle.program.specs.Table.{columns_of}
+use Rattle.loader.proofs.Entering.{EntersIn}
 use Rattle.loader.proofs.Rowing.{row_is}
+
+-- whatever the image
+abbrev pub TargetsIn : LegacyResult → Slices → Slices → ℕ → ℕ → Result Held ElfError → Type 0
+TargetsIn target t t' used moves a = (im : List ℕ) → Settles (target_trace target im) im t t' 1 used moves a
 
 -- ---- the rows' name
 
-entered_still : (t u : Slices) (used moves key rows : ℕ) (row : Row) → Alike t used row → (a : RegisterResult) → RegistersAlike t u used row a → StillAlike row u (entered_by a used moves key rows)
+entered_still : (t u : Slices) (used moves key rows : ℕ) (row : Row) → Alike t used row → (a : RegisterResult) → RegistersAlike t u used row a → StillAlikeIn row u (entered_by a used moves key rows)
 entered_still t u used moves key rows row alike (Ok (Inserted n)) did = alike_after t u used row alike n did
 entered_still t u used moves key rows row alike (Ok Repeat) did = subst (λ (x : Slices). Alike x used row) (sym (alike_kept t u used row (Ok Repeat) did (λ m e. zero_one (cc)))) alike
 entered_still t u used moves key rows row alike (Err Collision) did = tt
 entered_still t u used moves key rows row alike (Err Full) did = tt
 
-pub still_alike : (t u : Slices) (used moves key rows : ℕ) (row : Row) → Alike t used row → (a : RegisterResult) → RegistersAlike t u used row a → (b : Result Held ElfError) → b ≡ entered_by a used moves key rows → StillAlike row u b
-still_alike t u used moves key rows row alike a did b e = subst (StillAlike row u) (sym e) (entered_still t u used moves key rows row alike a did)
+pub still_alike : (t u : Slices) (used moves key rows : ℕ) (row : Row) → Alike t used row → (a : RegisterResult) → RegistersAlike t u used row a → (b : Result Held ElfError) → b ≡ entered_by a used moves key rows → StillAlikeIn row u b
+still_alike t u used moves key rows row alike a did b e = subst (StillAlikeIn row u) (sym e) (entered_still t u used moves key rows row alike a did)
+
+-- over a load's outputs
+pub still_alike_row : (o : Outputs) (r : MutBor FunctionRegistry) (o' : Outputs) (row : Row) (a : RegisterResult) (res : Result (Unit {0}) ElfError)
+    → AlikeIn o row
+    → RegistersAlike (columns_of o.registry.now) (columns_of r.now) o.registry.now.used row a
+    → o' ≡ moved_by (moves_of a) (record { image = o.image; registry = r; moves = o.moves })
+    → held_of res o' ≡ entered_by a o.registry.now.used o.moves row.key (capacity (columns_of o.registry.now))
+    → StillAlike row o' res
+still_alike_row o r o' row a res alike did moved held =
+    subst (λ (u : Slices). StillAlikeIn row u (held_of res o')) (ap (λ (x : Outputs). columns_of x.registry.now) (sym moved))
+    (still_alike (columns_of o.registry.now) (columns_of r.now) o.registry.now.used o.moves row.key (capacity (columns_of o.registry.now)) row alike a did (held_of res o') held)
 
 module _ (j : Job) (key index : ℕ) (name : KeptName) (is : name ≡ kept_name j.labels OfIndex) where
   pub target_alike : (t : Slices) (n : ℕ) → Alike t n (target_row j) → Alike t n (row_of key index name)
   target_alike t n = alike_named t n (target_row j) (row_of key index name) (ap (λ (k : KeptName). k.kind) (sym is)) (ap (λ (k : KeptName). k.start) (sym is)) (ap (λ (k : KeptName). k.length) (sym is))
 
-  pub still_target : (u : Slices) (a : Result Held ElfError) → StillAlike (row_of key index name) u a → StillAlike (target_row j) u a
+  pub still_target : (u : Slices) (a : Result Held ElfError) → StillAlikeIn (row_of key index name) u a → StillAlikeIn (target_row j) u a
   still_target u (Ok held) h = alike_named u held.used (row_of key index name) (target_row j) (ap (λ (k : KeptName). k.kind) is) (ap (λ (k : KeptName). k.start) is) (ap (λ (k : KeptName). k.length) is) h
   still_target u (Err r) h = tt
 
@@ -61,12 +82,12 @@ module _ (builtins : List ℕ) (j : Job) (key index : ℕ) (k : key ≡ target_k
   unfolding row_for legacy_row
   target_row_lem b e = rw (← k, e) refl
 
-  pub targets_taken : (t : Slices) (used moves : ℕ) → is_taken builtins j.version2 j.check_collision key ≡ true → Targets (row_for builtins j OfIndex index) t t used moves (Err (SymbolHashCollision key))
+  pub targets_taken : (t : Slices) (used moves : ℕ) → is_taken builtins j.version2 j.check_collision key ≡ true → TargetsIn (row_for builtins j OfIndex index) t t used moves (Err (SymbolHashCollision key))
   unfolding settle ◌if◌else◌
   targets_taken t used moves e im = rw (target_row_lem true e) (record { answers = refl; sound = tt; near = tt })
 
   pub targets_free : (name : KeptName) → name ≡ kept_name j.labels OfIndex → (t u : Slices) (used moves : ℕ) (a : Result Held ElfError) → is_taken builtins j.version2 j.check_collision key ≡ false
-      → Enters (row_of key index name) t u used moves a → Targets (row_for builtins j OfIndex index) t u used moves a
+      → EntersIn (row_of key index name) t u used moves a → TargetsIn (row_for builtins j OfIndex index) t u used moves a
   unfolding ◌if◌else◌
   targets_free name is t u used moves a e did im = rw (target_row_lem false e, ← is) (did im)
 
@@ -90,7 +111,7 @@ module _ (file builtins : List ℕ) (j : Job) (i : ℕ) (im : List ℕ) where
         go (Ok row) e = let same : row.key ≡ key = (row_is builtins j OfIndex index row e).0 ∙ sym k in rw same refl
         go (Err taken) e = refl
 
-    pub settles_target : (im' : List ℕ) (t u : Slices) (used moves : ℕ) (a : Result Held ElfError) → im' ≡ put 4 im (immediate j i) key → Targets (row_for builtins j OfIndex index) t u used moves a
+    pub settles_target : (im' : List ℕ) (t u : Slices) (used moves : ℕ) (a : Result Held ElfError) → im' ≡ put 4 im (immediate j i) key → TargetsIn (row_for builtins j OfIndex index) t u used moves a
         → Settles (slot_trace file builtins j i im) im' t u 1 used moves a
     settles_target im' t u used moves a w did = rw (slot_target, ← w) (did im')
 
@@ -98,7 +119,7 @@ module _ (file builtins : List ℕ) (j : Job) (i : ℕ) (im : List ℕ) where
 
 module _ (builtins : List ℕ) (j : Job) where
   -- a target that is known: its registration would be a repeat
-  pub targets_known : (index : ℕ) (t : Slices) (used moves : ℕ) → Ready t used → Known builtins j (rows_of t used) index → Targets (row_for builtins j OfIndex index) t t used moves (holding used moves)
+  pub targets_known : (index : ℕ) (t : Slices) (used moves : ℕ) → Ready t used → Known builtins j (rows_of t used) index → TargetsIn (row_for builtins j OfIndex index) t t used moves (holding used moves)
   unfolding settle
   targets_known index t used moves ready known im =
       let row = known.0 in
@@ -125,7 +146,7 @@ module _ (builtins : List ℕ) (j : Job) where
 
   -- a target that was registered is known, and what was known still is
   module _ (index : ℕ) (seen : List ℕ) (t u : Slices) (used moves : ℕ) (held : CallsHeld builtins j seen t used) where
-    rows_known : (used' moves' : ℕ) → Targets (row_for builtins j OfIndex index) t u used moves (holding used' moves') → Seen builtins j (rows_of u used') (set seen (index % 1024) (index + 1))
+    rows_known : (used' moves' : ℕ) → TargetsIn (row_for builtins j OfIndex index) t u used moves (holding used' moves') → Seen builtins j (rows_of u used') (set seen (index % 1024) (index + 1))
     unfolding settle
     rows_known used' moves' did = go (row_for builtins j OfIndex index) refl (did seen).answers
       where
@@ -145,7 +166,7 @@ module _ (builtins : List ℕ) (j : Job) where
         go (Ok row) e a = by_answer row e (table.register (capacity t) row (rows_of t used)) refl a
         go (Err taken) e a = absurd (zero_one (cc))
 
-    pub held_after : (a : Result Held ElfError) → Targets (row_for builtins j OfIndex index) t u used moves a → StillAlike (target_row j) u a → StillHeld builtins j (set seen (index % 1024) (index + 1)) u a
+    pub held_after : (a : Result Held ElfError) → TargetsIn (row_for builtins j OfIndex index) t u used moves a → StillAlikeIn (target_row j) u a → StillHeldIn builtins j (set seen (index % 1024) (index + 1)) u a
     held_after (Ok kept) did still = record { room = simp length-set held.room; known = rows_known kept.used kept.moves did; alike = still }
     held_after (Err r) did still = tt
 

@@ -16,7 +16,7 @@ use Rattle.loader.specs.declared.relocations.UsedHeader.{UsedHeader}
 use Rattle.loader.specs.declared.deeds.Deed.{Deed}
 use Rattle.loader.specs.declared.relocations.Relocation.{Relocation}
 use Rattle.loader.specs.declared.validate.Job.{Job}
-use Rattle.loader.specs.declared.deeds.Held.{Held}
+use Rattle.loader.specs.Deeds.{Held}
 use Rattle.loader.specs.declared.error.ElfError.{ElfError}
 use Rattle.loader.specs.Deeds.{DeedFits, deed_trace}
 use Rattle.loader.specs.Relocations.{relocation_at, relocation_count, used_header, used_before, place_of, plan_of, relocation_deed, relocation_trace, used_next, plan_fits}

@@ -1,19 +1,20 @@
 -- What a loop over the slots of a text keeps, and what a run of slots leads to.
 use Rattle.std.specs.Prelude.{ℕ, suc, ◌+◌, ◌-◌, ◌*◌, ◌≤◌, ◌<◌, ◌≡◌, List, [], ◌++◌, length, get_or, take, drop, Ok, Err, Result}
-use Rattle.std.specs.Borrow.{Bor, MutBor}
 use Rattle.program.specs.declared.Row.{Row}
 use Rattle.program.specs.declared.FunctionName.TheVariants.{OfIndex}
 use Rattle.program.specs.HashedLegacy.{LegacyResult, legacy_key, kept_name, row_of}
 use Rattle.program.specs.Rows.{Repeats}
-use Rattle.program.specs.Table.{Slices, Lent, Shared, table_of, table_before, table_after, capacity, rows_of, Alike}
+use Rattle.program.specs.Table.{Slices, columns_of, capacity, rows_of, Alike}
 use Rattle.loader.specs.declared.error.ElfError.TheVariants.{SymbolHashCollision}
 use Rattle.loader.specs.declared.validate.Job.{Job}
-use Rattle.loader.specs.declared.deeds.Held.{Held}
+use Rattle.loader.specs.declared.deeds.Outputs.{Outputs}
+use Rattle.loader.specs.declared.deeds.Inputs.{Inputs}
 use Rattle.loader.specs.declared.error.ElfError.{ElfError}
 use Rattle.loader.specs.Calls.{slot_count, slot_trace}
 use Rattle.loader.specs.Functions.{Keyed, row_for}
 use Rattle.loader.specs.Trace.{Trace, done, stop, register, each, Settled, refused, settle}
-use Rattle.loader.specs.InnerContracts.{InFile, Begins, Enters, Sound, Near, Settles}
+use Rattle.loader.specs.Deeds.{Held}
+use Rattle.loader.specs.InnerContracts.{InFile, Begins, PartAsks, Sound, Near, held_of, SettlesAs}
 
 -- an image whose bytes from q on are still the file's
 abbrev pub ahead : ℕ → List ℕ → List ℕ → List ℕ
@@ -41,23 +42,19 @@ pub record CallsHeld (builtins : List ℕ) (j : Job) (seen : List ℕ) (t : Slic
   pub known : Seen builtins j (rows_of t used) seen
   pub alike : Alike t used (target_row j)
 
-abbrev pub StillHeld : List ℕ → Job → List ℕ → Slices → Result Held ElfError → Type 0
-StillHeld builtins j seen t (Ok held) = CallsHeld builtins j seen t held.used
-StillHeld builtins j seen t (Err r) = Unit {0}
+-- the same of an answer, where it holds; and of the names alone
+abbrev pub StillHeldIn : List ℕ → Job → List ℕ → Slices → Result Held ElfError → Type 0
+StillHeldIn builtins j seen t (Ok held) = CallsHeld builtins j seen t held.used
+StillHeldIn builtins j seen t (Err r) = Unit {0}
 
--- the same of the names alone
-abbrev pub StillAlike : Row → Slices → Result Held ElfError → Type 0
-StillAlike row t (Ok held) = Alike t held.used row
-StillAlike row t (Err r) = Unit {0}
+abbrev pub StillAlikeIn : Row → Slices → Result Held ElfError → Type 0
+StillAlikeIn row t (Ok held) = Alike t held.used row
+StillAlikeIn row t (Err r) = Unit {0}
 
 -- a target's registration, or its collision with a built-in
 abbrev pub target_trace : LegacyResult → List ℕ → Trace
 target_trace (Ok row) im = register row (done im)
 target_trace (Err taken) im = stop (SymbolHashCollision taken.key)
-
--- whatever the image
-abbrev pub Targets : LegacyResult → Slices → Slices → ℕ → ℕ → Result Held ElfError → Type 0
-Targets target t t' used moves a = (im : List ℕ) → Settles (target_trace target im) im t t' 1 used moves a
 
 abbrev pub leads_to : Result Held ElfError → (ℕ → ℕ → Settled) → Settled
 leads_to (Ok held) k = k held.used held.moves
@@ -72,53 +69,41 @@ pub record Leads (step : ℕ → List ℕ → Trace) (n i k : ℕ) (im im' : Lis
   pub sound : Sound a t'
   pub near : Near (k - i) used moves a
 
--- ---- over the lent slices of a function: keys, indices, kinds, starts and lengths, in this order
+-- ---- over a load's outputs, at the call and on return
 
--- a row registered whose name every row has: so it is afterwards
-abbrev pub EntersAlike : Row → Lent → Lent → Lent → Lent → Lent → ℕ → ℕ → Result Held ElfError → Type 0
-EntersAlike row k i d s l used moves a = Enters row (table_before k i d s l) (table_after k i d s l) used moves a × StillAlike row (table_after k i d s l) a
+-- every row has the row's name
+abbrev pub AlikeIn : Outputs → Row → Type 0
+AlikeIn o row = Alike (columns_of o.registry.now) o.registry.now.used row
 
--- a target: what its registration asks, and what it leaves
-abbrev pub TargetAsks : Job → ℕ → ℕ → MutBor (List ℕ) → MutBor (List ℕ) → MutBor (List ℕ) → MutBor (List ℕ) → MutBor (List ℕ) → ℕ → ℕ → ℕ → Type 0
-TargetAsks j key index k i d s l rows used moves = (key ≡ target_key j index) × Begins 1 (table_of k i d s l) rows used moves × Alike (table_of k i d s l) used (target_row j)
+-- and still has, where the answer holds
+abbrev pub StillAlike : Row → Outputs → Result (Unit {0}) ElfError → Type 0
+StillAlike row o' a = StillAlikeIn row (columns_of o'.registry.now) (held_of a o')
 
-abbrev pub TargetSettles : LegacyResult → Job → Lent → Lent → Lent → Lent → Lent → ℕ → ℕ → Result Held ElfError → Type 0
-TargetSettles target j k i d s l used moves a = Targets target (table_before k i d s l) (table_after k i d s l) used moves a × StillAlike (target_row j) (table_after k i d s l) a
+-- what the loop keeps, and still keeps
+abbrev pub Holds : Inputs → List ℕ → Outputs → Type 0
+Holds i seen o = CallsHeld i.builtins.now i.job seen (columns_of o.registry.now) o.registry.now.used
 
--- slot number `at`: what its call asks, and what it leaves
-abbrev pub SlotAsks :
-    ℕ → Bor (List ℕ) → Bor (List ℕ) → Bor (List ℕ) → Job → MutBor (List ℕ) → MutBor (List ℕ)
-    → MutBor (List ℕ) → MutBor (List ℕ) → MutBor (List ℕ) → MutBor (List ℕ) → MutBor (List ℕ) → ℕ → ℕ → ℕ → Type 0
-SlotAsks at file builtins table j seen image k i d s l rows used moves =
-    InFile file.now j
-    × Keyed table.now
-    × (length image.now ≡ length file.now)
-    × (at < slot_count j)
-    × Begins 1 (table_of k i d s l) rows used moves
-    × CallsHeld builtins.now j seen.now (table_of k i d s l) used
+abbrev pub StillHeld : Inputs → List ℕ → Outputs → Result (Unit {0}) ElfError → Type 0
+StillHeld i seen o' a = StillHeldIn i.builtins.now i.job seen (columns_of o'.registry.now) (held_of a o')
 
-abbrev pub SlotSettles : ℕ → Shared → Shared → Job → Lent → Lent → Lent → Lent → Lent → Lent → Lent → ℕ → ℕ → Result Held ElfError → Type 0
-SlotSettles at file builtins j seen image k i d s l used moves a =
-    Settles (slot_trace file.entry.now builtins.entry.now j at image.entry.now) image.exit.now (table_before k i d s l) (table_after k i d s l) 1 used moves a
-    × StillHeld builtins.entry.now j seen.exit.now (table_after k i d s l) a
+-- a target: what its registration asks, and what it leaves, whatever the image
+abbrev pub TargetAsks : Job → ℕ → ℕ → Outputs → Type 0
+TargetAsks j key index o = (key ≡ target_key j index) × Begins 1 o × AlikeIn o (target_row j)
+
+abbrev pub Targets : LegacyResult → Outputs → Outputs → Result (Unit {0}) ElfError → Type 0
+Targets target o o' a = (im : List ℕ) → SettlesAs (target_trace target im) im 1 o o' a
+
+-- slot number `at`
+abbrev pub SlotAsks : ℕ → Inputs → List ℕ → Outputs → Type 0
+SlotAsks at i seen o = PartAsks 1 i o × (at < slot_count i.job) × Holds i seen o
 
 -- the slots from number `from` up to `to`
-abbrev pub SlotsAsk :
-    ℕ → ℕ → Bor (List ℕ) → Bor (List ℕ) → Bor (List ℕ) → Job → MutBor (List ℕ) → MutBor (List ℕ)
-    → MutBor (List ℕ) → MutBor (List ℕ) → MutBor (List ℕ) → MutBor (List ℕ) → MutBor (List ℕ) → ℕ → ℕ → ℕ → Type 0
-SlotsAsk from to file builtins table j seen image k i d s l rows used moves =
-    InFile file.now j
-    × Keyed table.now
-    × (length image.now ≡ length file.now)
-    × (from ≤ to)
-    × (to ≤ slot_count j)
-    × Begins (to - from) (table_of k i d s l) rows used moves
-    × CallsHeld builtins.now j seen.now (table_of k i d s l) used
+abbrev pub SlotsAsk : ℕ → ℕ → Inputs → List ℕ → Outputs → Type 0
+SlotsAsk from to i seen o = PartAsks (to - from) i o × (from ≤ to) × (to ≤ slot_count i.job) × Holds i seen o
 
-abbrev pub SlotsLead : ℕ → ℕ → Shared → Shared → Job → Lent → Lent → Lent → Lent → Lent → Lent → Lent → ℕ → ℕ → Result Held ElfError → Type 0
-SlotsLead from to file builtins j seen image k i d s l used moves a =
-    Leads (slot_trace file.entry.now builtins.entry.now j) (slot_count j) from to
-    (ahead (j.start + 8 * to) image.entry.now file.entry.now)
-    (ahead (j.start + 8 * to) image.exit.now file.entry.now)
-    (table_before k i d s l) (table_after k i d s l) used moves a
-    × StillHeld builtins.entry.now j seen.exit.now (table_after k i d s l) a
+abbrev pub SlotsLead : ℕ → ℕ → Inputs → Outputs → Outputs → Result (Unit {0}) ElfError → Type 0
+SlotsLead from to i o o' a =
+    Leads (slot_trace i.file.now i.builtins.now i.job) (slot_count i.job) from to
+    (ahead (i.job.start + 8 * to) o.image.now i.file.now)
+    (ahead (i.job.start + 8 * to) o'.image.now i.file.now)
+    (columns_of o.registry.now) (columns_of o'.registry.now) o.registry.now.used o.moves (held_of a o')

@@ -6,12 +6,15 @@ use Rattle.loader.specs.declared.deeds.Deed.{Deed}
 use Rattle.loader.specs.declared.deeds.Deed.TheVariants.{Skip, Halves, Word, Key, Register, RegisterOnly, RegisterOutside}
 use Rattle.loader.specs.declared.deeds.Entry.{Entry}
 use Rattle.loader.specs.declared.deeds.Entry.TheVariants.{Nothing, Register as Enter}
-use Rattle.loader.specs.declared.deeds.Held.{Held}
 use Rattle.loader.specs.declared.error.ElfError.{ElfError}
 use Rattle.loader.specs.Bytes.{put, length_put}
 use Rattle.loader.specs.Trace.{Trace, done, stop, register}
 
 -- so many rows used and moves
+pub record Held : Type 0 where
+  pub used : ℕ
+  pub moves : ℕ
+
 abbrev pub holding : ℕ → ℕ → Result Held ElfError
 holding used moves = Ok (record { used = used; moves = moves })
 

@@ -7,12 +7,11 @@ use Rattle.program.specs.HashedLegacy.{entrypoint}
 use Rattle.loader.specs.declared.error.ElfError.TheVariants.{InvalidEntrypoint}
 use Rattle.loader.specs.declared.deeds.Deed.{Deed}
 use Rattle.loader.specs.declared.validate.Job.{Job}
-use Rattle.loader.specs.declared.deeds.Held.{Held}
 use Rattle.loader.specs.declared.error.ElfError.{ElfError}
 use Rattle.loader.specs.Functions.{row_for}
 use Rattle.loader.specs.Labels.{label_row, row_fits}
 use Rattle.loader.specs.Trace.{Trace, done, forget, and_then}
-use Rattle.loader.specs.Deeds.{DeedFits, deed_trace, holding}
+use Rattle.loader.specs.Deeds.{Held, DeedFits, deed_trace, holding}
 
 -- e_entry less the text's sh_addr, in slots; a remainder is refused
 unfoldable pub entry_deed : List ℕ → Job → Result Deed ElfError

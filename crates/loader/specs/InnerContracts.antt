@@ -3,19 +3,26 @@ use Rattle.program.specs.Rows.{RegisterResult}
 use Rattle.program.specs.declared.RegisterError.TheVariants.{Collision, Full}
 use Rattle.program.specs.declared.Registered.TheVariants.{Inserted, Repeat}
 use Rattle.std.specs.Prelude.{ℕ, ◌+◌, ◌-◌, ◌*◌, ◌≤◌, ◌^◌, ◌≡◌, List, Bool, true, false, length, Ok, Err, Result}
-use Rattle.std.specs.Borrow.{Bor, MutBor}
 use Rattle.loader.specs.declared.validate.Job.{Job}
 use Rattle.program.specs.declared.Row.{Row}
-use Rattle.program.specs.Table.{Slices, Lent, Shared, table_of, table_before, table_after, capacity, rows_of, Ready}
+use Rattle.program.specs.Runs.{moves_of}
+use Rattle.program.specs.Table.{Slices, SameLens, SameColumns, columns_of, capacity, rows_of, Ready}
 use Rattle.loader.specs.declared.error.ElfError.TheVariants.{SymbolHashCollision, TableFull, ValueOutOfBounds}
-use Rattle.loader.specs.declared.deeds.Held.{Held}
+use Rattle.loader.specs.declared.deeds.Outputs.{Outputs}
+use Rattle.loader.specs.declared.deeds.Inputs.{Inputs}
 use Rattle.loader.specs.declared.error.ElfError.{ElfError}
-use Rattle.loader.specs.Deeds.{holding}
+use Rattle.loader.specs.Deeds.{Held, holding}
 use Rattle.loader.specs.Entry.{forget_trace}
 use Rattle.loader.specs.Functions.{Keyed}
 use Rattle.loader.specs.Trace.{Trace, done, register, Settled, accepted, refused, settle}
 
--- a registration's answer, with the rows and moves up to there
+-- a registration's answer, as the load's
+abbrev pub entered_as : RegisterResult → ℕ → ℕ → Result (Unit {0}) ElfError
+entered_as (Ok a) key rows = Ok tt
+entered_as (Err Collision) key rows = Err (SymbolHashCollision key)
+entered_as (Err Full) key rows = Err (TableFull rows)
+
+-- the same, with the rows and moves up to there
 abbrev pub entered_by : RegisterResult → ℕ → ℕ → ℕ → ℕ → Result Held ElfError
 entered_by (Ok (Inserted n)) used moves key rows = holding (used + 1) (moves + n)
 entered_by (Ok Repeat) used moves key rows = holding used moves
@@ -23,10 +30,10 @@ entered_by (Err Collision) used moves key rows = Err (SymbolHashCollision key)
 entered_by (Err Full) used moves key rows = Err (TableFull rows)
 
 -- the outcome of a registration: one that was held is refused all the same where the place of its key is outside the file
-abbrev pub finished_by : Result Held ElfError → Bool → Result Held ElfError
+abbrev pub finished_by : Result (Unit {0}) ElfError → Bool → Result (Unit {0}) ElfError
 finished_by (Err r) outside = Err r
-finished_by (Ok held) false = Ok held
-finished_by (Ok held) true = Err ValueOutOfBounds
+finished_by (Ok tt) false = Ok tt
+finished_by (Ok tt) true = Err ValueOutOfBounds
 
 -- what came of a trace, as an answer, an image and a table say it
 abbrev pub outcome : Result Held ElfError → List ℕ → Slices → Settled
@@ -58,9 +65,8 @@ pub record InFile (file : List ℕ) (j : Job) : Type 0 where
   pub relas : 24 * j.layout.dynamic_relas.count ≤ length file
   pub entry : j.e_entry - j.sh_addr ≤ 2 ^ 24
 
--- what a part of a load is handed: the five slices are a table, and there is room for n registrations more
-pub record Begins (n : ℕ) (t : Slices) (rows used moves : ℕ) : Type 0 where
-  pub rows_are : rows ≡ capacity t
+-- what a part of a load is handed: the slices are a table, and there is room for n registrations more
+pub record BeginsIn (n : ℕ) (t : Slices) (used moves : ℕ) : Type 0 where
   pub ready : Ready t used
   pub room : Room n used moves
 
@@ -70,25 +76,52 @@ pub record Settles (trace : Trace) (im' : List ℕ) (t t' : Slices) (n used move
   pub sound : Sound a t'
   pub near : Near n used moves a
 
+-- ---- over a load's outputs, at the call and on return
+
+-- an answer, with the rows and moves that the outputs hold
+abbrev pub held_of : Result (Unit {0}) ElfError → Outputs → Result Held ElfError
+held_of (Ok tt) o = holding o.registry.now.used o.moves
+held_of (Err r) o = Err r
+
+-- n moves more
+abbrev pub moved_by : ℕ → Outputs → Outputs
+moved_by n o = record { image = o.image; registry = o.registry; moves = o.moves + n }
+
+-- they are still the slices that they were, as long as they were, whatever they hold now
+pub record Keeps (o o' : Outputs) : Type 0 where
+  pub image_is : o'.image.ghost_name ≡ o.image.ghost_name
+  pub image_as : length o'.image.now ≡ length o.image.now
+  pub registry_is : o'.registry.ghost_name ≡ o.registry.ghost_name
+  pub table_is : SameColumns o.registry.now o'.registry.now
+  pub table_as : SameLens (columns_of o.registry.now) (columns_of o'.registry.now)
+
+abbrev pub Begins : ℕ → Outputs → Type 0
+Begins n o = BeginsIn n (columns_of o.registry.now) o.registry.now.used o.moves
+
+-- the same, with no row
+abbrev pub Starts : ℕ → Outputs → Type 0
+Starts n o = Begins n o × (o.registry.now.used ≡ 0)
+
+-- what a trace leaves, with this image
+abbrev pub SettlesAs : Trace → List ℕ → ℕ → Outputs → Outputs → Result (Unit {0}) ElfError → Type 0
+SettlesAs trace im' n o o' a = Settles trace im' (columns_of o.registry.now) (columns_of o'.registry.now) n o.registry.now.used o.moves (held_of a o')
+
+-- with the outputs' own
+abbrev pub SettlesTo : Trace → ℕ → Outputs → Outputs → Result (Unit {0}) ElfError → Type 0
+SettlesTo trace n o o' a = SettlesAs trace o'.image.now n o o' a
+
 -- one row more, whatever the image
-abbrev pub Enters : Row → Slices → Slices → ℕ → ℕ → Result Held ElfError → Type 0
-Enters row t t' used moves a = (im : List ℕ) → Settles (register row (done im)) im t t' 1 used moves a
+abbrev pub Enters : Row → Outputs → Outputs → Result (Unit {0}) ElfError → Type 0
+Enters row o o' a = (im : List ℕ) → SettlesAs (register row (done im)) im 1 o o' a
 
 -- the key of the name entrypoint forgotten in version 1, whatever the image
-abbrev pub Forgets : Bool → Slices → Slices → ℕ → ℕ → Result Held ElfError → Type 0
-Forgets version2 t t' used moves a = (im : List ℕ) → Settles (forget_trace version2 im) im t t' 1 used moves a
-
--- ---- over the lent slices of a function: image, keys, indices, kinds, starts and lengths, in this order
+abbrev pub Forgets : Bool → Outputs → Outputs → Type 0
+Forgets version2 o o' = (im : List ℕ) → SettlesAs (forget_trace version2 im) im 1 o o' (Ok tt)
 
 -- what a part of a load asks: a job in the file, the right table of keys, an image as long as the file, and room for n registrations more
-abbrev pub PartAsks : ℕ → Bor (List ℕ) → Bor (List ℕ) → Job → MutBor (List ℕ) → MutBor (List ℕ) → MutBor (List ℕ) → MutBor (List ℕ) → MutBor (List ℕ) → MutBor (List ℕ) → ℕ → ℕ → ℕ → Type 0
-PartAsks n file table j image k i d s l rows used moves =
-    InFile file.now j × Keyed table.now × (length image.now ≡ length file.now) × Begins n (table_of k i d s l) rows used moves
+abbrev pub PartAsks : ℕ → Inputs → Outputs → Type 0
+PartAsks n i o = InFile i.file.now i.job × Keyed i.table.now × (length o.image.now ≡ length i.file.now) × Begins n o
 
--- what it leaves
-abbrev pub PartSettles : Trace → Lent → Lent → Lent → Lent → Lent → Lent → ℕ → ℕ → ℕ → Result Held ElfError → Type 0
-PartSettles trace image k i d s l n used moves a = Settles trace image.exit.now (table_before k i d s l) (table_after k i d s l) n used moves a
-
--- the same of a trace by file, built-ins and job, from an image on
-abbrev pub FileSettles : (List ℕ → List ℕ → Job → List ℕ → Trace) → Shared → Shared → Job → List ℕ → Lent → Lent → Lent → Lent → Lent → Lent → ℕ → ℕ → ℕ → Result Held ElfError → Type 0
-FileSettles trace file builtins j from image k i d s l n used moves a = PartSettles (trace file.entry.now builtins.entry.now j from) image k i d s l n used moves a
+-- the same of the first, before which there is no row
+abbrev pub FirstAsks : ℕ → Inputs → Outputs → Type 0
+FirstAsks n i o = InFile i.file.now i.job × Keyed i.table.now × (length o.image.now ≡ length i.file.now) × Starts n o

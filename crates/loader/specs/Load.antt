@@ -9,8 +9,7 @@ use Rattle.loader.specs.declared.read_only.Placing.{Placing}
 use Rattle.loader.specs.declared.error.ElfError.{ElfError}
 use Rattle.loader.specs.declared.answer.Accepted.{Accepted}
 use Rattle.loader.specs.declared.validate.Config.{Config}
-use Rattle.loader.specs.declared.deeds.Held.{Held}
-use Rattle.loader.specs.Deeds.{holding}
+use Rattle.loader.specs.Deeds.{Held, holding}
 use Rattle.loader.specs.Trace.{Settled, accepted, refused, settle}
 use Rattle.loader.specs.Parts.{job_trace}
 use Rattle.loader.specs.Validate.{prepared}
@@ -156,15 +155,17 @@ Tried x im ro t im' ro' t' (Err r) = x ≡ refuses r
 abbrev pub Clears : Lent → Lent → Lent → Lent → Lent → Lent → Lent → Type 0
 Clears image ro k i d s l = Cleared image.entry.now ro.entry.now (table_before k i d s l) image.exit.now ro.exit.now (table_after k i d s l)
 
--- the parts of a job in cleared slices: what they ask, and what they leave
-abbrev pub FillAsks : Bor (List ℕ) → Job → MutBor (List ℕ) → MutBor (List ℕ) → MutBor (List ℕ) → MutBor (List ℕ) → MutBor (List ℕ) → MutBor (List ℕ) → ℕ → Type 0
-FillAsks file j image k i d s l rows =
-    InFile file.now j × (length image.now ≡ length file.now) × (rows ≡ capacity (table_of k i d s l)) × (table_of k i d s l ≡ lay (table_of k i d s l) [])
+-- the parts of a job in cleared slices: what they ask, and what they leave, with the answer that follows from their outcome h
+abbrev pub FillAsks : Bor (List ℕ) → Job → MutBor (List ℕ) → MutBor (List ℕ) → MutBor (List ℕ) → MutBor (List ℕ) → MutBor (List ℕ) → MutBor (List ℕ) → Type 0
+FillAsks file j image k i d s l =
+    InFile file.now j × (length image.now ≡ length file.now) × (table_of k i d s l ≡ lay (table_of k i d s l) [])
 
-abbrev pub Fills : Shared → Shared → Job → Lent → Lent → Lent → Lent → Lent → Lent → Lent → Result Held ElfError → Type 0
+abbrev pub Fills : Shared → Shared → Job → Lent → Lent → Lent → Lent → Lent → Lent → Lent → Result Accepted ElfError → Type 0
 Fills file builtins j image ro k i d s l a =
-    Settles (job_trace file.entry.now builtins.entry.now j file.entry.now) image.exit.now (table_before k i d s l) (table_after k i d s l) (all_count file.entry.now j) 0 0 a
-    × HeldBytes a ro.exit.now (placed_bytes file.entry.now j.layout j.placing image.exit.now ro.entry.now)
+    (h : Result Held ElfError)
+    × (a ≡ answer_for h j)
+    × Settles (job_trace file.entry.now builtins.entry.now j file.entry.now) image.exit.now (table_before k i d s l) (table_after k i d s l) (all_count file.entry.now j) 0 0 h
+    × HeldBytes h ro.exit.now (placed_bytes file.entry.now j.layout j.placing image.exit.now ro.entry.now)
 
 -- what comes of a load of these
 abbrev pub load_of_lent : Shared → Shared → Config → Lent → Lent → Lent → Lent → Lent → Lent → Lent → Loading

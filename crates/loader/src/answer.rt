@@ -3,7 +3,6 @@ ghost use Rattle.std.specs.Prelude.{◌≡◌, ◌-◌, ◌≤◌, ◌^◌};
 ghost use Rattle.loader.specs.Load.{accepted_as, answer_by};
 
 use crate::addresses::pick;
-use crate::deeds::Held;
 use crate::error::ElfError;
 use crate::read_only::Placing;
 use crate::validate::Job;
@@ -57,11 +56,10 @@ fn accepted_as(
 }
 
 // The answer of a file that passed the checks.
-pub(crate) fn answer_of(held: Held, job: Job) -> Result<Accepted, ElfError>
+pub(crate) fn answer_of(used: usize, moves: u64, job: Job) -> Result<Accepted, ElfError>
     requires { job.e_entry - job.sh_addr ≤ 2 ^ 24 }
-    ensures { result ≡ answer_by job job.placing held.used held.moves }
+    ensures { result ≡ answer_by job job.placing used moves }
 {
-    let Held { used, moves } = held;
     match job.placing? {
         Placing::Borrowed {
             offset,

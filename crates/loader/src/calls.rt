@@ -2,14 +2,13 @@
 ghost use Rattle.std.specs.Prelude.{◌≡◌, ◌+◌, ◌-◌, ◌*◌, ◌%◌, ◌≤◌, ◌<◌, ◌^◌, min, eqb, length, get_or, set};
 ghost use Rattle.program.specs.declared.FunctionName.TheVariants.{OfIndex};
 ghost use Rattle.loader.specs.Functions.{row_for};
-ghost use Rattle.loader.specs.Calls.{inside, target, is_local_call, call_of, call_at, slot_count, calls_trace, next_call, PassesTo};
-ghost use Rattle.loader.specs.CallLoop.{TargetAsks, TargetSettles, SlotAsks, SlotSettles, SlotsAsk, SlotsLead};
-ghost use Rattle.loader.specs.InnerContracts.{PartAsks, FileSettles};
+ghost use Rattle.loader.specs.Calls.{inside, target, is_local_call, call_of, call_at, slot_count, slot_trace, calls_trace, next_call, PassesTo};
+ghost use Rattle.loader.specs.CallLoop.{TargetAsks, Targets, StillAlike, target_row, SlotAsks, StillHeld, SlotsAsk, SlotsLead};
+ghost use Rattle.loader.specs.InnerContracts.{Keeps, SettlesTo, FirstAsks};
 
-use crate::deeds::{Held, enter_alike, store_u32};
+use crate::deeds::{Inputs, Outputs, store_u32};
 use crate::error::ElfError;
 use crate::read_only::copy_bytes;
-use crate::validate::Job;
 use ebpf::{CALL_IMM, Insn, get_insn};
 use program::{FunctionName, Row, is_taken, kept_name, legacy_key};
 
@@ -171,109 +170,80 @@ fn see(seen: &mut [u32], index: u32)
 
 // A target is registered, under its key.
 fn register_target(
-    keys: &mut [u32],
-    indices: &mut [u32],
-    kinds: &mut [u32],
-    starts: &mut [u32],
-    lengths: &mut [u32],
-    builtins: &[u32],
-    job: Job,
-    rows: u64,
-    used: usize,
-    moves: u64,
+    out: &mut Outputs<'_, '_>,
+    inputs: &Inputs<'_>,
     key: u32,
     index: u32,
-) -> Result<Held, ElfError>
-    requires { TargetAsks job key index keys indices kinds starts lengths rows used moves }
-    ensures { TargetSettles (row_for builtins.now job OfIndex index) job keys indices kinds starts lengths used moves result }
+) -> Result<(), ElfError>
+    requires { TargetAsks inputs.now.job key index out.old }
+    ensures keeps { Keeps out.old out.new }
+    ensures image { out.new.image.now ≡ out.old.image.now }
+    ensures targets { Targets (row_for inputs.now.builtins.now inputs.now.job OfIndex index) out.old out.new result }
+    ensures alike { StillAlike (target_row inputs.now.job) out.new result }
 {
-    if is_taken(builtins, job.version2, job.check_collision, key) {
+    let job = inputs.job;
+    if is_taken(inputs.builtins, job.version2, job.check_collision, key) {
         return Err(ElfError::SymbolHashCollision { key });
     }
     let name = kept_name(job.labels, FunctionName::OfIndex);
-    let row = Row {
+    out.enter_alike(Row {
         key,
         index,
         kind: name.kind,
         start: name.start,
         length: name.length,
-    };
-    enter_alike(
-        keys, indices, kinds, starts, lengths, rows, used, moves, row,
-    )
+    })
 }
 
 // A slot of the job's text: the key of what it calls is written, and the target registered.
 fn call_step(
-    image: &mut [u8],
-    keys: &mut [u32],
-    indices: &mut [u32],
-    kinds: &mut [u32],
-    starts: &mut [u32],
-    lengths: &mut [u32],
+    out: &mut Outputs<'_, '_>,
     seen: &mut [u32],
-    file: &[u8],
-    builtins: &[u32],
-    table: &[u32],
-    job: Job,
-    rows: u64,
-    used: usize,
-    moves: u64,
+    inputs: &Inputs<'_>,
     i: usize,
-) -> Result<Held, ElfError>
-    requires { SlotAsks i file builtins table job seen image keys indices kinds starts lengths rows used moves }
-    ensures { SlotSettles i file builtins job seen image keys indices kinds starts lengths used moves result }
+) -> Result<(), ElfError>
+    requires { SlotAsks i inputs.now seen.old out.old }
+    ensures keeps { Keeps out.old out.new }
+    ensures settles { SettlesTo (slot_trace inputs.now.file.now inputs.now.builtins.now inputs.now.job i out.old.image.now) 1 out.old out.new result }
+    ensures held { StillHeld inputs.now seen.new out.new result }
 {
+    let job = inputs.job;
     let start = job.start;
     let end = start + job.length;
-    let Some(index) = call_at(&file[start..end], job.version2, i)? else {
-        return Ok(Held { used, moves });
+    let Some(index) = call_at(&inputs.file[start..end], job.version2, i)? else {
+        return Ok(());
     };
-    let key = legacy_key(table, job.version2, FunctionName::OfIndex, index);
-    store_u32(image, start + 8 * i + 4, key);
+    let key = legacy_key(inputs.table, job.version2, FunctionName::OfIndex, index);
+    store_u32(out.image, start + 8 * i + 4, key);
     if is_seen(seen, index) {
-        return Ok(Held { used, moves });
+        return Ok(());
     }
     see(seen, index);
-    register_target(
-        keys, indices, kinds, starts, lengths, builtins, job, rows, used, moves, key, index,
-    )
+    register_target(out, inputs, key, index)
 }
 
 // The slots from number `from` up to `to`, whose bytes are in the image, in turn, up to the first
 // refusal.
 fn register_slots(
-    image: &mut [u8],
-    keys: &mut [u32],
-    indices: &mut [u32],
-    kinds: &mut [u32],
-    starts: &mut [u32],
-    lengths: &mut [u32],
+    out: &mut Outputs<'_, '_>,
     seen: &mut [u32],
-    file: &[u8],
-    builtins: &[u32],
-    table: &[u32],
-    job: Job,
-    rows: u64,
-    used: usize,
-    moves: u64,
+    inputs: &Inputs<'_>,
     from: usize,
     to: usize,
-) -> Result<Held, ElfError>
-    requires { SlotsAsk from to file builtins table job seen image keys indices kinds starts lengths rows used moves }
-    ensures { SlotsLead from to file builtins job seen image keys indices kinds starts lengths used moves result }
+) -> Result<(), ElfError>
+    requires { SlotsAsk from to inputs.now seen.old out.old }
+    ensures keeps { Keeps out.old out.new }
+    ensures leads { SlotsLead from to inputs.now out.old out.new result }
+    ensures held { StillHeld inputs.now seen.new out.new result }
 {
-    let start = job.start;
-    let mut held = Held { used, moves };
+    let file = inputs.file;
+    let start = inputs.job.start;
     let mut i = next_call(file, start, from, to);
     while i < to {
-        held = call_step(
-            image, keys, indices, kinds, starts, lengths, seen, file, builtins, table, job, rows,
-            held.used, held.moves, i,
-        )?;
+        call_step(out, seen, inputs, i)?;
         i = next_call(file, start, i + 1, to);
     }
-    Ok(held)
+    Ok(())
 }
 
 // Where the run of slots from number `i` on ends.
@@ -281,48 +251,30 @@ fn run_end(i: usize, count: usize) -> usize
     requires { i < count }
     ensures { result ≡ i + min 512 (count - i) }
 {
-    let left = count - i;
-    if left < COPIED {
-        return count;
-    }
-    i + COPIED
+    i + COPIED.min(count - i)
 }
 
 // The file's bytes go into the image, and the calls of all slots are registered in turn, up to the
 // first refusal: a run of slots is copied and then looked at, while its bytes are in the cache.
-pub(crate) fn register_calls(
-    image: &mut [u8],
-    keys: &mut [u32],
-    indices: &mut [u32],
-    kinds: &mut [u32],
-    starts: &mut [u32],
-    lengths: &mut [u32],
-    file: &[u8],
-    builtins: &[u32],
-    table: &[u32],
-    job: Job,
-    rows: u64,
-) -> Result<Held, ElfError>
-    requires { PartAsks (slot_count job) file table job image keys indices kinds starts lengths rows 0 0 }
-    ensures { FileSettles calls_trace file builtins job file.now image keys indices kinds starts lengths (slot_count job) 0 0 result }
+pub(crate) fn register_calls(out: &mut Outputs<'_, '_>, inputs: &Inputs<'_>) -> Result<(), ElfError>
+    requires { FirstAsks (slot_count inputs.now.job) inputs.now out.old }
+    ensures keeps { Keeps out.old out.new }
+    ensures settles { SettlesTo (calls_trace inputs.now.file.now inputs.now.builtins.now inputs.now.job inputs.now.file.now) (slot_count inputs.now.job) out.old out.new result }
 {
-    let start = job.start;
-    let count = job.length / 8;
+    let file = inputs.file;
+    let start = inputs.job.start;
+    let count = inputs.job.length / 8;
     let end = start + 8 * count;
     let mut seen = [0u32; SEEN];
-    copy_bytes(image, file, 0, 0, start);
-    let mut held = Held { used: 0, moves: 0 };
+    copy_bytes(out.image, file, 0, 0, start);
     let mut i = 0;
     while i < count {
         let to = run_end(i, count);
         let at = start + 8 * i;
-        copy_bytes(image, file, at, at, 8 * (to - i));
-        held = register_slots(
-            image, keys, indices, kinds, starts, lengths, &mut seen, file, builtins, table, job,
-            rows, held.used, held.moves, i, to,
-        )?;
+        copy_bytes(out.image, file, at, at, 8 * (to - i));
+        register_slots(out, &mut seen, inputs, i, to)?;
         i = to;
     }
-    copy_bytes(image, file, end, end, file.len() - end);
-    Ok(held)
+    copy_bytes(out.image, file, end, end, file.len() - end);
+    Ok(())
 }

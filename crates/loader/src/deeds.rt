@@ -1,14 +1,15 @@
 // What a part of a load does: write some bytes of the image, or register a function. The functions that
 // decide on relocations, labels and the entry give a `Deed` or refuse; this module carries it out.
 ghost use Rattle.std.specs.Prelude.{Ok, ◌≡◌, ◌+◌, ◌/◌, ◌%◌, ◌≤◌, ◌<◌, ◌^◌, length};
-ghost use Rattle.program.specs.Table.{Alike, table_before, table_after, table_of};
+ghost use Rattle.program.specs.Table.{capacity, columns_of};
 ghost use Rattle.program.specs.Runs.{moves_of};
 ghost use Rattle.loader.specs.Bytes.{put};
 ghost use Rattle.loader.specs.Deeds.{DeedFits, written, entry_of, deed_trace};
-ghost use Rattle.loader.specs.CallLoop.{EntersAlike};
-ghost use Rattle.loader.specs.InnerContracts.{entered_by, finished_by, Begins, Enters, PartSettles};
+ghost use Rattle.loader.specs.CallLoop.{AlikeIn, StillAlike};
+ghost use Rattle.loader.specs.InnerContracts.{entered_as, moved_by, finished_by, Begins, Keeps, Enters, SettlesTo};
 
 use crate::error::ElfError;
+use crate::validate::Job;
 use program::{FunctionRegistry, RegisterError, Registered, Row};
 
 #[derive(Clone, Copy)]
@@ -36,11 +37,21 @@ pub enum Entry {
     Register { row: Row, outside: bool },
 }
 
-// The rows used and the moves up to here.
-#[derive(Clone, Copy)]
-pub struct Held {
-    pub used: usize,
+// What a load fills: the image, the table, and the moves up to here.
+#[derive(Drop)]
+pub struct Outputs<'o, 't> {
+    pub image: &'o mut [u8],
+    pub registry: &'o mut FunctionRegistry<'t>,
     pub moves: u64,
+}
+
+// What a load reads: the file, the built-in keys, the keys of the first indices, and what the checks left.
+#[derive(Clone, Copy)]
+pub struct Inputs<'a> {
+    pub file: &'a [u8],
+    pub builtins: &'a [u32],
+    pub table: &'a [u32],
+    pub job: Job,
 }
 
 fn entry_of(deed: Deed) -> Entry
@@ -89,146 +100,81 @@ fn write(image: &mut [u8], deed: Deed)
     }
 }
 
-// The rows and moves after a registration that answered so.
-fn entered(
-    answer: Result<Registered, RegisterError>,
-    used: usize,
-    moves: u64,
-    key: u32,
-    rows: u64,
-) -> Result<Held, ElfError>
-    requires { (used < 2 ^ 32) × (moves + moves_of answer < 2 ^ 64) }
-    ensures { result ≡ entered_by answer used moves key rows }
-{
-    match answer {
-        Ok(Registered::Inserted(n)) => Ok(Held {
-            used: used + 1,
-            moves: moves + n as u64,
-        }),
-        Ok(Registered::Repeat) => Ok(Held { used, moves }),
-        Err(RegisterError::Collision) => Err(ElfError::SymbolHashCollision { key }),
-        Err(RegisterError::Full) => Err(ElfError::TableFull { rows }),
-    }
-}
-
 // A registration that was held is refused all the same where the key's place is outside.
-fn finished(outcome: Result<Held, ElfError>, outside: bool) -> Result<Held, ElfError>
+fn finished(outcome: Result<(), ElfError>, outside: bool) -> Result<(), ElfError>
     ensures { result ≡ finished_by outcome outside }
 {
-    let held = outcome?;
+    outcome?;
     if outside {
         return Err(ElfError::ValueOutOfBounds);
     }
-    Ok(held)
+    Ok(())
 }
 
-// Registers one row.
-fn enter(
-    keys: &mut [u32],
-    indices: &mut [u32],
-    kinds: &mut [u32],
-    starts: &mut [u32],
-    lengths: &mut [u32],
-    rows: u64,
-    used: usize,
-    moves: u64,
-    row: Row,
-) -> Result<Held, ElfError>
-    requires { Begins 1 (table_of keys indices kinds starts lengths) rows used moves }
-    ensures { Enters row (table_before keys indices kinds starts lengths) (table_after keys indices kinds starts lengths) used moves result }
-{
-    let key = row.key;
-    let mut registry = FunctionRegistry {
-        keys,
-        indices,
-        kinds,
-        starts,
-        lengths,
-        used,
-    };
-    let answer = registry.register_function(row);
-    entered(answer, used, moves, key, rows)
-}
+impl Outputs<'_, '_> {
+    // The image as it stands.
+    pub(crate) fn image(&self) -> &[u8]
+        ensures { result.now ≡ self.now.image.now }
+    {
+        self.image
+    }
 
-// Registers one row, of the name that every row used has.
-pub(crate) fn enter_alike(
-    keys: &mut [u32],
-    indices: &mut [u32],
-    kinds: &mut [u32],
-    starts: &mut [u32],
-    lengths: &mut [u32],
-    rows: u64,
-    used: usize,
-    moves: u64,
-    row: Row,
-) -> Result<Held, ElfError>
-    requires { Begins 1 (table_of keys indices kinds starts lengths) rows used moves × Alike (table_of keys indices kinds starts lengths) used row }
-    ensures { EntersAlike row keys indices kinds starts lengths used moves result }
-{
-    let key = row.key;
-    let mut registry = FunctionRegistry {
-        keys,
-        indices,
-        kinds,
-        starts,
-        lengths,
-        used,
-    };
-    let answer = registry.register_alike(row);
-    entered(answer, used, moves, key, rows)
-}
-
-// Carries a deed out.
-pub(crate) fn perform(
-    image: &mut [u8],
-    keys: &mut [u32],
-    indices: &mut [u32],
-    kinds: &mut [u32],
-    starts: &mut [u32],
-    lengths: &mut [u32],
-    rows: u64,
-    used: usize,
-    moves: u64,
-    deed: Deed,
-) -> Result<Held, ElfError>
-    requires { DeedFits (length image.old) (Ok deed) × Begins 1 (table_of keys indices kinds starts lengths) rows used moves }
-    ensures { PartSettles (deed_trace (Ok deed) image.old) image keys indices kinds starts lengths 1 used moves result }
-{
-    write(image, deed);
-    match entry_of(deed) {
-        Entry::Nothing => Ok(Held { used, moves }),
-        Entry::Register { row, outside } => {
-            let a = enter(
-                keys, indices, kinds, starts, lengths, rows, used, moves, row,
-            );
-            finished(a, outside)
+    // Counts the moves of a registration that answered so, or refuses.
+    fn entered(
+        &mut self,
+        answer: Result<Registered, RegisterError>,
+        key: u32,
+    ) -> Result<(), ElfError>
+        requires { self.old.moves + moves_of answer < 2 ^ 64 }
+        ensures moved { self.new ≡ moved_by (moves_of answer) self.old }
+        ensures answers { result ≡ entered_as answer key (capacity (columns_of self.old.registry.now)) }
+    {
+        match answer {
+            Ok(Registered::Inserted(n)) => {
+                self.moves += n as u64;
+                Ok(())
+            }
+            Ok(Registered::Repeat) => Ok(()),
+            Err(RegisterError::Collision) => Err(ElfError::SymbolHashCollision { key }),
+            Err(RegisterError::Full) => Err(ElfError::TableFull {
+                rows: self.registry.as_table().rows_lent() as u64,
+            }),
         }
     }
-}
 
-// The same for a relocation's deed. Most ask nothing of the table: then the bytes are written, and the
-// table is not handed on, which would take longer than all the rest.
-pub(crate) fn perform_relocation(
-    image: &mut [u8],
-    keys: &mut [u32],
-    indices: &mut [u32],
-    kinds: &mut [u32],
-    starts: &mut [u32],
-    lengths: &mut [u32],
-    rows: u64,
-    used: usize,
-    moves: u64,
-    deed: Deed,
-) -> Result<Held, ElfError>
-    requires { DeedFits (length image.old) (Ok deed) × Begins 1 (table_of keys indices kinds starts lengths) rows used moves }
-    ensures { PartSettles (deed_trace (Ok deed) image.old) image keys indices kinds starts lengths 1 used moves result }
-{
-    let entry = entry_of(deed);
-    if let Entry::Nothing = entry {
-        write(image, deed);
-        return Ok(Held { used, moves });
+    // Registers one row.
+    fn enter(&mut self, row: Row) -> Result<(), ElfError>
+        requires { Begins 1 self.old }
+        ensures keeps { Keeps self.old self.new }
+        ensures image { self.new.image.now ≡ self.old.image.now }
+        ensures enters { Enters row self.old self.new result }
+    {
+        let answer = self.registry.register_function(row);
+        self.entered(answer, row.key)
     }
-    perform(
-        image, keys, indices, kinds, starts, lengths, rows, used, moves, deed,
-    )
+
+    // Registers one row, of the name that every row used has.
+    pub(crate) fn enter_alike(&mut self, row: Row) -> Result<(), ElfError>
+        requires { Begins 1 self.old × AlikeIn self.old row }
+        ensures keeps { Keeps self.old self.new }
+        ensures image { self.new.image.now ≡ self.old.image.now }
+        ensures enters { Enters row self.old self.new result }
+        ensures alike { StillAlike row self.new result }
+    {
+        let answer = self.registry.register_alike(row);
+        self.entered(answer, row.key)
+    }
+
+    // Carries a deed out.
+    pub(crate) fn perform(&mut self, deed: Deed) -> Result<(), ElfError>
+        requires { DeedFits (length self.old.image.now) (Ok deed) × Begins 1 self.old }
+        ensures keeps { Keeps self.old self.new }
+        ensures settles { SettlesTo (deed_trace (Ok deed) self.old.image.now) 1 self.old self.new result }
+    {
+        write(self.image, deed);
+        match entry_of(deed) {
+            Entry::Nothing => Ok(()),
+            Entry::Register { row, outside } => finished(self.enter(row), outside),
+        }
+    }
 }

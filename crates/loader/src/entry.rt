@@ -1,17 +1,15 @@
 // The entry: in version 1 the row under the key of the name entrypoint goes first.
 ghost use Rattle.std.specs.Prelude.{◌≡◌, ◌+◌, ◌-◌, ◌≤◌, ◌<◌, ◌^◌};
-ghost use Rattle.program.specs.Table.{table_before, table_after, table_of};
-ghost use Rattle.program.specs.Runs.{moves_gone};
 ghost use Rattle.loader.specs.Functions.{Keyed};
-ghost use Rattle.loader.specs.Entry.{entry_deed, forgotten_by, entry_trace};
-ghost use Rattle.loader.specs.InnerContracts.{Begins, Forgets, PartSettles};
+ghost use Rattle.loader.specs.Entry.{entry_deed, entry_trace};
+ghost use Rattle.loader.specs.InnerContracts.{Begins, Forgets, Keeps, SettlesTo};
 
-use crate::deeds::{Deed, Held, perform};
+use crate::deeds::{Deed, Inputs, Outputs};
 use crate::error::ElfError;
 use crate::functions::row_for;
 use crate::labels::label_row;
 use crate::validate::Job;
-use program::{ENTRYPOINT_KEY, FunctionName, FunctionRegistry};
+use program::{ENTRYPOINT_KEY, FunctionName};
 
 // What a load does about the entry.
 #[tactic(auto, using(ebpf::specs::Choice::choices), unfolding(crate::specs::Entry::entry_deed))]
@@ -27,81 +25,28 @@ fn entry_deed(builtins: &[u32], table: &[u32], job: Job) -> Result<Deed, ElfErro
     label_row(row_for(table, builtins, job, FunctionName::Entrypoint, index))
 }
 
-// The rows and moves after a removal that answered so.
-fn forgotten(answer: Option<usize>, used: usize, moves: u64) -> Result<Held, ElfError>
-    requires { moves + moves_gone answer < 2 ^ 64 }
-    ensures { result ≡ forgotten_by answer used moves }
-{
-    match answer {
-        Some(n) => Ok(Held {
-            used: used.saturating_sub(1),
-            moves: moves + n as u64,
-        }),
-        None => Ok(Held { used, moves }),
-    }
-}
-
 // Version 1 removes the row under the key of the name entrypoint.
-fn forget_entrypoint(
-    keys: &mut [u32],
-    indices: &mut [u32],
-    kinds: &mut [u32],
-    starts: &mut [u32],
-    lengths: &mut [u32],
-    version2: bool,
-    rows: u64,
-    used: usize,
-    moves: u64,
-) -> Result<Held, ElfError>
-    requires { Begins 1 (table_of keys indices kinds starts lengths) rows used moves }
-    ensures { Forgets version2 (table_before keys indices kinds starts lengths) (table_after keys indices kinds starts lengths) used moves result }
+fn forget_entrypoint(out: &mut Outputs<'_, '_>, version2: bool)
+    requires { Begins 1 out.old }
+    ensures keeps { Keeps out.old out.new }
+    ensures image { out.new.image.now ≡ out.old.image.now }
+    ensures forgets { Forgets version2 out.old out.new }
 {
     if version2 {
-        return Ok(Held { used, moves });
+        return;
     }
-    let mut registry = FunctionRegistry {
-        keys,
-        indices,
-        kinds,
-        starts,
-        lengths,
-        used,
-    };
-    let answer = registry.unregister_function(ENTRYPOINT_KEY);
-    forgotten(answer, used, moves)
+    if let Some(n) = out.registry.unregister_function(ENTRYPOINT_KEY) {
+        out.moves += n as u64;
+    }
 }
 
 // The entry is registered, in version 1 behind the removal.
-pub(crate) fn register_entry(
-    image: &mut [u8],
-    keys: &mut [u32],
-    indices: &mut [u32],
-    kinds: &mut [u32],
-    starts: &mut [u32],
-    lengths: &mut [u32],
-    builtins: &[u32],
-    table: &[u32],
-    job: Job,
-    rows: u64,
-    used: usize,
-    moves: u64,
-) -> Result<Held, ElfError>
-    requires { Keyed table.now × (job.e_entry - job.sh_addr ≤ 2 ^ 24) × Begins 2 (table_of keys indices kinds starts lengths) rows used moves }
-    ensures { PartSettles (entry_trace builtins.now job image.old) image keys indices kinds starts lengths 2 used moves result }
+pub(crate) fn register_entry(out: &mut Outputs<'_, '_>, inputs: &Inputs<'_>) -> Result<(), ElfError>
+    requires { Keyed inputs.now.table.now × (inputs.now.job.e_entry - inputs.now.job.sh_addr ≤ 2 ^ 24) × Begins 2 out.old }
+    ensures keeps { Keeps out.old out.new }
+    ensures settles { SettlesTo (entry_trace inputs.now.builtins.now inputs.now.job out.old.image.now) 2 out.old out.new result }
 {
-    let deed = entry_deed(builtins, table, job)?;
-    let held = forget_entrypoint(
-        keys,
-        indices,
-        kinds,
-        starts,
-        lengths,
-        job.version2,
-        rows,
-        used,
-        moves,
-    )?;
-    perform(
-        image, keys, indices, kinds, starts, lengths, rows, held.used, held.moves, deed,
-    )
+    let deed = entry_deed(inputs.builtins, inputs.table, inputs.job)?;
+    forget_entrypoint(out, inputs.job.version2);
+    out.perform(deed)
 }

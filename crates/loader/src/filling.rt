@@ -1,17 +1,18 @@
 // The lent slices cleared, and the parts of a load one after another.
 ghost use Rattle.std.specs.Prelude.{◌≡◌, length, replicate};
-ghost use Rattle.program.specs.Table.{table_of};
 ghost use Rattle.loader.specs.Parts.{job_trace};
-ghost use Rattle.loader.specs.Load.{all_count, after_placing, placed_bytes, Clears, FillAsks, Fills};
-ghost use Rattle.loader.specs.InnerContracts.{InFile, Begins, PartAsks, FileSettles};
+ghost use Rattle.loader.specs.Load.{all_count, placed_bytes, Clears, FillAsks, Fills};
+ghost use Rattle.loader.specs.InnerContracts.{InFile, Starts, FirstAsks, Keeps, SettlesTo};
 
-use crate::deeds::Held;
+use crate::answer::{Accepted, answer_of};
+use crate::deeds::{Inputs, Outputs};
 use crate::error::ElfError;
 use crate::parts::{calls_and_relocations, labels_and_entry};
 use crate::read_only::{Placing, copy_sections};
 use crate::validate::Job;
 use ebpf::key_table;
 use elf_parser::{Layout, file_header};
+use program::FunctionRegistry;
 
 // Every number zero.
 pub fn clear_words(s: &mut [u32])
@@ -41,71 +42,51 @@ pub(crate) fn clear_all(
     clear_words(lengths);
 }
 
-// The placing of the read-only sections refuses after everything else.
-fn after_placing(
-    a: Result<Held, ElfError>,
-    placing: Result<Placing, ElfError>,
-) -> Result<Held, ElfError>
-    ensures { result ≡ after_placing a placing }
+// All parts of a load. The placing of the read-only sections refuses after everything else.
+fn all_parts(out: &mut Outputs<'_, '_>, inputs: &Inputs<'_>) -> Result<(), ElfError>
+    requires { FirstAsks (all_count inputs.now.file.now inputs.now.job) inputs.now out.old }
+    ensures keeps { Keeps out.old out.new }
+    ensures settles { SettlesTo (job_trace inputs.now.file.now inputs.now.builtins.now inputs.now.job inputs.now.file.now) (all_count inputs.now.file.now inputs.now.job) out.old out.new result }
 {
-    let held = a?;
-    placing?;
-    Ok(held)
-}
-
-// All parts of a load.
-fn all_parts(
-    image: &mut [u8],
-    keys: &mut [u32],
-    indices: &mut [u32],
-    kinds: &mut [u32],
-    starts: &mut [u32],
-    lengths: &mut [u32],
-    file: &[u8],
-    builtins: &[u32],
-    table: &[u32],
-    job: Job,
-    rows: u64,
-) -> Result<Held, ElfError>
-    requires { PartAsks (all_count file.now job) file table job image keys indices kinds starts lengths rows 0 0 }
-    ensures { FileSettles job_trace file builtins job file.now image keys indices kinds starts lengths (all_count file.now job) 0 0 result }
-{
-    let held = calls_and_relocations(
-        image, keys, indices, kinds, starts, lengths, file, builtins, table, job, rows,
-    )?;
-    let a = labels_and_entry(
-        image, keys, indices, kinds, starts, lengths, file, builtins, table, job, rows, held.used,
-        held.moves,
-    );
-    after_placing(a, job.placing)
+    calls_and_relocations(out, inputs)?;
+    labels_and_entry(out, inputs)?;
+    inputs.job.placing?;
+    Ok(())
 }
 
 // The same, with the table of keys made here. Only version 1 asks for it: in version 2 an index is its
 // own key.
 fn keyed_parts(
-    image: &mut [u8],
-    keys: &mut [u32],
-    indices: &mut [u32],
-    kinds: &mut [u32],
-    starts: &mut [u32],
-    lengths: &mut [u32],
+    out: &mut Outputs<'_, '_>,
     file: &[u8],
     builtins: &[u32],
     job: Job,
-    rows: u64,
-) -> Result<Held, ElfError>
-    requires { InFile file.now job × (length image.old ≡ length file.now) × Begins (all_count file.now job) (table_of keys indices kinds starts lengths) rows 0 0 }
-    ensures { FileSettles job_trace file builtins job file.now image keys indices kinds starts lengths (all_count file.now job) 0 0 result }
+) -> Result<(), ElfError>
+    requires { InFile file.now job × (length out.old.image.now ≡ length file.now) × Starts (all_count file.now job) out.old }
+    ensures keeps { Keeps out.old out.new }
+    ensures settles { SettlesTo (job_trace file.now builtins.now job file.now) (all_count file.now job) out.old out.new result }
 {
     if job.version2 {
         let none = [0u32; 0];
         return all_parts(
-            image, keys, indices, kinds, starts, lengths, file, builtins, &none, job, rows,
+            out,
+            &Inputs {
+                file,
+                builtins,
+                table: &none,
+                job,
+            },
         );
     }
     let table = key_table();
     all_parts(
-        image, keys, indices, kinds, starts, lengths, file, builtins, &table, job, rows,
+        out,
+        &Inputs {
+            file,
+            builtins,
+            table: &table,
+            job,
+        },
     )
 }
 
@@ -126,7 +107,7 @@ fn copy_placed(
     }
 }
 
-// The image, the read-only bytes and the table of a file that passed the checks.
+// The image, the read-only bytes and the table of a file that passed the checks, and the answer.
 pub(crate) fn fill_all(
     image: &mut [u8],
     ro: &mut [u8],
@@ -138,16 +119,24 @@ pub(crate) fn fill_all(
     file: &[u8],
     builtins: &[u32],
     job: Job,
-    rows: u64,
-) -> Result<Held, ElfError>
-    requires { FillAsks file job image keys indices kinds starts lengths rows }
+) -> Result<Accepted, ElfError>
+    requires { FillAsks file job image keys indices kinds starts lengths }
     ensures { Fills file builtins job image ro keys indices kinds starts lengths result }
 {
-    let layout = job.layout;
-    let placing = job.placing;
-    let held = keyed_parts(
-        image, keys, indices, kinds, starts, lengths, file, builtins, job, rows,
-    )?;
-    copy_placed(ro, image, file, layout, placing);
-    Ok(held)
+    let mut registry = FunctionRegistry {
+        keys,
+        indices,
+        kinds,
+        starts,
+        lengths,
+        used: 0,
+    };
+    let mut out = Outputs {
+        image,
+        registry: &mut registry,
+        moves: 0,
+    };
+    keyed_parts(&mut out, file, builtins, job)?;
+    copy_placed(ro, out.image(), file, job.layout, job.placing);
+    answer_of(out.registry.used, out.moves, job)
 }

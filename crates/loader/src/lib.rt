@@ -3,9 +3,7 @@
 ghost use Rattle.loader.specs.Load.{Tries};
 ghost use Rattle.loader.specs.Loads.{Loads};
 
-use answer::answer_of;
 use filling::{clear_all, fill_all};
-use program::FunctionTable;
 use validate::prepare;
 
 mod addresses;
@@ -56,15 +54,6 @@ fn attempt(
 {
     let job = prepare(file, builtins, config, image.len(), ro_section.len())?;
     let n = file.len();
-    let table = FunctionTable {
-        keys,
-        indices,
-        kinds,
-        starts,
-        lengths,
-        used: 0,
-    };
-    let rows = table.rows_lent() as u64;
     clear_all(
         &mut image[n..],
         ro_section,
@@ -74,7 +63,7 @@ fn attempt(
         starts,
         lengths,
     );
-    let held = fill_all(
+    fill_all(
         &mut image[..n],
         ro_section,
         keys,
@@ -85,9 +74,7 @@ fn attempt(
         file,
         builtins,
         job,
-        rows,
-    )?;
-    answer_of(held, job)
+    )
 }
 
 // A LOAD: the image, the read-only bytes and the table of a file, or a refusal and only zeros

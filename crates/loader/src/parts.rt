@@ -1,67 +1,38 @@
-// The parts of a load, joined two by two: a function over image and columns takes long to check, so each
+// The parts of a load, joined two by two: a function over outputs and inputs takes long to check, so each
 // holds two calls over them and no more.
 ghost use Rattle.loader.specs.Parts.{writing_trace, naming_trace};
-ghost use Rattle.loader.specs.InnerContracts.{PartAsks, FileSettles};
+ghost use Rattle.loader.specs.InnerContracts.{FirstAsks, PartAsks, Keeps, SettlesTo};
 ghost use Rattle.loader.specs.Load.{writing_count, naming_count};
 
 use crate::calls::register_calls;
-use crate::deeds::Held;
+use crate::deeds::{Inputs, Outputs};
 use crate::entry::register_entry;
 use crate::error::ElfError;
 use crate::labelling::register_labels;
 use crate::relocating::apply_relocations;
-use crate::validate::Job;
 
 // Calls, then relocations.
 pub(crate) fn calls_and_relocations(
-    image: &mut [u8],
-    keys: &mut [u32],
-    indices: &mut [u32],
-    kinds: &mut [u32],
-    starts: &mut [u32],
-    lengths: &mut [u32],
-    file: &[u8],
-    builtins: &[u32],
-    table: &[u32],
-    job: Job,
-    rows: u64,
-) -> Result<Held, ElfError>
-    requires { PartAsks (writing_count job) file table job image keys indices kinds starts lengths rows 0 0 }
-    ensures { FileSettles writing_trace file builtins job file.now image keys indices kinds starts lengths (writing_count job) 0 0 result }
+    out: &mut Outputs<'_, '_>,
+    inputs: &Inputs<'_>,
+) -> Result<(), ElfError>
+    requires { FirstAsks (writing_count inputs.now.job) inputs.now out.old }
+    ensures keeps { Keeps out.old out.new }
+    ensures settles { SettlesTo (writing_trace inputs.now.file.now inputs.now.builtins.now inputs.now.job inputs.now.file.now) (writing_count inputs.now.job) out.old out.new result }
 {
-    let held = register_calls(
-        image, keys, indices, kinds, starts, lengths, file, builtins, table, job, rows,
-    )?;
-    apply_relocations(
-        image, keys, indices, kinds, starts, lengths, file, builtins, table, job, rows, held.used,
-        held.moves,
-    )
+    register_calls(out, inputs)?;
+    apply_relocations(out, inputs)
 }
 
 // Labels, then the entry.
 pub(crate) fn labels_and_entry(
-    image: &mut [u8],
-    keys: &mut [u32],
-    indices: &mut [u32],
-    kinds: &mut [u32],
-    starts: &mut [u32],
-    lengths: &mut [u32],
-    file: &[u8],
-    builtins: &[u32],
-    table: &[u32],
-    job: Job,
-    rows: u64,
-    used: usize,
-    moves: u64,
-) -> Result<Held, ElfError>
-    requires { PartAsks (naming_count file.now job) file table job image keys indices kinds starts lengths rows used moves }
-    ensures { FileSettles naming_trace file builtins job image.old image keys indices kinds starts lengths (naming_count file.now job) used moves result }
+    out: &mut Outputs<'_, '_>,
+    inputs: &Inputs<'_>,
+) -> Result<(), ElfError>
+    requires { PartAsks (naming_count inputs.now.file.now inputs.now.job) inputs.now out.old }
+    ensures keeps { Keeps out.old out.new }
+    ensures settles { SettlesTo (naming_trace inputs.now.file.now inputs.now.builtins.now inputs.now.job out.old.image.now) (naming_count inputs.now.file.now inputs.now.job) out.old out.new result }
 {
-    let held = register_labels(
-        image, keys, indices, kinds, starts, lengths, file, builtins, table, job, rows, used, moves,
-    )?;
-    register_entry(
-        image, keys, indices, kinds, starts, lengths, builtins, table, job, rows, held.used,
-        held.moves,
-    )
+    register_labels(out, inputs)?;
+    register_entry(out, inputs)
 }

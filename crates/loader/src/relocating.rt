@@ -1,51 +1,45 @@
 // The relocations of a file, applied to the image one after another.
 ghost use Rattle.loader.specs.Relocations.{relocations_trace, relocation_count};
-ghost use Rattle.loader.specs.InnerContracts.{PartAsks, FileSettles};
+ghost use Rattle.loader.specs.InnerContracts.{PartAsks, Keeps, SettlesTo};
 
-use crate::deeds::{Held, perform_relocation};
+use crate::deeds::{Inputs, Outputs};
 use crate::error::ElfError;
 use crate::relocations::{plan_relocation, relocation_at, used_header};
-use crate::validate::Job;
 
 // Every relocation in turn, up to the first refusal. `header` is the program header used last.
 pub(crate) fn apply_relocations(
-    image: &mut [u8],
-    keys: &mut [u32],
-    indices: &mut [u32],
-    kinds: &mut [u32],
-    starts: &mut [u32],
-    lengths: &mut [u32],
-    file: &[u8],
-    builtins: &[u32],
-    table: &[u32],
-    job: Job,
-    rows: u64,
-    used: usize,
-    moves: u64,
-) -> Result<Held, ElfError>
-    requires { PartAsks (relocation_count job) file table job image keys indices kinds starts lengths rows used moves }
-    ensures { FileSettles relocations_trace file builtins job image.old image keys indices kinds starts lengths (relocation_count job) used moves result }
+    out: &mut Outputs<'_, '_>,
+    inputs: &Inputs<'_>,
+) -> Result<(), ElfError>
+    requires { PartAsks (relocation_count inputs.now.job) inputs.now out.old }
+    ensures keeps { Keeps out.old out.new }
+    ensures settles { SettlesTo (relocations_trace inputs.now.file.now inputs.now.builtins.now inputs.now.job out.old.image.now) (relocation_count inputs.now.job) out.old out.new result }
 {
+    let Inputs {
+        file,
+        builtins,
+        table,
+        job,
+    } = *inputs;
     let layout = job.layout;
     let version2 = job.version2;
-    let older = layout.dynamic_relocations;
-    let newer = layout.dynamic_relas;
-    let count = (older.count + newer.count) as u32;
+    let count = (layout.dynamic_relocations.count + layout.dynamic_relas.count) as u32;
     let mut header = None;
-    let mut held = Held { used, moves };
-    let mut i: u32 = 0;
-    while i < count {
+    for i in 0..count {
         let r = relocation_at(file, layout, i);
-        let addend = r.addend;
-        let next = used_header(file, layout, version2, header, r.r_offset);
-        header = next;
+        header = used_header(file, layout, version2, header, r.r_offset);
         let deed = plan_relocation(
-            file, image, builtins, table, job, next, r.r_offset, r.r_info, addend,
+            file,
+            out.image(),
+            builtins,
+            table,
+            job,
+            header,
+            r.r_offset,
+            r.r_info,
+            r.addend,
         )?;
-        held = perform_relocation(
-            image, keys, indices, kinds, starts, lengths, rows, held.used, held.moves, deed,
-        )?;
-        i += 1;
+        out.perform(deed)?;
     }
-    Ok(held)
+    Ok(())
 }

@@ -14,7 +14,7 @@ use Rattle.program.specs.declared.RegisterError.TheVariants.{Collision, Full}
 use Rattle.program.specs.declared.Row.{Row}
 use Rattle.program.specs.Search.{binary_search}
 use Rattle.program.specs.Rows.{RegisterResult, rank, Ascending, find, remove, register, registered, unregister}
-use Rattle.program.specs.Table.{Slices, least, capacity, column, lay, row_at, rows_of, opened_row, closed_row, counted, place_in, register_in, registered_by, registered_in, unregister_at, unregistered_at, unregister_in, unregistered_in, Registers, Unregisters, lookup_in, found_at, lookup_ascending_in, number_at, row_ascending_in, row_of_found, index_of_row, index_ascending_in, index_of_found, ranks_of, holds, Ready, Registration, Removal}
+use Rattle.program.specs.Table.{Slices, SameLens, least, capacity, column, lay, row_at, rows_of, opened_row, closed_row, counted, place_in, register_in, registered_by, registered_in, unregister_at, unregistered_at, unregister_in, unregistered_in, Registers, Unregisters, lookup_in, found_at, lookup_ascending_in, number_at, row_ascending_in, row_of_found, index_of_row, index_ascending_in, index_of_found, ranks_of, holds, Ready, Registration, Removal}
 use Rattle.program.proofs.Cases.{by_test}
 use Rattle.program.proofs.Searches.{search_place}
 use Rattle.program.proofs.Laying.{zero_row, within_room, length_column, length_rows, ranks_rows, row_at_lem, rows_lay, capacity_lay, opened_lay, closed_lay}
@@ -24,12 +24,8 @@ use Rattle.program.proofs.Laws.{registered_ascending, registered_room, remove_as
 
 -- ---- slices of the same lengths
 
-pub record SameLens (t u : Slices) : Type 0 where
-  pub keys_as : length u.keys ≡ length t.keys
-  pub indices_as : length u.indices ≡ length t.indices
-  pub kinds_as : length u.kinds ≡ length t.kinds
-  pub starts_as : length u.starts ≡ length t.starts
-  pub lengths_as : length u.lengths ≡ length t.lengths
+pub same_refl : (t : Slices) → SameLens t t
+same_refl t = record { keys_as = refl; indices_as = refl; kinds_as = refl; starts_as = refl; lengths_as = refl }
 
 pub same_trans : (t u v : Slices) → SameLens t u → SameLens u v → SameLens t v
 same_trans t u v p q = record {
@@ -51,7 +47,7 @@ lay_same t u rs s = simp (s.keys_as, s.indices_as, s.kinds_as, s.starts_as, s.le
 -- ---- rows that were laid
 
 module _ (t : Slices) (rs : List Row) (room : length rs ≤ capacity t) where
-  same_lay : SameLens t (lay t rs)
+  pub same_lay : SameLens t (lay t rs)
   unfolding lay capacity least
   same_lay = record {
     keys_as = length_column (λ (r : Row). r.key) rs (length t.keys) (omega arith);
@@ -131,7 +127,7 @@ index_at t None = refl
 -- ---- a table
 
 module _ (t : Slices) (used : ℕ) (ready : Ready t used) where
-  counted_ready : counted t used ≡ used
+  pub counted_ready : counted t used ≡ used
   unfolding counted
   counted_ready = let r = ready.room in omega arith
 
@@ -277,6 +273,9 @@ module _ (t u : Slices) (used : ℕ) (row : Row) (a : RegisterResult) (ready : R
   pub rows_after_lem : rows_of u (length rows') ≡ rows'
   rows_after_lem = rw did.leaves (rows_lay t rows' room')
 
+  pub same_after : SameLens t u
+  same_after = rw did.leaves (same_lay t rows' room')
+
 -- the slices u hold the rows as a table of n rows
 pub record IsTable (u : Slices) (n : ℕ) (rows : List Row) : Type 0 where
   pub ready : Ready u n
@@ -301,3 +300,11 @@ module _ (t u : Slices) (used k : ℕ) (ready : Ready t used) where
       did.leaves
       ∙ ap (lay t) (remove_missing k (rows_of t used) ((absent_iff k (rows_of t used)).0 (sym did.answers)))
       ∙ sym ready.laid
+
+  pub same_removed : (a : Option ℕ) → Removal t u used k a → SameLens t u
+  same_removed (Some m) did =
+      let held = (gone_iff k (rows_of t used) m).0 (sym did.answers) in
+      let less = length_remove k held.0.0 (rows_of t used) held.0.1 in
+      let room : length (remove k (rows_of t used)) ≤ capacity t = let r = ready.room in omega (arith, less, length_rows t used) in
+      rw did.leaves (same_lay t (remove k (rows_of t used)) room)
+  same_removed None did = rw (after_absent did) (same_refl t)

@@ -62,6 +62,14 @@ least a b c d e = min a (min b (min c (min d e)))
 unfoldable pub capacity : Slices → ℕ
 capacity t = least (length t.keys) (length t.indices) (length t.kinds) (length t.starts) (length t.lengths)
 
+-- each slice has as many numbers as before
+pub record SameLens (t u : Slices) : Type 0 where
+  pub keys_as : length u.keys ≡ length t.keys
+  pub indices_as : length u.indices ≡ length t.indices
+  pub kinds_as : length u.kinds ≡ length t.kinds
+  pub starts_as : length u.starts ≡ length t.starts
+  pub lengths_as : length u.lengths ≡ length t.lengths
+
 -- each slice has at least n numbers
 pub record Within (n : ℕ) (t : Slices) : Type 0 where
   pub in_keys : n ≤ length t.keys

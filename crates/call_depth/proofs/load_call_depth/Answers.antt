@@ -5,7 +5,8 @@ use mathlib.Core.Path.{◌≡◌}
 use lib.ListN.{length, get_or}
 use native.Mathlib.Omega.{arith}
 use Rattle.program.specs.Table.{slices, capacity}
-use Rattle.program.proofs.Tables.{SameLens, capacity_same}
+use Rattle.program.specs.Table.{SameLens}
+use Rattle.program.proofs.Tables.{capacity_same}
 use Rattle.call_depth.specs.Asked.{depth_asked}
 use Rattle.call_depth.proofs.After.{Made}
 use Rattle.call_depth.proofs.Meaning.{depth_means}

@@ -4,18 +4,19 @@
 use mathlib.Core.Path.{◌≡◌}
 use Prim.Native.Nat.{◌+◌, ◌-◌, ◌*◌}
 use lib.ListN.{length}
-use Rattle.program.specs.Table.{slices}
+use Rattle.program.specs.Table.{columns_of}
 use Rattle.loader.specs.Calls.{slot_count, slot_trace}
-use Rattle.loader.specs.CallLoop.{ahead, CallsHeld}
+use Rattle.loader.specs.CallLoop.{ahead, Holds}
+use Rattle.loader.specs.InnerContracts.{Keeps}
 use Rattle.loader.proofs.Going.{Going}
 use Rattle.loader.proofs.calls.register_calls.Given as goal
 
 abbrev pub invariant-loop-i : goal.invariant-loop-i
 invariant-loop-i l =
-    (Going (slot_trace l.file l.builtins l.job) (slot_count l.job) l.file (ahead (l.job.start + 8 * l.i) l.image l.file) (slices l.initial.keys l.initial.indices l.initial.kinds l.initial.starts l.initial.lengths) (slices l.keys l.indices l.kinds l.starts l.lengths) 0 0 l.held.used l.held.moves l.i)
-    × (length l.image ≡ length l.file)
-    × CallsHeld l.builtins l.job l.seen (slices l.keys l.indices l.kinds l.starts l.lengths) l.held.used
+    Keeps l.initial.out l.out
+    × (Going (slot_trace l.inputs.file.now l.inputs.builtins.now l.inputs.job) (slot_count l.inputs.job) l.inputs.file.now (ahead (l.inputs.job.start + 8 * l.i) l.out.image.now l.inputs.file.now) (columns_of l.initial.out.registry.now) (columns_of l.out.registry.now) l.initial.out.registry.now.used l.initial.out.moves l.out.registry.now.used l.out.moves l.i)
+    × Holds l.inputs l.seen l.out
     × (length l.seen ≡ 1024)
 
 abbrev pub decreases-loop-i : goal.decreases-loop-i
-decreases-loop-i l = slot_count l.job - l.i
+decreases-loop-i l = slot_count l.inputs.job - l.i

@@ -3,122 +3,112 @@
 -- Assumes nothing.
 use mathlib.Core.Path.{◌≡◌, refl, sym, subst, ◌∙◌}
 use mathlib.Core.List.{List}
-use Prim.Native.Nat.{ℕ, ◌+◌, ◌-◌, ◌*◌, ◌/◌, ◌<◌, ◌≤◌, ◌^◌}
-use mir.Syntax.{w64}
-use mir.Val.{Fits}
+use Prim.Native.Nat.{ℕ, ◌+◌, ◌-◌, ◌*◌, ◌<◌, ◌≤◌}
 use native.Mathlib.Omega.{arith}
 use lib.ListN.{length}
-use Rattle.program.specs.Table.{Slices, slices}
-use Rattle.program.proofs.Tables.{SameLens}
-use Rattle.loader.specs.declared.deeds.Held.{Held}
-use Rattle.loader.specs.declared.error.ElfError.{ElfError}
+use Rattle.program.specs.Table.{Slices, columns_of}
 use Rattle.std.specs.Prelude.{Result, Ok}
 use Rattle.std.proofs.lemmas.Result.{err_from_is_err_and}
+use Rattle.loader.specs.declared.error.ElfError.{ElfError}
 use Rattle.loader.specs.Trace.{Trace}
 use Rattle.loader.specs.Calls.{slot_count, slot_trace}
 use Rattle.loader.specs.CallLoop.{ahead, StillHeld}
-use Rattle.loader.specs.InnerContracts.{Settles}
+use Rattle.loader.specs.InnerContracts.{SettlesAs, held_of}
 use Rattle.loader.proofs.Ahead.{ahead_length, slot_ahead}
 use Rattle.loader.proofs.Slots.{next_bounds, calls_ahead, text_in}
-use Rattle.loader.proofs.Going.{in_start, in_begins, in_stop, in_on, in_done}
+use Rattle.loader.proofs.Going.{keeps_all, keeps_on, in_start, in_begins, in_stop, in_on, in_done}
+use Rattle.loader.proofs.calls.register_slots.Goals.{After-call_step}
 use Rattle.loader.proofs.calls.register_slots.Goals as goal
-
-small : (i to n file start : ℕ) → i < to → to ≤ n / 8 → start + n ≤ file → file ≤ 2 ^ 24 → Fits w64 (i + 1)
-small i to n file start l h m k = record { fits = omega arith }
 
 pub next_call-i-requires : goal.next_call-i-requires
 next_call-i-requires c =
-    let q : ℕ = c.args.job.start + 8 * c.args.to in
-    let inside : q ≤ length c.args.file.now = text_in c.args.job.start c.args.job.length c.args.to _ c.requires.0.text c.requires.4 in
-    (c.requires.3, inside, c.requires.0.short)
+    let j = c.args.inputs.now.job in
+    (c.requires.1, text_in j.start j.length c.args.to _ c.requires.0.0.text c.requires.2, c.requires.0.0.short)
 
 pub loop-i-init : goal.loop-i-init
 loop-i-init c =
-    let q : ℕ = c.args.job.start + 8 * c.args.to in
-    let A : List ℕ → List ℕ = λ im. ahead (q) im c.args.file.now in
-    let T₀ : Slices = slices c.args.keys.now c.args.indices.now c.args.kinds.now c.args.starts.now c.args.lengths.now in
-    let step : ℕ → List ℕ → Trace = slot_trace c.args.file.now c.args.builtins.now c.args.job in
-    let im = A c.args.image.now in (
-      calls_ahead c.args.file.now c.args.builtins.now c.args.job c.requires.0 c.args.from c.args.to c.requires.4 im im T₀ T₀ c.args.rows c.args.used c.args.moves c.args.used c.args.moves c.args.from c.next_call-i.result c.requires.5
-          (in_start step (slot_count c.args.job) c.args.from c.args.to c.requires.4 im T₀ c.args.rows c.args.used c.args.moves c.requires.3 c.requires.5)
+    let i = c.args.inputs.now in
+    let o = c.args.out.now in
+    let step : ℕ → List ℕ → Trace = slot_trace i.file.now i.builtins.now i.job in
+    let im = ahead (i.job.start + 8 * c.args.to) o.image.now i.file.now in (
+      keeps_all o,
+      calls_ahead i.file.now i.builtins.now i.job c.requires.0.0 c.args.from c.args.to c.requires.2 im im (columns_of o.registry.now) (columns_of o.registry.now) o.registry.now.used o.moves o.registry.now.used o.moves c.args.from c.next_call-i.result c.requires.0.3
+          (in_start step (slot_count i.job) c.args.from c.args.to c.requires.2 im (columns_of o.registry.now) o.registry.now.used o.moves c.requires.1 c.requires.0.3)
           c.next_call-i.ensures,
-      refl,
-      c.requires.6,
+      c.requires.3,
       refl,
     )
 
 pub call_step-requires : goal.call_step-requires
 call_step-requires c =
-    let step : ℕ → List ℕ → Trace = slot_trace c.args.file.now c.args.builtins.now c.args.job in
-    let q : ℕ = c.args.job.start + 8 * c.args.to in
-    let A : List ℕ → List ℕ = λ im. ahead (q) im c.args.file.now in
-    let T₀ : Slices = slices c.args.keys.now c.args.indices.now c.args.kinds.now c.args.starts.now c.args.lengths.now in
-    let T : Slices = slices c.loop-i.keys c.loop-i.indices c.loop-i.kinds c.loop-i.starts c.loop-i.lengths in (
-      c.requires.0,
-      c.requires.1,
-      c.loop-i.invariant.1 ∙ c.requires.2,
-      omega (arith, c.loop-i-test.true, c.requires.4),
-      in_begins step (slot_count c.args.job) c.args.from c.args.to c.requires.4 (A c.args.image.now) (A c.loop-i.image) T₀ T c.args.rows c.args.used c.args.moves c.loop-i.held.used c.loop-i.held.moves c.loop-i.i c.requires.5 c.loop-i.invariant.0 c.loop-i-test.true,
+    let i = c.args.inputs.now in
+    let o₀ = c.args.out.now in
+    let o = c.loop-i.out in
+    let q : ℕ = i.job.start + 8 * c.args.to in (
+      (
+        c.requires.0.0,
+        c.requires.0.1,
+        c.loop-i.invariant.0.image_as ∙ c.requires.0.2,
+        in_begins (slot_trace i.file.now i.builtins.now i.job) (slot_count i.job) c.args.from c.args.to c.requires.2 (ahead q o₀.image.now i.file.now) (ahead q o.image.now i.file.now) (columns_of o₀.registry.now) (columns_of o.registry.now) o₀.registry.now.used o₀.moves o.registry.now.used o.moves c.loop-i.i c.requires.0.3 c.loop-i.invariant.1 c.loop-i-test.true,
+      ),
+      omega (arith, c.loop-i-test.true, c.requires.2),
       c.loop-i.invariant.2,
     )
 
-pub returns-in_err-held : goal.returns-in_err-held
-returns-in_err-held c =
-    let step : ℕ → List ℕ → Trace = slot_trace c.args.file.now c.args.builtins.now c.args.job in
-    let q : ℕ = c.args.job.start + 8 * c.args.to in
-    let A : List ℕ → List ℕ = λ im. ahead (q) im c.args.file.now in
-    let T₀ : Slices = slices c.args.keys.now c.args.indices.now c.args.kinds.now c.args.starts.now c.args.lengths.now in
-    let T : Slices = slices c.loop-i.keys c.loop-i.indices c.loop-i.kinds c.loop-i.starts c.loop-i.lengths in
-    let im' : List ℕ = c.call_step.new.image in
-    let U : Slices = slices c.call_step.new.keys c.call_step.new.indices c.call_step.new.kinds c.call_step.new.starts c.call_step.new.lengths in
-    let Did : Result Held ElfError → Type 0 = λ a. Settles (step c.loop-i.i (A c.loop-i.image)) (A (im')) (T) (U) 1 c.loop-i.held.used c.loop-i.held.moves a in
-    let inside : q ≤ length c.args.file.now = text_in c.args.job.start c.args.job.length c.args.to _ c.requires.0.text c.requires.4 in
-    let did : (b : Result Held ElfError) → c.call_step.result ≡ b → Did b = λ b e. subst (Did) e (slot_ahead c.args.file.now (q) c.args.builtins.now c.args.job c.loop-i.i c.loop-i.image (im') (T) (U) c.loop-i.held.used c.loop-i.held.moves _ (omega (arith, c.loop-i-test.true)) (omega (arith, inside, c.loop-i.invariant.1, c.requires.2)) c.call_step.ensures.0) in
-    let p = err_from_is_err_and c.from_residual.result c.from_residual.ensures.1 in
-    rw (p.1, p.2) ((in_stop step (slot_count c.args.job) c.args.from c.args.to c.requires.4 (A c.args.image.now) (A c.loop-i.image) T₀ T c.args.rows c.args.used c.args.moves c.loop-i.held.used c.loop-i.held.moves c.loop-i.i c.requires.5 c.loop-i.invariant.0 c.loop-i-test.true (A im') U _ _ (did _ c.in_err-held.was), tt))
+-- the slot's trace from the image whose bytes from the run's end on are the file's, whatever its answer
+stepped : (r : After-call_step) (a : Result (Unit {0}) ElfError) → r.call_step.result ≡ a
+    → SettlesAs (slot_trace r.args.inputs.now.file.now r.args.inputs.now.builtins.now r.args.inputs.now.job r.loop-i.i (ahead (r.args.inputs.now.job.start + 8 * r.args.to) r.loop-i.out.image.now r.args.inputs.now.file.now))
+    (ahead (r.args.inputs.now.job.start + 8 * r.args.to) r.call_step.new.out.image.now r.args.inputs.now.file.now) 1 r.loop-i.out r.call_step.new.out a
+stepped r a e =
+    let i = r.args.inputs.now in
+    let o = r.loop-i.out in
+    let o' = r.call_step.new.out in
+    let q : ℕ = i.job.start + 8 * r.args.to in
+    let inside : q ≤ length i.file.now = text_in i.job.start i.job.length r.args.to _ r.requires.0.0.text r.requires.2 in
+    subst (λ (b : Result (Unit {0}) ElfError). SettlesAs (slot_trace i.file.now i.builtins.now i.job r.loop-i.i (ahead q o.image.now i.file.now)) (ahead q o'.image.now i.file.now) 1 o o' b) e
+    (slot_ahead i.file.now q i.builtins.now i.job r.loop-i.i o.image.now o'.image.now (columns_of o.registry.now) (columns_of o'.registry.now) o.registry.now.used o.moves (held_of r.call_step.result o') (omega (arith, r.loop-i-test.true)) (omega (arith, inside, r.loop-i.invariant.0.image_as, r.requires.0.2)) r.call_step.ensures.settles)
 
-pub overflow_add-i : goal.overflow_add-i
-overflow_add-i c =
-    small c.loop-i.i c.args.to c.args.job.length _ c.args.job.start c.loop-i-test.true c.requires.4 c.requires.0.text c.requires.0.short
+pub returns-in_err-call_step-clause-leads : goal.returns-in_err-call_step-clause-leads
+returns-in_err-call_step-clause-leads c =
+    let i = c.args.inputs.now in
+    let o₀ = c.args.out.now in
+    let o = c.loop-i.out in
+    let o' = c.call_step.new.out in
+    let q : ℕ = i.job.start + 8 * c.args.to in
+    let p = err_from_is_err_and c.from_residual.result c.from_residual.ensures.1 in
+    rw (p.1, p.2) (in_stop (slot_trace i.file.now i.builtins.now i.job) (slot_count i.job) c.args.from c.args.to c.requires.2 (ahead q o₀.image.now i.file.now) (ahead q o.image.now i.file.now) (columns_of o₀.registry.now) (columns_of o.registry.now) o₀.registry.now.used o₀.moves o.registry.now.used o.moves c.loop-i.i c.requires.0.3 c.loop-i.invariant.1 c.loop-i-test.true (ahead q o'.image.now i.file.now) (columns_of o'.registry.now) _ _
+    (stepped (goal.at.returns-in_err-call_step-clause-leads c).After-call_step _ c.in_err-call_step.was))
 
 pub next_call-i-requires-in-loop-i : goal.next_call-i-requires-in-loop-i
 next_call-i-requires-in-loop-i c =
-    let q : ℕ = c.args.job.start + 8 * c.args.to in
-    let inside : q ≤ length c.args.file.now = text_in c.args.job.start c.args.job.length c.args.to _ c.requires.0.text c.requires.4 in
-    (omega (arith, c.loop-i-test.true), inside, c.requires.0.short)
+    let j = c.args.inputs.now.job in
+    (omega (arith, c.loop-i-test.true), text_in j.start j.length c.args.to _ c.requires.0.0.text c.requires.2, c.requires.0.0.short)
 
 pub loop-i-smaller : goal.loop-i-smaller
 loop-i-smaller c =
-    omega (arith, c.loop-i-test.true, (next_bounds c.args.file.now c.args.job.start (c.args.to - (c.loop-i.i + 1)) (c.loop-i.i + 1)).0, c.next_call-i-in-loop-i.ensures)
+    omega (arith, c.loop-i-test.true, (next_bounds c.args.inputs.now.file.now c.args.inputs.now.job.start (c.args.to - (c.loop-i.i + 1)) (c.loop-i.i + 1)).0, c.next_call-i-in-loop-i.ensures)
 
 pub loop-i-preserved : goal.loop-i-preserved
 loop-i-preserved c =
-    let im' : List ℕ = c.call_step.new.image in
-    let q : ℕ = c.args.job.start + 8 * c.args.to in
-    let A : List ℕ → List ℕ = λ im. ahead (q) im c.args.file.now in
-    let step : ℕ → List ℕ → Trace = slot_trace c.args.file.now c.args.builtins.now c.args.job in
-    let T₀ : Slices = slices c.args.keys.now c.args.indices.now c.args.kinds.now c.args.starts.now c.args.lengths.now in
-    let T : Slices = slices c.loop-i.keys c.loop-i.indices c.loop-i.kinds c.loop-i.starts c.loop-i.lengths in
-    let U : Slices = slices c.call_step.new.keys c.call_step.new.indices c.call_step.new.kinds c.call_step.new.starts c.call_step.new.lengths in
-    let lens : SameLens (T) (U) = record { keys_as = c.call_step.auto.keys; indices_as = c.call_step.auto.indices; kinds_as = c.call_step.auto.kinds; starts_as = c.call_step.auto.starts; lengths_as = c.call_step.auto.lengths } in
-    let Did : Result Held ElfError → Type 0 = λ a. Settles (step c.loop-i.i (A c.loop-i.image)) (A (im')) (T) (U) 1 c.loop-i.held.used c.loop-i.held.moves a in
-    let inside : q ≤ length c.args.file.now = text_in c.args.job.start c.args.job.length c.args.to _ c.requires.0.text c.requires.4 in
-    let did : (b : Result Held ElfError) → c.call_step.result ≡ b → Did b = λ b e. subst (Did) e (slot_ahead c.args.file.now (q) c.args.builtins.now c.args.job c.loop-i.i c.loop-i.image (im') (T) (U) c.loop-i.held.used c.loop-i.held.moves _ (omega (arith, c.loop-i-test.true)) (omega (arith, inside, c.loop-i.invariant.1, c.requires.2)) c.call_step.ensures.0) in
-    let still : (b : Result Held ElfError) → c.call_step.result ≡ b → StillHeld c.args.builtins.now c.args.job c.call_step.new.seen (U) b = λ b e. subst (StillHeld c.args.builtins.now c.args.job c.call_step.new.seen (U)) e c.call_step.ensures.1 in
-    let len : length im' ≡ length c.args.image.now = c.call_step.auto.image ∙ c.loop-i.invariant.1 in
-    let same : length (A im') ≡ length (A c.loop-i.image) = ahead_length im' c.args.file.now q (len ∙ c.requires.2) ∙ c.call_step.auto.image ∙ sym (ahead_length c.loop-i.image c.args.file.now q (c.loop-i.invariant.1 ∙ c.requires.2)) in
-    let on = in_on step (slot_count c.args.job) c.args.from c.args.to c.requires.4 (A c.args.image.now) (A c.loop-i.image) T₀ T c.args.rows c.args.used c.args.moves c.loop-i.held.used c.loop-i.held.moves c.loop-i.i c.requires.5 c.loop-i.invariant.0 c.loop-i-test.true (A im') U _ _ lens same (did (Ok c.in_ok-held.held) c.in_ok-held.was) in (
-      calls_ahead c.args.file.now c.args.builtins.now c.args.job c.requires.0 c.args.from c.args.to c.requires.4 (A c.args.image.now) (A im') T₀ U c.args.rows c.args.used c.args.moves _ _ (c.loop-i.i + 1) c.next_call-i-in-loop-i.result c.requires.5 on c.next_call-i-in-loop-i.ensures,
-      len,
-      still (Ok c.in_ok-held.held) c.in_ok-held.was,
+    let i = c.args.inputs.now in
+    let o₀ = c.args.out.now in
+    let o = c.loop-i.out in
+    let o' = c.call_step.new.out in
+    let q : ℕ = i.job.start + 8 * c.args.to in
+    let was : length o.image.now ≡ length i.file.now = c.loop-i.invariant.0.image_as ∙ c.requires.0.2 in
+    let same : length (ahead q o'.image.now i.file.now) ≡ length (ahead q o.image.now i.file.now) = ahead_length o'.image.now i.file.now q (c.call_step.ensures.keeps.image_as ∙ was) ∙ c.call_step.ensures.keeps.image_as ∙ sym (ahead_length o.image.now i.file.now q was) in
+    let on = in_on (slot_trace i.file.now i.builtins.now i.job) (slot_count i.job) c.args.from c.args.to c.requires.2 (ahead q o₀.image.now i.file.now) (ahead q o.image.now i.file.now) (columns_of o₀.registry.now) (columns_of o.registry.now) o₀.registry.now.used o₀.moves o.registry.now.used o.moves c.loop-i.i c.requires.0.3 c.loop-i.invariant.1 c.loop-i-test.true (ahead q o'.image.now i.file.now) (columns_of o'.registry.now) o'.registry.now.used o'.moves c.call_step.ensures.keeps.table_as same
+    (stepped (goal.at.loop-i-preserved c).After-call_step (Ok tt) c.in_ok-call_step.was) in (
+      keeps_on o₀ o o' c.loop-i.invariant.0 c.call_step.ensures.keeps,
+      calls_ahead i.file.now i.builtins.now i.job c.requires.0.0 c.args.from c.args.to c.requires.2 (ahead q o₀.image.now i.file.now) (ahead q o'.image.now i.file.now) (columns_of o₀.registry.now) (columns_of o'.registry.now) o₀.registry.now.used o₀.moves _ _ (c.loop-i.i + 1) c.next_call-i-in-loop-i.result c.requires.0.3 on c.next_call-i-in-loop-i.ensures,
+      subst (StillHeld i c.call_step.new.seen o') c.in_ok-call_step.was c.call_step.ensures.held,
       c.call_step.auto.seen ∙ c.loop-i.invariant.3,
     )
 
-pub returns : goal.returns
-returns c =
-    let step : ℕ → List ℕ → Trace = slot_trace c.args.file.now c.args.builtins.now c.args.job in
-    let q : ℕ = c.args.job.start + 8 * c.args.to in
-    let A : List ℕ → List ℕ = λ im. ahead (q) im c.args.file.now in
-    let T₀ : Slices = slices c.args.keys.now c.args.indices.now c.args.kinds.now c.args.starts.now c.args.lengths.now in
-    let T : Slices = slices c.loop-i.keys c.loop-i.indices c.loop-i.kinds c.loop-i.starts c.loop-i.lengths in
-    (in_done step (slot_count c.args.job) c.args.from c.args.to c.requires.4 (A c.args.image.now) (A c.loop-i.image) T₀ T c.args.rows c.args.used c.args.moves c.loop-i.held.used c.loop-i.held.moves c.loop-i.i c.requires.5 c.loop-i.invariant.0 c.loop-i-test.false, c.loop-i.invariant.2)
+pub returns-clause-leads : goal.returns-clause-leads
+returns-clause-leads c =
+    let i = c.args.inputs.now in
+    let o₀ = c.args.out.now in
+    let o = c.loop-i.out in
+    let q : ℕ = i.job.start + 8 * c.args.to in
+    in_done (slot_trace i.file.now i.builtins.now i.job) (slot_count i.job) c.args.from c.args.to c.requires.2 (ahead q o₀.image.now i.file.now) (ahead q o.image.now i.file.now) (columns_of o₀.registry.now) (columns_of o.registry.now) o₀.registry.now.used o₀.moves o.registry.now.used o.moves c.loop-i.i c.requires.0.3 c.loop-i.invariant.1 c.loop-i-test.false

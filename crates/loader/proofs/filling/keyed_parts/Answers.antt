@@ -6,11 +6,5 @@ use Rattle.loader.proofs.filling.keyed_parts.Goals as goal
 pub all_parts-requires : goal.all_parts-requires
 all_parts-requires c = (c.requires.0, none_keyed, c.requires.1, c.requires.2)
 
-pub returns-then-job : goal.returns-then-job
-returns-then-job c = c.all_parts.ensures
-
 pub all_parts-requires-2 : goal.all_parts-requires-2
 all_parts-requires-2 c = (c.requires.0, first_keyed _ _ c.key_table-table.ensures, c.requires.1, c.requires.2)
-
-pub returns : goal.returns
-returns c = c.all_parts-2.ensures

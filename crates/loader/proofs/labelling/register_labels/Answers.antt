@@ -3,80 +3,63 @@
 -- Assumes nothing.
 use mathlib.Core.Path.{◌≡◌, subst, sym, ◌∙◌}
 use mathlib.Core.List.{List}
-use Prim.Native.Nat.{ℕ}
-use borrow.Author.Count.{falls}
-use Rattle.program.specs.Table.{Slices, slices}
-use Rattle.program.proofs.Tables.{SameLens}
-use Rattle.loader.specs.declared.deeds.Held.{Held}
-use Rattle.loader.specs.declared.error.ElfError.{ElfError}
+use Prim.Native.Nat.{ℕ, ◌<◌}
+use Rattle.program.specs.Table.{columns_of}
 use Rattle.std.specs.Prelude.{Result, Ok}
 use Rattle.std.proofs.lemmas.Result.{err_from_is_err_and}
-use Rattle.loader.proofs.Performing.{refuses}
+use Rattle.loader.specs.declared.error.ElfError.{ElfError}
 use Rattle.loader.specs.Labels.{label_symbols, label_trace}
-use Rattle.loader.proofs.Turns.{turn_fits, symbols_fit, label_settles, deed_fits, more_labels, no_more_labels}
-use Rattle.loader.specs.InnerContracts.{Settles}
-use Rattle.loader.proofs.Going.{going_start, going_begins, going_stop, going_on, going_done}
+use Rattle.loader.specs.Trace.{Trace}
+use Rattle.loader.specs.InnerContracts.{SettlesTo, held_of}
+use Rattle.loader.proofs.Performing.{refuses}
+use Rattle.loader.proofs.Turns.{symbols_fit, label_settles, deed_fits, more_labels, no_more_labels}
+use Rattle.loader.proofs.Going.{keeps_all, keeps_on, over_start, over_begins, over_stop, over_on, over_done}
+use Rattle.loader.proofs.labelling.register_labels.Goals.{After-perform}
 use Rattle.loader.proofs.labelling.register_labels.Goals as goal
 
-pub overflow_cast-count : goal.overflow_cast-count
-overflow_cast-count c =
-    symbols_fit c.args.file.now c.args.job c.label_symbols-symbols.result c.requires.0 c.label_symbols-symbols.ensures
-
 pub loop-i-init : goal.loop-i-init
-loop-i-init c =
-    let T₀ : Slices = slices c.args.keys.now c.args.indices.now c.args.kinds.now c.args.starts.now c.args.lengths.now in
-    going_start (label_trace c.args.file.now c.args.builtins.now c.args.job) (label_symbols c.args.file.now c.args.job).count c.args.image.now T₀ c.args.rows c.args.used c.args.moves c.requires.3
+loop-i-init c = (keeps_all c.args.out.now, over_start (label_trace c.args.inputs.now.file.now c.args.inputs.now.builtins.now c.args.inputs.now.job) (label_symbols c.args.inputs.now.file.now c.args.inputs.now.job).count c.args.out.now c.requires.3)
 
-pub label_deed-requires : goal.label_deed-requires
-label_deed-requires c = (c.requires.0, c.requires.1)
+pub returns-in_err-deed-clause-settles : goal.returns-in_err-deed-clause-settles
+returns-in_err-deed-clause-settles c =
+    let i = c.args.inputs.now in
+    let o = c.loop-i.out in
+    let p = err_from_is_err_and c.from_residual.result c.from_residual.ensures.1 in
+    rw (p.1, p.2) (over_stop (label_trace i.file.now i.builtins.now i.job) (label_symbols i.file.now i.job).count c.args.out.now o c.loop-i.i c.requires.3 c.loop-i.invariant.1 (more_labels i.file.now i.job c.label_symbols-symbols.result c.loop-i.i c.label_symbols-symbols.ensures c.loop-i-test.true) o _
+    (label_settles i.file.now i.builtins.now i.job c.label_symbols-symbols.result c.loop-i.i o.image.now o.image.now (columns_of o.registry.now) (columns_of o.registry.now) o.registry.now.used o.moves _ c.label_symbols-symbols.ensures (sym c.in_err-deed.was ∙ c.label_deed.ensures) (refuses _ o.image.now o.image.now (columns_of o.registry.now) (columns_of o.registry.now) 1 o.registry.now.used o.moves)))
 
 pub perform-requires : goal.perform-requires
 perform-requires c =
-    let T₀ : Slices = slices c.args.keys.now c.args.indices.now c.args.kinds.now c.args.starts.now c.args.lengths.now in
-    let T : Slices = slices c.loop-i.keys c.loop-i.indices c.loop-i.kinds c.loop-i.starts c.loop-i.lengths in (
-      deed_fits _ c.args.file.now c.args.builtins.now c.args.job c.label_symbols-symbols.result c.loop-i.i (sym c.in_ok-deed.was ∙ c.label_deed.ensures),
-      going_begins (label_trace c.args.file.now c.args.builtins.now c.args.job) (label_symbols c.args.file.now c.args.job).count c.args.image.now c.loop-i.image T₀ T c.args.rows c.args.used c.args.moves c.loop-i.held.used c.loop-i.held.moves c.loop-i.i c.requires.3 c.loop-i.invariant (more_labels c.args.file.now c.args.job c.label_symbols-symbols.result c.loop-i.i c.label_symbols-symbols.ensures c.loop-i-test.true),
+    let i = c.args.inputs.now in (
+      deed_fits _ i.file.now i.builtins.now i.job c.label_symbols-symbols.result c.loop-i.i (sym c.in_ok-deed.was ∙ c.label_deed.ensures),
+      over_begins (label_trace i.file.now i.builtins.now i.job) (label_symbols i.file.now i.job).count c.args.out.now c.loop-i.out c.loop-i.i c.requires.3 c.loop-i.invariant.1 (more_labels i.file.now i.job c.label_symbols-symbols.result c.loop-i.i c.label_symbols-symbols.ensures c.loop-i-test.true),
     )
 
-pub returns-in_err-deed : goal.returns-in_err-deed
-returns-in_err-deed c =
-    let T₀ : Slices = slices c.args.keys.now c.args.indices.now c.args.kinds.now c.args.starts.now c.args.lengths.now in
-    let T : Slices = slices c.loop-i.keys c.loop-i.indices c.loop-i.kinds c.loop-i.starts c.loop-i.lengths in
-    let p = err_from_is_err_and c.from_residual.result c.from_residual.ensures.1 in
-    rw (p.1, p.2) (going_stop (label_trace c.args.file.now c.args.builtins.now c.args.job) (label_symbols c.args.file.now c.args.job).count c.args.image.now c.loop-i.image T₀ T c.args.rows c.args.used c.args.moves c.loop-i.held.used c.loop-i.held.moves c.loop-i.i c.requires.3 c.loop-i.invariant (more_labels c.args.file.now c.args.job c.label_symbols-symbols.result c.loop-i.i c.label_symbols-symbols.ensures c.loop-i-test.true) c.loop-i.image T _
-    (label_settles c.args.file.now c.args.builtins.now c.args.job c.label_symbols-symbols.result c.loop-i.i c.loop-i.image c.loop-i.image T T c.loop-i.held.used c.loop-i.held.moves _ c.label_symbols-symbols.ensures (sym c.in_err-deed.was ∙ c.label_deed.ensures) (refuses _ c.loop-i.image c.loop-i.image T T 1 c.loop-i.held.used c.loop-i.held.moves)))
+-- the turn's trace, whatever its deed's answer
+turned : (r : After-perform) (a : Result (Unit {0}) ElfError) → r.perform.result ≡ a → SettlesTo (label_trace r.args.inputs.now.file.now r.args.inputs.now.builtins.now r.args.inputs.now.job r.loop-i.i r.loop-i.out.image.now) 1 r.loop-i.out r.perform.new.self a
+turned r a e =
+    let i = r.args.inputs.now in
+    let o = r.loop-i.out in
+    let o' = r.perform.new.self in
+    subst (λ (b : Result (Unit {0}) ElfError). SettlesTo (label_trace i.file.now i.builtins.now i.job r.loop-i.i o.image.now) 1 o o' b) e
+    (label_settles i.file.now i.builtins.now i.job r.label_symbols-symbols.result r.loop-i.i o.image.now o'.image.now (columns_of o.registry.now) (columns_of o'.registry.now) o.registry.now.used o.moves (held_of r.perform.result o') r.label_symbols-symbols.ensures (sym r.in_ok-deed.was ∙ r.label_deed.ensures) r.perform.ensures.settles)
 
-pub returns-in_err-held : goal.returns-in_err-held
-returns-in_err-held c =
-    let T₀ : Slices = slices c.args.keys.now c.args.indices.now c.args.kinds.now c.args.starts.now c.args.lengths.now in
-    let T : Slices = slices c.loop-i.keys c.loop-i.indices c.loop-i.kinds c.loop-i.starts c.loop-i.lengths in
-    let im' : List ℕ = c.perform.new.image in
-    let U : Slices = slices c.perform.new.keys c.perform.new.indices c.perform.new.kinds c.perform.new.starts c.perform.new.lengths in
-    let Did : Result Held ElfError → Type 0 = λ a. Settles (label_trace c.args.file.now c.args.builtins.now c.args.job c.loop-i.i c.loop-i.image) (im') (T) (U) 1 c.loop-i.held.used c.loop-i.held.moves a in
-    let did : (b : Result Held ElfError) → c.perform.result ≡ b → Did b = λ b e. subst (Did) e (label_settles c.args.file.now c.args.builtins.now c.args.job c.label_symbols-symbols.result c.loop-i.i c.loop-i.image (im') (T) (U) c.loop-i.held.used c.loop-i.held.moves _ c.label_symbols-symbols.ensures (sym c.in_ok-deed.was ∙ c.label_deed.ensures) c.perform.ensures) in
-    let p = err_from_is_err_and c.from_residual-in_err-held.result c.from_residual-in_err-held.ensures.1 in
-    rw (p.1, p.2) (going_stop (label_trace c.args.file.now c.args.builtins.now c.args.job) (label_symbols c.args.file.now c.args.job).count c.args.image.now c.loop-i.image T₀ T c.args.rows c.args.used c.args.moves c.loop-i.held.used c.loop-i.held.moves c.loop-i.i c.requires.3 c.loop-i.invariant (more_labels c.args.file.now c.args.job c.label_symbols-symbols.result c.loop-i.i c.label_symbols-symbols.ensures c.loop-i-test.true) im' U _ (did _ c.in_err-held.was))
-
-pub overflow_add-i : goal.overflow_add-i
-overflow_add-i c =
-    turn_fits c.loop-i.i (label_symbols c.args.file.now c.args.job).count c.args.used (more_labels c.args.file.now c.args.job c.label_symbols-symbols.result c.loop-i.i c.label_symbols-symbols.ensures c.loop-i-test.true) c.requires.3.room.few
-
-pub loop-i-smaller : goal.loop-i-smaller
-loop-i-smaller c = falls _ _ c.loop-i-test.true
+pub returns-in_err-perform-clause-settles : goal.returns-in_err-perform-clause-settles
+returns-in_err-perform-clause-settles c =
+    let i = c.args.inputs.now in
+    let p = err_from_is_err_and c.from_residual-in_err-perform.result c.from_residual-in_err-perform.ensures.1 in
+    rw (p.1, p.2) (over_stop (label_trace i.file.now i.builtins.now i.job) (label_symbols i.file.now i.job).count c.args.out.now c.loop-i.out c.loop-i.i c.requires.3 c.loop-i.invariant.1 (more_labels i.file.now i.job c.label_symbols-symbols.result c.loop-i.i c.label_symbols-symbols.ensures c.loop-i-test.true) c.perform.new.self _
+    (turned (goal.at.returns-in_err-perform-clause-settles c).After-perform _ c.in_err-perform.was))
 
 pub loop-i-preserved : goal.loop-i-preserved
 loop-i-preserved c =
-    let T₀ : Slices = slices c.args.keys.now c.args.indices.now c.args.kinds.now c.args.starts.now c.args.lengths.now in
-    let T : Slices = slices c.loop-i.keys c.loop-i.indices c.loop-i.kinds c.loop-i.starts c.loop-i.lengths in
-    let im' : List ℕ = c.perform.new.image in
-    let U : Slices = slices c.perform.new.keys c.perform.new.indices c.perform.new.kinds c.perform.new.starts c.perform.new.lengths in
-    let lens : SameLens (T) (U) = record { keys_as = c.perform.auto.keys; indices_as = c.perform.auto.indices; kinds_as = c.perform.auto.kinds; starts_as = c.perform.auto.starts; lengths_as = c.perform.auto.lengths } in
-    let Did : Result Held ElfError → Type 0 = λ a. Settles (label_trace c.args.file.now c.args.builtins.now c.args.job c.loop-i.i c.loop-i.image) (im') (T) (U) 1 c.loop-i.held.used c.loop-i.held.moves a in
-    let did : (b : Result Held ElfError) → c.perform.result ≡ b → Did b = λ b e. subst (Did) e (label_settles c.args.file.now c.args.builtins.now c.args.job c.label_symbols-symbols.result c.loop-i.i c.loop-i.image (im') (T) (U) c.loop-i.held.used c.loop-i.held.moves _ c.label_symbols-symbols.ensures (sym c.in_ok-deed.was ∙ c.label_deed.ensures) c.perform.ensures) in
-    going_on (label_trace c.args.file.now c.args.builtins.now c.args.job) (label_symbols c.args.file.now c.args.job).count c.args.image.now c.loop-i.image T₀ T c.args.rows c.args.used c.args.moves c.loop-i.held.used c.loop-i.held.moves c.loop-i.i c.requires.3 c.loop-i.invariant (more_labels c.args.file.now c.args.job c.label_symbols-symbols.result c.loop-i.i c.label_symbols-symbols.ensures c.loop-i-test.true) im' U _ _ lens c.perform.auto.image (did (Ok c.in_ok-held.held) c.in_ok-held.was)
+    let i = c.args.inputs.now in (
+      keeps_on c.args.out.now c.loop-i.out c.perform.new.self c.loop-i.invariant.0 c.perform.ensures.keeps,
+      over_on (label_trace i.file.now i.builtins.now i.job) (label_symbols i.file.now i.job).count c.args.out.now c.loop-i.out c.loop-i.i c.requires.3 c.loop-i.invariant.1 (more_labels i.file.now i.job c.label_symbols-symbols.result c.loop-i.i c.label_symbols-symbols.ensures c.loop-i-test.true) c.perform.new.self c.perform.ensures.keeps
+          (turned (goal.at.loop-i-preserved c).After-perform (Ok tt) c.in_ok-perform.was),
+    )
 
-pub returns : goal.returns
-returns c =
-    let T₀ : Slices = slices c.args.keys.now c.args.indices.now c.args.kinds.now c.args.starts.now c.args.lengths.now in
-    let T : Slices = slices c.loop-i.keys c.loop-i.indices c.loop-i.kinds c.loop-i.starts c.loop-i.lengths in
-    going_done (label_trace c.args.file.now c.args.builtins.now c.args.job) (label_symbols c.args.file.now c.args.job).count c.args.image.now c.loop-i.image T₀ T c.args.rows c.args.used c.args.moves c.loop-i.held.used c.loop-i.held.moves c.loop-i.i c.requires.3 c.loop-i.invariant (no_more_labels c.args.file.now c.args.job c.label_symbols-symbols.result c.loop-i.i c.label_symbols-symbols.ensures c.loop-i-test.false)
+pub returns-clause-settles : goal.returns-clause-settles
+returns-clause-settles c =
+    let i = c.args.inputs.now in
+    over_done (label_trace i.file.now i.builtins.now i.job) (label_symbols i.file.now i.job).count c.args.out.now c.loop-i.out c.loop-i.i c.requires.3 c.loop-i.invariant.1 (no_more_labels i.file.now i.job c.label_symbols-symbols.result c.loop-i.i c.label_symbols-symbols.ensures c.loop-i-test.false)

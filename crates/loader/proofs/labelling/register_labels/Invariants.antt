@@ -1,15 +1,13 @@
 -- `loader::labelling::register_labels` meets its contract. The loop's invariant: the symbols that are left, with the rows and moves
 -- held now, settle to what all settle to.
 -- Assumes nothing.
-use Prim.Native.Nat.{◌-◌}
-use Rattle.program.specs.Table.{slices}
+use Rattle.program.specs.Table.{columns_of}
 use Rattle.loader.specs.Labels.{label_symbols, label_trace}
+use Rattle.loader.specs.InnerContracts.{Keeps}
 use Rattle.loader.proofs.Going.{Going}
 use Rattle.loader.proofs.labelling.register_labels.Given as goal
 
 abbrev pub invariant-loop-i : goal.invariant-loop-i
 invariant-loop-i l =
-    Going (label_trace l.file l.builtins l.job) (label_symbols l.file l.job).count l.initial.image l.image (slices l.initial.keys l.initial.indices l.initial.kinds l.initial.starts l.initial.lengths) (slices l.keys l.indices l.kinds l.starts l.lengths) l.used l.moves l.held.used l.held.moves l.i
-
-abbrev pub decreases-loop-i : goal.decreases-loop-i
-decreases-loop-i l = l.count - l.i
+    Keeps l.initial.out l.out
+    × Going (label_trace l.inputs.file.now l.inputs.builtins.now l.inputs.job) (label_symbols l.inputs.file.now l.inputs.job).count l.initial.out.image.now l.out.image.now (columns_of l.initial.out.registry.now) (columns_of l.out.registry.now) l.initial.out.registry.now.used l.initial.out.moves l.out.registry.now.used l.out.moves l.i

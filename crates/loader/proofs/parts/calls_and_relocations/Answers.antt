@@ -3,64 +3,41 @@
 use mathlib.Core.Path.{◌≡◌, subst, ◌∙◌}
 use mathlib.Core.List.{List}
 use Prim.Native.Nat.{ℕ}
-use Rattle.program.specs.Table.{Slices, slices}
-use Rattle.program.proofs.Tables.{SameLens}
-use Rattle.loader.specs.declared.deeds.Held.{Held}
-use Rattle.loader.specs.declared.error.ElfError.{ElfError}
-use Rattle.std.specs.Prelude.{Result}
+use Rattle.std.specs.Prelude.{Result, Ok}
 use Rattle.std.proofs.lemmas.Result.{err_from_is_err_and}
+use Rattle.loader.specs.declared.error.ElfError.{ElfError}
 use Rattle.loader.specs.Trace.{Trace}
-use Rattle.loader.specs.Calls.{calls_trace, slot_count}
-use Rattle.loader.specs.Relocations.{relocations_trace, relocation_count}
-use Rattle.loader.specs.InnerContracts.{Settles}
-use Rattle.loader.proofs.Going.{begins_fewer, begins_then, settles_then, settles_stop}
+use Rattle.loader.specs.Calls.{slot_count, calls_trace}
+use Rattle.loader.specs.Relocations.{relocation_count, relocations_trace}
+use Rattle.loader.specs.InnerContracts.{SettlesTo}
+use Rattle.loader.proofs.Going.{first_begins, part_begins, part_stop, part_then}
+use Rattle.loader.proofs.parts.calls_and_relocations.Goals.{After-register_calls}
 use Rattle.loader.proofs.parts.calls_and_relocations.Goals as goal
 
+abbrev first : After-register_calls → Trace
+first r = calls_trace r.args.inputs.now.file.now r.args.inputs.now.builtins.now r.args.inputs.now.job r.args.inputs.now.file.now
+
+abbrev second : After-register_calls → List ℕ → Trace
+second r = λ im. relocations_trace r.args.inputs.now.file.now r.args.inputs.now.builtins.now r.args.inputs.now.job im
+
+did : (r : After-register_calls) (a : Result (Unit {0}) ElfError) → r.register_calls.result ≡ a → SettlesTo (first r) (slot_count r.args.inputs.now.job) r.args.out.now r.register_calls.new.out a
+did r a e = subst (λ (b : Result (Unit {0}) ElfError). SettlesTo (first r) (slot_count r.args.inputs.now.job) r.args.out.now r.register_calls.new.out b) e r.register_calls.ensures.settles
+
 pub register_calls-requires : goal.register_calls-requires
-register_calls-requires c =
-    let n : ℕ = slot_count c.args.job in
-    let m : ℕ = relocation_count c.args.job in
-    let T : Slices = slices c.args.keys.now c.args.indices.now c.args.kinds.now c.args.starts.now c.args.lengths.now in
-    (c.requires.0, c.requires.1, c.requires.2, begins_fewer n m T c.args.rows 0 0 c.requires.3)
+register_calls-requires c = (c.requires.0, c.requires.1, c.requires.2, (first_begins (calls_trace c.args.inputs.now.file.now c.args.inputs.now.builtins.now c.args.inputs.now.job c.args.inputs.now.file.now) (relocations_trace c.args.inputs.now.file.now c.args.inputs.now.builtins.now c.args.inputs.now.job) c.args.out.now c.args.out.now (slot_count c.args.inputs.now.job) (relocation_count c.args.inputs.now.job) c.requires.3.0, c.requires.3.1))
 
 pub apply_relocations-requires : goal.apply_relocations-requires
 apply_relocations-requires c =
-    let first : Trace = calls_trace c.args.file.now c.args.builtins.now c.args.job c.args.file.now in
-    let second : List ℕ → Trace = λ im. relocations_trace c.args.file.now c.args.builtins.now c.args.job im in
-    let image : List ℕ = c.register_calls.new.image in
-    let T : Slices = slices c.args.keys.now c.args.indices.now c.args.kinds.now c.args.starts.now c.args.lengths.now in
-    let U : Slices = slices c.register_calls.new.keys c.register_calls.new.indices c.register_calls.new.kinds c.register_calls.new.starts c.register_calls.new.lengths in
-    let n : ℕ = slot_count c.args.job in
-    let m : ℕ = relocation_count c.args.job in
-    let lens : SameLens (T) (U) = record { keys_as = c.register_calls.auto.keys; indices_as = c.register_calls.auto.indices; kinds_as = c.register_calls.auto.kinds; starts_as = c.register_calls.auto.starts; lengths_as = c.register_calls.auto.lengths } in
-    let Did : Result Held ElfError → Type 0 = λ a. Settles (first) (image) (T) (U) (n) 0 0 a in
-    let did : (b : Result Held ElfError) → c.register_calls.result ≡ b → Did b = λ b e. subst (Did) e c.register_calls.ensures in
-    (c.requires.0, c.requires.1, c.register_calls.auto.image ∙ c.requires.2, begins_then first second image image T U U n m 0 0 c.in_ok-held.held.used c.in_ok-held.held.moves lens (did _ c.in_ok-held.was) c.args.rows c.requires.3)
+    let r = (goal.at.apply_relocations-requires c).After-register_calls in
+    (c.requires.0, c.requires.1, c.register_calls.ensures.keeps.image_as ∙ c.requires.2, part_begins (first r) (second r) c.args.out.now c.register_calls.new.out (slot_count c.args.inputs.now.job) (relocation_count c.args.inputs.now.job) c.register_calls.ensures.keeps (did r (Ok tt) c.in_ok-register_calls.was) c.requires.3.0)
 
-pub returns-in_err-held : goal.returns-in_err-held
-returns-in_err-held c =
-    let first : Trace = calls_trace c.args.file.now c.args.builtins.now c.args.job c.args.file.now in
-    let second : List ℕ → Trace = λ im. relocations_trace c.args.file.now c.args.builtins.now c.args.job im in
-    let image : List ℕ = c.register_calls.new.image in
-    let T : Slices = slices c.args.keys.now c.args.indices.now c.args.kinds.now c.args.starts.now c.args.lengths.now in
-    let U : Slices = slices c.register_calls.new.keys c.register_calls.new.indices c.register_calls.new.kinds c.register_calls.new.starts c.register_calls.new.lengths in
-    let n : ℕ = slot_count c.args.job in
-    let Did : Result Held ElfError → Type 0 = λ a. Settles (first) (image) (T) (U) (n) 0 0 a in
-    let did : (b : Result Held ElfError) → c.register_calls.result ≡ b → Did b = λ b e. subst (Did) e c.register_calls.ensures in
+pub returns-in_err-register_calls-clause-settles : goal.returns-in_err-register_calls-clause-settles
+returns-in_err-register_calls-clause-settles c =
+    let r = (goal.at.returns-in_err-register_calls-clause-settles c).After-register_calls in
     let p = err_from_is_err_and c.from_residual.result c.from_residual.ensures.1 in
-    rw (p.1, p.2) (settles_stop first second image image T U U n _ 0 0 _ (did _ c.in_err-held.was))
+    rw (p.1, p.2) (part_stop (first r) (second r) c.args.out.now c.register_calls.new.out (slot_count c.args.inputs.now.job) (relocation_count c.args.inputs.now.job) _ (did r _ c.in_err-register_calls.was))
 
-pub returns : goal.returns
-returns c =
-    let first : Trace = calls_trace c.args.file.now c.args.builtins.now c.args.job c.args.file.now in
-    let second : List ℕ → Trace = λ im. relocations_trace c.args.file.now c.args.builtins.now c.args.job im in
-    let image : List ℕ = c.register_calls.new.image in
-    let T : Slices = slices c.args.keys.now c.args.indices.now c.args.kinds.now c.args.starts.now c.args.lengths.now in
-    let U : Slices = slices c.register_calls.new.keys c.register_calls.new.indices c.register_calls.new.kinds c.register_calls.new.starts c.register_calls.new.lengths in
-    let U₂ : Slices = slices c.apply_relocations.new.keys c.apply_relocations.new.indices c.apply_relocations.new.kinds c.apply_relocations.new.starts c.apply_relocations.new.lengths in
-    let n : ℕ = slot_count c.args.job in
-    let m : ℕ = relocation_count c.args.job in
-    let lens : SameLens (T) (U) = record { keys_as = c.register_calls.auto.keys; indices_as = c.register_calls.auto.indices; kinds_as = c.register_calls.auto.kinds; starts_as = c.register_calls.auto.starts; lengths_as = c.register_calls.auto.lengths } in
-    let Did : Result Held ElfError → Type 0 = λ a. Settles (first) (image) (T) (U) (n) 0 0 a in
-    let did : (b : Result Held ElfError) → c.register_calls.result ≡ b → Did b = λ b e. subst (Did) e c.register_calls.ensures in
-    settles_then first second image c.apply_relocations.new.image T U U₂ n m 0 0 c.in_ok-held.held.used c.in_ok-held.held.moves lens (did _ c.in_ok-held.was) c.apply_relocations.result c.apply_relocations.ensures
+pub returns-clause-settles : goal.returns-clause-settles
+returns-clause-settles c =
+    let r = (goal.at.returns-clause-settles c).After-register_calls in
+    part_then (first r) (second r) c.args.out.now c.register_calls.new.out (slot_count c.args.inputs.now.job) (relocation_count c.args.inputs.now.job) c.register_calls.ensures.keeps (did r (Ok tt) c.in_ok-register_calls.was) c.apply_relocations.new.out c.apply_relocations.result c.apply_relocations.ensures.settles

@@ -4,98 +4,64 @@
 use mathlib.Core.Path.{◌≡◌, subst, ◌∙◌, sym}
 use mathlib.Core.List.{List}
 use Prim.Native.Nat.{ℕ}
-use borrow.Author.Count.{falls}
-use Rattle.program.specs.Table.{Slices, slices}
-use Rattle.program.proofs.Tables.{SameLens}
-use Rattle.loader.specs.declared.deeds.Held.{Held}
-use Rattle.loader.specs.declared.error.ElfError.{ElfError}
+use Rattle.program.specs.Table.{columns_of}
 use Rattle.std.specs.Prelude.{Result, Ok}
 use Rattle.std.proofs.lemmas.Result.{err_from_is_err_and}
-use Rattle.loader.proofs.Performing.{refuses}
+use Rattle.loader.specs.declared.error.ElfError.{ElfError}
 use Rattle.loader.specs.Relocations.{relocation_trace, relocation_count}
-use Rattle.loader.proofs.Turns.{turn_fits, relocations_fit, counts_fit, none_before, header_next, relocation_settles, relocation_fits}
-use Rattle.loader.specs.InnerContracts.{Settles}
-use Rattle.loader.proofs.Going.{going_start, going_begins, going_stop, going_on, going_done}
+use Rattle.loader.specs.InnerContracts.{SettlesTo, held_of}
+use Rattle.loader.proofs.Performing.{refuses}
+use Rattle.loader.proofs.Turns.{relocations_fit, counts_fit, none_before, header_next, relocation_settles, relocation_fits}
+use Rattle.loader.proofs.Going.{keeps_all, keeps_on, over_start, over_begins, over_stop, over_on, over_done}
+use Rattle.loader.proofs.relocating.apply_relocations.Goals.{After-perform}
 use Rattle.loader.proofs.relocating.apply_relocations.Goals as goal
-
-pub overflow_add-count : goal.overflow_add-count
-overflow_add-count c = counts_fit c.args.file.now c.args.job c.requires.0
-
-pub overflow_cast-count : goal.overflow_cast-count
-overflow_cast-count c = relocations_fit c.args.file.now c.args.job c.requires.0
 
 pub loop-i-init : goal.loop-i-init
 loop-i-init c =
-    let T₀ : Slices = slices c.args.keys.now c.args.indices.now c.args.kinds.now c.args.starts.now c.args.lengths.now in
-    (going_start (relocation_trace c.args.file.now c.args.builtins.now c.args.job) (relocation_count c.args.job) c.args.image.now T₀ c.args.rows c.args.used c.args.moves c.requires.3, none_before c.args.file.now c.args.job.layout c.args.job.version2)
+    let i = c.args.inputs.now in
+    (keeps_all c.args.out.now, over_start (relocation_trace i.file.now i.builtins.now i.job) (relocation_count i.job) c.args.out.now c.requires.3, none_before i.file.now i.job.layout i.job.version2)
 
-pub plan_relocation-requires : goal.plan_relocation-requires
-plan_relocation-requires c = (c.requires.0, c.requires.1)
+pub returns-in_err-deed-clause-settles : goal.returns-in_err-deed-clause-settles
+returns-in_err-deed-clause-settles c =
+    let i = c.args.inputs.now in
+    let o = c.loop-i.out in
+    let p = err_from_is_err_and c.from_residual.result c.from_residual.ensures.1 in
+    rw (p.1, p.2) (over_stop (relocation_trace i.file.now i.builtins.now i.job) (relocation_count i.job) c.args.out.now o c.loop-i.i c.requires.3 c.loop-i.invariant.1 c.loop-i-test.true o _
+    (relocation_settles i.file.now i.builtins.now i.job c.loop-i.i c.loop-i.header c.used_header-header.result c.relocation_at-r.result c.loop-i.invariant.2 c.relocation_at-r.ensures c.used_header-header.ensures o.image.now o.image.now (columns_of o.registry.now) (columns_of o.registry.now) o.registry.now.used o.moves _ (sym c.in_err-deed.was ∙ rw c.image.ensures at c.plan_relocation.ensures) (refuses _ o.image.now o.image.now (columns_of o.registry.now) (columns_of o.registry.now) 1 o.registry.now.used o.moves)))
 
-pub perform_relocation-requires : goal.perform_relocation-requires
-perform_relocation-requires c =
-    let T₀ : Slices = slices c.args.keys.now c.args.indices.now c.args.kinds.now c.args.starts.now c.args.lengths.now in
-    let T : Slices = slices c.loop-i.keys c.loop-i.indices c.loop-i.kinds c.loop-i.starts c.loop-i.lengths in (
-      relocation_fits c.args.file.now c.loop-i.image c.args.builtins.now c.args.job c.used_header-next.result c.relocation_at-r.result (sym c.in_ok-deed.was ∙ c.plan_relocation.ensures),
-      going_begins (relocation_trace c.args.file.now c.args.builtins.now c.args.job) (relocation_count c.args.job) c.args.image.now c.loop-i.image T₀ T c.args.rows c.args.used c.args.moves c.loop-i.held.used c.loop-i.held.moves c.loop-i.i c.requires.3 c.loop-i.invariant.0 c.loop-i-test.true,
+pub perform-requires : goal.perform-requires
+perform-requires c =
+    let i = c.args.inputs.now in (
+      relocation_fits i.file.now c.loop-i.out.image.now i.builtins.now i.job c.used_header-header.result c.relocation_at-r.result (sym c.in_ok-deed.was ∙ rw c.image.ensures at c.plan_relocation.ensures),
+      over_begins (relocation_trace i.file.now i.builtins.now i.job) (relocation_count i.job) c.args.out.now c.loop-i.out c.loop-i.i c.requires.3 c.loop-i.invariant.1 c.loop-i-test.true,
     )
 
-pub returns-in_err-deed : goal.returns-in_err-deed
-returns-in_err-deed c =
-    let T₀ : Slices = slices c.args.keys.now c.args.indices.now c.args.kinds.now c.args.starts.now c.args.lengths.now in
-    let T : Slices = slices c.loop-i.keys c.loop-i.indices c.loop-i.kinds c.loop-i.starts c.loop-i.lengths in
-    let p = err_from_is_err_and c.from_residual.result c.from_residual.ensures.1 in
-    rw (p.1, p.2) (going_stop (relocation_trace c.args.file.now c.args.builtins.now c.args.job) (relocation_count c.args.job) c.args.image.now c.loop-i.image T₀ T c.args.rows c.args.used c.args.moves c.loop-i.held.used c.loop-i.held.moves c.loop-i.i c.requires.3 c.loop-i.invariant.0 c.loop-i-test.true c.loop-i.image T _
-    (relocation_settles c.args.file.now c.args.builtins.now c.args.job c.loop-i.i c.loop-i.header c.used_header-next.result c.relocation_at-r.result c.loop-i.invariant.1 c.relocation_at-r.ensures c.used_header-next.ensures c.loop-i.image c.loop-i.image T T c.loop-i.held.used c.loop-i.held.moves _ (sym c.in_err-deed.was ∙ c.plan_relocation.ensures) (refuses _ c.loop-i.image c.loop-i.image T T 1 c.loop-i.held.used c.loop-i.held.moves)))
+-- the turn's trace, whatever its deed's answer
+turned : (r : After-perform) (a : Result (Unit {0}) ElfError) → r.perform.result ≡ a → SettlesTo (relocation_trace r.args.inputs.now.file.now r.args.inputs.now.builtins.now r.args.inputs.now.job r.loop-i.i r.loop-i.out.image.now) 1 r.loop-i.out r.perform.new.self a
+turned r a e =
+    let i = r.args.inputs.now in
+    let o = r.loop-i.out in
+    let o' = r.perform.new.self in
+    subst (λ (b : Result (Unit {0}) ElfError). SettlesTo (relocation_trace i.file.now i.builtins.now i.job r.loop-i.i o.image.now) 1 o o' b) e
+    (relocation_settles i.file.now i.builtins.now i.job r.loop-i.i r.loop-i.header r.used_header-header.result r.relocation_at-r.result r.loop-i.invariant.2 r.relocation_at-r.ensures r.used_header-header.ensures o.image.now o'.image.now (columns_of o.registry.now) (columns_of o'.registry.now) o.registry.now.used o.moves (held_of r.perform.result o') (sym r.in_ok-deed.was ∙ rw r.image.ensures at r.plan_relocation.ensures) r.perform.ensures.settles)
 
-pub returns-in_err-held : goal.returns-in_err-held
-returns-in_err-held c =
-    let T₀ : Slices = slices c.args.keys.now c.args.indices.now c.args.kinds.now c.args.starts.now c.args.lengths.now in
-    let T : Slices = slices c.loop-i.keys c.loop-i.indices c.loop-i.kinds c.loop-i.starts c.loop-i.lengths in
-    let im' : List ℕ = c.perform_relocation.new.image in
-    let U : Slices = slices c.perform_relocation.new.keys c.perform_relocation.new.indices c.perform_relocation.new.kinds c.perform_relocation.new.starts c.perform_relocation.new.lengths in
-    let Did : Result Held ElfError → Type 0 = λ a. Settles (relocation_trace c.args.file.now c.args.builtins.now c.args.job c.loop-i.i c.loop-i.image) (im') (T) (U) 1 c.loop-i.held.used c.loop-i.held.moves a in
-    let did : (b : Result Held ElfError) → c.perform_relocation.result ≡ b → Did b = λ b e. subst (Did) e (relocation_settles c.args.file.now c.args.builtins.now c.args.job c.loop-i.i c.loop-i.header c.used_header-next.result c.relocation_at-r.result c.loop-i.invariant.1 c.relocation_at-r.ensures c.used_header-next.ensures c.loop-i.image (im') (T) (U) c.loop-i.held.used c.loop-i.held.moves _ (sym c.in_ok-deed.was ∙ c.plan_relocation.ensures) c.perform_relocation.ensures) in
-    let p = err_from_is_err_and c.from_residual-in_err-held.result c.from_residual-in_err-held.ensures.1 in
-    rw (p.1, p.2) (going_stop (relocation_trace c.args.file.now c.args.builtins.now c.args.job) (relocation_count c.args.job) c.args.image.now c.loop-i.image T₀ T c.args.rows c.args.used c.args.moves c.loop-i.held.used c.loop-i.held.moves c.loop-i.i c.requires.3 c.loop-i.invariant.0 c.loop-i-test.true im' U _ (did _ c.in_err-held.was))
-
-pub overflow_add-i : goal.overflow_add-i
-overflow_add-i c = turn_fits c.loop-i.i (relocation_count c.args.job) c.args.used c.loop-i-test.true c.requires.3.room.few
-
-pub loop-i-smaller : goal.loop-i-smaller
-loop-i-smaller c = falls _ _ c.loop-i-test.true
+pub returns-in_err-perform-clause-settles : goal.returns-in_err-perform-clause-settles
+returns-in_err-perform-clause-settles c =
+    let i = c.args.inputs.now in
+    let p = err_from_is_err_and c.from_residual-in_err-perform.result c.from_residual-in_err-perform.ensures.1 in
+    rw (p.1, p.2) (over_stop (relocation_trace i.file.now i.builtins.now i.job) (relocation_count i.job) c.args.out.now c.loop-i.out c.loop-i.i c.requires.3 c.loop-i.invariant.1 c.loop-i-test.true c.perform.new.self _
+    (turned (goal.at.returns-in_err-perform-clause-settles c).After-perform _ c.in_err-perform.was))
 
 pub loop-i-preserved : goal.loop-i-preserved
 loop-i-preserved c =
-    let T₀ : Slices = slices c.args.keys.now c.args.indices.now c.args.kinds.now c.args.starts.now c.args.lengths.now in
-    let T : Slices = slices c.loop-i.keys c.loop-i.indices c.loop-i.kinds c.loop-i.starts c.loop-i.lengths in
-    let im' : List ℕ = c.perform_relocation.new.image in
-    let U : Slices = slices c.perform_relocation.new.keys c.perform_relocation.new.indices c.perform_relocation.new.kinds c.perform_relocation.new.starts c.perform_relocation.new.lengths in
-    let lens : SameLens (T) (U) = record { keys_as = c.perform_relocation.auto.keys; indices_as = c.perform_relocation.auto.indices; kinds_as = c.perform_relocation.auto.kinds; starts_as = c.perform_relocation.auto.starts; lengths_as = c.perform_relocation.auto.lengths } in
-    let Did : Result Held ElfError → Type 0 = λ a. Settles (relocation_trace c.args.file.now c.args.builtins.now c.args.job c.loop-i.i c.loop-i.image) (im') (T) (U) 1 c.loop-i.held.used c.loop-i.held.moves a in
-    let did : (b : Result Held ElfError) → c.perform_relocation.result ≡ b → Did b = λ b e. subst (Did) e (relocation_settles c.args.file.now c.args.builtins.now c.args.job c.loop-i.i c.loop-i.header c.used_header-next.result c.relocation_at-r.result c.loop-i.invariant.1 c.relocation_at-r.ensures c.used_header-next.ensures c.loop-i.image (im') (T) (U) c.loop-i.held.used c.loop-i.held.moves _ (sym c.in_ok-deed.was ∙ c.plan_relocation.ensures) c.perform_relocation.ensures) in
-    (going_on (relocation_trace c.args.file.now c.args.builtins.now c.args.job) (relocation_count c.args.job) c.args.image.now c.loop-i.image T₀ T c.args.rows c.args.used c.args.moves c.loop-i.held.used c.loop-i.held.moves c.loop-i.i c.requires.3 c.loop-i.invariant.0 c.loop-i-test.true im' U _ _ lens c.perform_relocation.auto.image (did (Ok c.in_ok-held.held) c.in_ok-held.was), header_next c.args.file.now c.args.builtins.now c.args.job c.loop-i.i c.loop-i.header c.used_header-next.result c.relocation_at-r.result c.loop-i.invariant.1 c.relocation_at-r.ensures c.used_header-next.ensures)
+    let i = c.args.inputs.now in (
+      keeps_on c.args.out.now c.loop-i.out c.perform.new.self c.loop-i.invariant.0 c.perform.ensures.keeps,
+      over_on (relocation_trace i.file.now i.builtins.now i.job) (relocation_count i.job) c.args.out.now c.loop-i.out c.loop-i.i c.requires.3 c.loop-i.invariant.1 c.loop-i-test.true c.perform.new.self c.perform.ensures.keeps
+          (turned (goal.at.loop-i-preserved c).After-perform (Ok tt) c.in_ok-perform.was),
+      header_next i.file.now i.builtins.now i.job c.loop-i.i c.loop-i.header c.used_header-header.result c.relocation_at-r.result c.loop-i.invariant.2 c.relocation_at-r.ensures c.used_header-header.ensures,
+    )
 
-pub shape_of-image : goal.shape_of-image
-shape_of-image c = c.loop-i.invariant.0.image_as
-
-pub shape_of-keys : goal.shape_of-keys
-shape_of-keys c = c.loop-i.invariant.0.same.keys_as
-
-pub shape_of-indices : goal.shape_of-indices
-shape_of-indices c = c.loop-i.invariant.0.same.indices_as
-
-pub shape_of-kinds : goal.shape_of-kinds
-shape_of-kinds c = c.loop-i.invariant.0.same.kinds_as
-
-pub shape_of-starts : goal.shape_of-starts
-shape_of-starts c = c.loop-i.invariant.0.same.starts_as
-
-pub shape_of-lengths : goal.shape_of-lengths
-shape_of-lengths c = c.loop-i.invariant.0.same.lengths_as
-
-pub returns : goal.returns
-returns c =
-    let T₀ : Slices = slices c.args.keys.now c.args.indices.now c.args.kinds.now c.args.starts.now c.args.lengths.now in
-    let T : Slices = slices c.loop-i.keys c.loop-i.indices c.loop-i.kinds c.loop-i.starts c.loop-i.lengths in
-    going_done (relocation_trace c.args.file.now c.args.builtins.now c.args.job) (relocation_count c.args.job) c.args.image.now c.loop-i.image T₀ T c.args.rows c.args.used c.args.moves c.loop-i.held.used c.loop-i.held.moves c.loop-i.i c.requires.3 c.loop-i.invariant.0 c.loop-i-test.false
+pub returns-clause-settles : goal.returns-clause-settles
+returns-clause-settles c =
+    let i = c.args.inputs.now in
+    over_done (relocation_trace i.file.now i.builtins.now i.job) (relocation_count i.job) c.args.out.now c.loop-i.out c.loop-i.i c.requires.3 c.loop-i.invariant.1 c.loop-i-test.false
