@@ -131,10 +131,10 @@ pub fn sbpf_lookup(
     give_row(answer, table.lookup_by_key(key))
 }
 
-// Kept: the table is written out in both lookups, since a function that makes it would take the same six
-// parameters.
 // The row with the key that a binary search over the used keys comes to: what `sbpf_lookup` answers
 // where the rows ascend, as a load leaves them. At most the rows lent count.
+// Kept: the table is written out in both lookups, since a function that makes it would take the same six
+// parameters.
 pub fn sbpf_lookup_ascending(
     keys: &[u32],
     indices: &[u32],

@@ -3,9 +3,9 @@ ghost use Rattle.std.specs.Prelude.{◌≡◌, ◌+◌, ◌≤◌, ◌<◌, leng
 ghost use Rattle.exports.specs.Answers.{written};
 ghost use Rattle.exports.specs.Names.{piece_of, left_behind, Starts, Named, refusal_name};
 
-// Kept: apart from `fill` of answers.rt, since std's `fill` at a type parameter does not say that a clone is
-// a copy.
 // Fills a slice: the bytes, as many as there is room for, and zeros behind them.
+// Kept: apart from `fill` of answers.rt, since at a type parameter std's `fill` owes that a clone can't fail and
+// is the value.
 fn fill_bytes(to: &mut [u8], bytes: &[u8])
     ensures { to.new ≡ written (length to.old) bytes.now }
 {
@@ -15,6 +15,7 @@ fn fill_bytes(to: &mut [u8], bytes: &[u8])
 }
 
 // How many zeros are left to pass behind a byte.
+#[tactic(auto, using(ebpf::specs::Choice::choices), unfolding(crate::specs::Names::left_behind))]
 fn left_behind(left: u32, byte: u8) -> u32
     requires { 0 < left }
     ensures { result ≡ left_behind left byte }
