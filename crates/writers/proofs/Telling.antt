@@ -20,7 +20,6 @@ use Rattle.writers.specs.declared.text.Text.{Text}
 use Rattle.writers.specs.Named.{by_names}
 use Rattle.writers.specs.Asked.{text_in, text_by, text_of, asked_in, Askable}
 use Rattle.writers.specs.Whole.{code_of, code_by, filled_in, OnlyZeros}
-use Rattle.writers.proofs.Marking.{only_zero}
 use Rattle.std.specs.Prelude.{Result, Ok, Err}
 use Rattle.elf_parser.specs.declared.error.ElfParserError.{ElfParserError}
 
