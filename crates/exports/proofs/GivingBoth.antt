@@ -9,13 +9,13 @@ use Rattle.loader.specs.declared.error.ElfError.{ElfError}
 use Rattle.loader.specs.declared.answer.Accepted.{Accepted}
 use Rattle.loader.specs.declared.validate.Config.{Config}
 use Rattle.loader.specs.Load.{Loading, load_of, answer_of, Loaded}
-use Rattle.writers.specs.declared.Wrote.{Wrote}
+use Rattle.writers.specs.declared.Writer.{Writer}
 use Rattle.writers.specs.Writers.{wrote_of}
 use Rattle.exports.specs.declared.answers.Answer.{Answer}
 use Rattle.exports.specs.Answers.{Given}
 use Rattle.exports.specs.Wrote.{load_wrote_answer}
 
-pub wrote_by : (file builtins : List ℕ) (n m rows : ℕ) (c d : Config) → c ≡ d → (offset : ℕ) (w : Wrote) → w ≡ wrote_of file builtins c n m rows offset → w ≡ wrote_of file builtins d n m rows offset
+pub wrote_by : (file builtins : List ℕ) (n m rows : ℕ) (c d : Config) → c ≡ d → (offset : ℕ) (w : Result Writer ElfError) → w ≡ wrote_of file builtins c n m rows offset → w ≡ wrote_of file builtins d n m rows offset
 wrote_by file builtins n m rows c d e offset w is = is ∙ ap (λ (k : Config). wrote_of file builtins k n m rows offset) e
 
 module _ (file builtins im ro : List ℕ) (t : Slices) where
@@ -23,7 +23,7 @@ module _ (file builtins im ro : List ℕ) (t : Slices) where
   whole c = load_of file builtins c (length im) (length ro) (capacity t)
 
   pub both_given : (c d : Config) (e : c ≡ d) (im' ro' : List ℕ) (t' : Slices) (a : Result Accepted ElfError) → Loaded (whole c) im ro t im' ro' t' a
-      → (w v : Wrote)
+      → (w v : Result Writer ElfError)
       → w ≡ v
       → (b : Answer) (before after : List ℕ) (r : ℕ)
       → b ≡ load_wrote_answer a w

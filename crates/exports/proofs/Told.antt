@@ -17,16 +17,16 @@ use Rattle.program.proofs.Steps.{row_below}
 use Rattle.program.proofs.Cases.{by_lt}
 use Rattle.loader.specs.Errors as load
 use Rattle.writers.specs.Asked.{asked}
-use Rattle.exports.specs.Answers.{none_word, row_word, written, words_of, load_answer}
+use Rattle.exports.specs.Answers.{none_word, word_or_none, written, words_of, load_answer}
 use Rattle.exports.specs.Names.{names, bytes, name_in, refusal_name}
 use Rattle.exports.specs.Wrote.{wrote_answer, who_wrote_answer}
 use Rattle.exports.proofs.Named.{past, no_name, load_named}
 
-number_told : (f : Option ℕ) (used : ℕ) → used < 2 ^ 64 → ((i : ℕ) → f ≡ Some i → i < used) → row_word f ≡ none_word → f ≡ None
+number_told : (f : Option ℕ) (used : ℕ) → used < 2 ^ 64 → ((i : ℕ) → f ≡ Some i → i < used) → word_or_none f ≡ none_word → f ≡ None
 number_told (Some i) used fits below e = absurd (let l = below i refl in omega arith)
 number_told None used fits below e = refl
 
-pub row_told : (keys : List ℕ) (used k : ℕ) → used < 2 ^ 64 → row_word (row_ascending_in keys used k) ≡ none_word → row_ascending_in keys used k ≡ None
+pub row_told : (keys : List ℕ) (used k : ℕ) → used < 2 ^ 64 → word_or_none (row_ascending_in keys used k) ≡ none_word → row_ascending_in keys used k ≡ None
 row_told keys used k fits = number_told (row_ascending_in keys used k) used fits (λ i e. omega (arith, row_below keys used k i e))
 
 -- a number that has a name is not 0, and small

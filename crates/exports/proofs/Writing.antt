@@ -1,38 +1,72 @@
 -- Writing words into a lent slice, a store a turn, and reading one of them. Assumes nothing.
+use Rattle.std.proofs.Math.Seq.{take-append_seam}
+use Rattle.std.proofs.Math.ListN.{drop_of_length-le}
+use Rattle.std.proofs.lemmas.List.{length-take, length-append}
+use Rattle.program.proofs.Cases.{by_le}
+use mathlib.Core.Bool.{Bool}
 use mathlib.Core.Path.{◌≡◌, refl, sym, ap, ◌∙◌}
 use mathlib.Core.List.{List, [], ◌∷◌, ◌++◌, append-nil}
-use Prim.Native.Nat.{ℕ, zero, suc, ◌-◌, ◌<◌, ◌≤◌, zero-le}
+use Prim.Native.Nat.{ℕ, zero, suc, ◌-◌, ◌<◌, ◌≤◌, ◌+◌, min}
 use native.Mathlib.Nat.{le_of_suc-le-suc, not-suc-le-zero}
 use native.Mathlib.Numerals.{sub-one}
 use native.Mathlib.Omega.{arith}
-use lib.ListN.{length, length-set, length-drop, take, drop, get_or, set, replicate}
+use lib.ListN.{length, length-set, length-drop, take, drop, set, replicate}
 use lib.Seq.{take-length, drop-length}
 use borrow.Rule.Slice.PartMut.{mid_of, put_mid, same_len_mid}
 use Rattle.std.specs.Prelude.{Some, None}
 use Rattle.program.specs.declared.Row.{Row}
-use Rattle.exports.specs.Answers.{written, Given, row_answer, nine_words, cleared_from}
+use Rattle.exports.specs.Answers.{written, Given, row_answer, nine_words}
 
--- the first i words are written
-unfoldable pub so_far : ℕ → List ℕ → List ℕ → List ℕ
-so_far i ws s = take i (written (length s) ws) ++ drop i s
+-- ---- the words, as many as there is room for, and zeros behind them
 
-pub so_far_start : (ws s : List ℕ) → s ≡ so_far 0 ws s
-unfolding so_far
-so_far_start ws s = refl
+written_front : (n : ℕ) (ws : List ℕ) → n ≤ length ws → written n ws ≡ take n ws
+unfolding written
+written_front zero ws h = refl
+written_front (suc n) [] h = absurd (not-suc-le-zero h)
+written_front (suc n) (w ∷ ws) h = ap (λ (l : List ℕ). w ∷ l) (written_front n ws (le_of_suc-le-suc h))
 
-pub so_far_turn : (i : ℕ) (ws s : List ℕ) → i < length s → set (so_far i ws s) i (get_or ws i 0) ≡ so_far (suc i) ws s
-unfolding so_far written
-so_far_turn i ws [] h = absurd (not-suc-le-zero h)
-so_far_turn zero [] (x ∷ s) h = refl
-so_far_turn zero (w ∷ ws) (x ∷ s) h = refl
-so_far_turn (suc i) [] (x ∷ s) h = ap (λ (l : List ℕ). 0 ∷ l) (so_far_turn i [] s (le_of_suc-le-suc h))
-so_far_turn (suc i) (w ∷ ws) (x ∷ s) h = ap (λ (l : List ℕ). w ∷ l) (so_far_turn i ws s (le_of_suc-le-suc h))
+written_none : (k : ℕ) → written k [] ≡ replicate k 0
+unfolding written
+written_none zero = refl
+written_none (suc k) = ap (λ (l : List ℕ). 0 ∷ l) (written_none k)
 
-pub so_far_end : (ws s : List ℕ) → so_far (length s) ws s ≡ written (length s) ws
-unfolding so_far written
-so_far_end ws [] = refl
-so_far_end [] (x ∷ s) = ap (λ (l : List ℕ). 0 ∷ l) (so_far_end [] s)
-so_far_end (w ∷ ws) (x ∷ s) = ap (λ (l : List ℕ). w ∷ l) (so_far_end ws s)
+written_all : (n k : ℕ) (ws : List ℕ) → n ≡ length ws + k → written n ws ≡ ws ++ replicate k 0
+unfolding written
+written_all n k [] e = let h : n ≡ k = omega arith in rw h (written_none k)
+written_all zero k (w ∷ ws) e = absurd (omega arith)
+written_all (suc n) k (w ∷ ws) e = ap (λ (l : List ℕ). w ∷ l) (written_all n k ws (omega arith))
+
+seam : (m : ℕ) (x y : List ℕ) → m ≡ length x → take m (x ++ y) ≡ x
+seam m x y e = rw e (take-append_seam x y)
+
+module _ (s ws : List ℕ) (m : ℕ) (e : m ≡ min (length s) (length ws)) where
+  both_parts : take m ws ++ replicate (length s - m) 0 ≡ written (length s) ws
+  both_parts = by_le (length ws) (length s) (λ (b : Bool). take m ws ++ replicate (length s - m) 0 ≡ written (length s) ws)
+      (λ l. let k : m ≡ length ws = omega arith in rw (k, take-length) (sym (written_all (length s) (length s - length ws) ws (omega arith))))
+      (λ l. let k : m ≡ length s = omega arith in let none : length s - length s ≡ 0 = omega arith in rw (k, none, append-nil) (sym (written_front (length s) ws (omega arith))))
+
+  -- m words copied to the front of s, and zeros from there on
+  module _ (x z : List ℕ) (p : x ≡ take m ws) where
+    abbrev copied : List ℕ
+    copied = x ++ drop m s
+
+    abbrev left : ℕ
+    left = length copied - m
+
+    long : m ≡ length x
+    long = rw (p, length-take) (omega arith)
+
+    as_many : length copied ≡ length s
+    as_many = rw (length-append, length-drop, ← long) (omega arith)
+
+    behind_them : length (mid_of m left copied) ≡ length s - m
+    behind_them = rw (length-take, length-drop, as_many) (omega arith)
+
+    none_past : drop left (drop m copied) ≡ []
+    none_past = drop_of_length-le (drop m copied) (rw (length-drop) (omega arith))
+
+    pub filled_all : z ≡ replicate (length (mid_of m left copied)) 0 → put_mid m left copied z ≡ written (length s) ws
+    filled_all q = rw (none_past, append-nil, q, behind_them, seam m x (drop m s) long, p) both_parts
 
 -- a word, and a part behind it that is filled
 module _ (w : ℕ) (s z : List ℕ) where
@@ -89,45 +123,12 @@ nine_stored found index kind start size (a ∷ b ∷ c ∷ d ∷ e ∷ f ∷ g �
 nine_stored found index kind start size (a ∷ b ∷ c ∷ d ∷ e ∷ f ∷ g ∷ i ∷ []) h = absurd (omega arith)
 nine_stored found index kind start size (a ∷ b ∷ c ∷ d ∷ e ∷ f ∷ g ∷ i ∷ j ∷ s) h = refl
 
--- zeros stored from `from` up to i
-unfoldable pub clearing : ℕ → ℕ → List ℕ → List ℕ
-clearing from zero ws = ws
-clearing from (suc i) [] = []
-clearing zero (suc i) (w ∷ ws) = 0 ∷ clearing zero i ws
-clearing (suc from) (suc i) (w ∷ ws) = w ∷ clearing from i ws
-
-pub clear_start : (from : ℕ) (ws : List ℕ) → ws ≡ clearing from from ws
-unfolding clearing
-clear_start zero ws = refl
-clear_start (suc from) [] = refl
-clear_start (suc from) (w ∷ ws) = ap (λ (z : List ℕ). w ∷ z) (clear_start from ws)
-
-pub clear_turn : (from i : ℕ) (ws : List ℕ) → from ≤ i → i < length ws → set (clearing from i ws) i 0 ≡ clearing from (suc i) ws
-unfolding clearing
-clear_turn from i [] h l = absurd (not-suc-le-zero l)
-clear_turn zero zero (w ∷ ws) h l = refl
-clear_turn (suc from) zero (w ∷ ws) h l = absurd (not-suc-le-zero h)
-clear_turn zero (suc i) (w ∷ ws) h l = ap (λ (z : List ℕ). 0 ∷ z) (clear_turn zero i ws zero-le (le_of_suc-le-suc l))
-clear_turn (suc from) (suc i) (w ∷ ws) h l = ap (λ (z : List ℕ). w ∷ z) (clear_turn from i ws (le_of_suc-le-suc h) (le_of_suc-le-suc l))
-
-pub clear_end : (from : ℕ) (ws : List ℕ) → clearing from (length ws) ws ≡ cleared_from from ws
-unfolding clearing cleared_from
-clear_end from [] = refl
-clear_end zero (w ∷ ws) = ap (λ (z : List ℕ). 0 ∷ z) (clear_end zero ws)
-clear_end (suc from) (w ∷ ws) = ap (λ (z : List ℕ). w ∷ z) (clear_end from ws)
-
--- nine words, and zeros behind them
-cleared_whole : (ws : List ℕ) → cleared_from 0 ws ≡ written (length ws) []
-unfolding cleared_from written
-cleared_whole [] = refl
-cleared_whole (w ∷ ws) = ap (λ (z : List ℕ). 0 ∷ z) (cleared_whole ws)
-
-pub nine_given : (found index kind start size : ℕ) (s : List ℕ) → 9 ≤ length s
-    → cleared_from 9 (nine_words found index kind start size ++ drop 9 s) ≡ written (length s) (nine_words found index kind start size)
-unfolding cleared_from written
-nine_given found index kind start size s h =
-    let whole : length s ≡ suc (suc (suc (suc (suc (suc (suc (suc (suc (length (drop 9 s)))))))))) = omega (arith, length-drop 9 s) in
-    rw (whole, cleared_whole (drop 9 s)) refl
+-- and zeros behind them
+pub nine_given : (found index kind start size : ℕ) (s t z : List ℕ) → 9 ≤ length s → t ≡ nine_words found index kind start size ++ drop 9 s → z ≡ replicate (length (mid_of 9 (length t - 9) t)) 0
+    → put_mid 9 (length t - 9) t z ≡ written (length s) (nine_words found index kind start size)
+nine_given found index kind start size s t z h e q =
+    let words = nine_words found index kind start size in
+    rw e (filled_all s words 9 (omega arith) words z refl (rw e at q))
 
 -- so a row's answer is given
 pub row_given : (r : Row) (s z : List ℕ) → z ≡ written (length s) (nine_words 1 r.index r.kind r.start r.length) → Given (row_answer (Some r)) s z 0

@@ -1,13 +1,13 @@
 -- What the exported functions answer: a number, 0 or why there is nothing, and 23 words behind it.
 use Rattle.program.specs.declared.Row.{Row}
-use Rattle.std.specs.Prelude.{ℕ, zero, suc, ◌-◌, ◌/◌, ◌%◌, ◌^◌, ◌≡◌, Bool, true, false, eqb, List, [], ◌∷◌, length, Option, Some, None, Result, Ok, Err}
+use Rattle.std.specs.Prelude.{ℕ, zero, suc, unwrap_or, ◌-◌, ◌/◌, ◌%◌, ◌^◌, ◌≡◌, Bool, eqb, List, [], ◌∷◌, length, Option, Some, None, Result, Ok, Err}
+use Rattle.std.specs.Int.{from_bool}
 use Rattle.elf_parser.specs.declared.error.ElfParserError.{ElfParserError}
 use Rattle.elf_parser.specs.declared.error.Report.{Report}
 use Rattle.elf_parser.specs.declared.layout.Layout.{Layout}
 use Rattle.elf_parser.specs.Errors.{report_of}
 use Rattle.elf_parser.specs.Parse.{parsed}
-use Rattle.hash_table.specs.declared.FoundSymbol.{FoundSymbol}
-use Rattle.hash_table.specs.declared.FoundSymbol.TheVariants.{At as SymbolAt, Nothing as NoSymbol, BadHashTable}
+use Rattle.hash_table.specs.declared.BadHashTable.{BadHashTable}
 use Rattle.program.specs.Table.{Lent, Shared}
 use Rattle.loader.specs.declared.get_bytes.PartPlace.{PartPlace}
 use Rattle.loader.specs.declared.error.ElfError.{ElfError}
@@ -55,7 +55,7 @@ refused e = reported (report_of e)
 abbrev pub accepted : List ℕ → Answer
 accepted ws = answer_with 0 (0 ∷ 0 ∷ 0 ∷ ws)
 
--- a layout: its numbers, in the order of `Layout`, but for the relocations that bring an addend, which come last
+-- a layout: its numbers, in the order of `Layout`, 0 for a section header that is not there, but for the relocations that bring an addend, which come last
 abbrev pub laid_out : Layout → Answer
 laid_out l =
     accepted
@@ -63,10 +63,10 @@ laid_out l =
     ∷ l.program_headers.count
     ∷ l.section_headers.offset
     ∷ l.section_headers.count
-    ∷ l.shstrtab
-    ∷ l.symtab
-    ∷ l.strtab
-    ∷ l.dynstr
+    ∷ unwrap_or l.shstrtab 0
+    ∷ unwrap_or l.symtab 0
+    ∷ unwrap_or l.strtab 0
+    ∷ unwrap_or l.dynstr 0
     ∷ l.dynamic_relocations.offset
     ∷ l.dynamic_relocations.count
     ∷ l.dynamic_symbols.offset
@@ -105,23 +105,19 @@ row_answer (Some r) = accepted (1 ∷ r.index ∷ r.kind ∷ r.start ∷ r.lengt
 row_answer None = accepted (0 ∷ [])
 
 -- a symbol by its name: 1 and its number, 0 where there is none; 48 where the hash table cannot be used
-abbrev pub symbol_answer : FoundSymbol → Answer
-symbol_answer (SymbolAt index) = accepted (1 ∷ index ∷ [])
-symbol_answer NoSymbol = accepted (0 ∷ [])
-symbol_answer BadHashTable = answer_with 48 (0 ∷ [])
+abbrev pub symbol_answer : Result (Option ℕ) BadHashTable → Answer
+symbol_answer (Ok (Some index)) = accepted (1 ∷ index ∷ [])
+symbol_answer (Ok None) = accepted (0 ∷ [])
+symbol_answer (Err bad) = answer_with 48 (0 ∷ [])
 
 -- the word where there is none: the largest, which is no index and no row's number (`row_told` in proofs/Told.antt)
 abbrev pub none_word : ℕ
 none_word = 2 ^ 64 - 1
 
--- an index as a word, and the number of a row
-abbrev pub index_word : Option ℕ → ℕ
-index_word (Some index) = index
-index_word None = none_word
-
-abbrev pub row_word : Option ℕ → ℕ
-row_word (Some row) = row
-row_word None = none_word
+-- an index as a word, or the number of a row
+abbrev pub word_or_none : Option ℕ → ℕ
+word_or_none (Some n) = n
+word_or_none None = none_word
 
 -- ---- a load
 
@@ -140,10 +136,6 @@ config_of settings = record {
   enable_sbpf_v2 = bit_of settings 32;
 }
 
-abbrev pub number_of : Bool → ℕ
-number_of true = 1
-number_of false = 0
-
 -- an accepted load: its numbers, in the order of `Accepted`, with a number before them and two words behind them
 abbrev pub loaded_with : ℕ → Accepted → ℕ → ℕ → Answer
 loaded_with number a last behind =
@@ -155,7 +147,7 @@ loaded_with number a last behind =
     ∷ a.entry
     ∷ a.used
     ∷ a.moves
-    ∷ number_of a.ro_copied
+    ∷ from_bool a.ro_copied
     ∷ a.ro_offset
     ∷ a.ro_start
     ∷ a.ro_length
@@ -185,9 +177,3 @@ text_answer (Err e) = reported (load.report_of e)
 -- the first nine words of a row's answer, its number the first; behind them are zeros
 abbrev pub nine_words : ℕ → ℕ → ℕ → ℕ → ℕ → List ℕ
 nine_words found index kind start size = 0 ∷ 0 ∷ 0 ∷ 0 ∷ found ∷ index ∷ kind ∷ start ∷ size ∷ []
-
--- zeros from a place on
-unfoldable pub cleared_from : ℕ → List ℕ → List ℕ
-cleared_from from [] = []
-cleared_from zero (w ∷ ws) = 0 ∷ cleared_from zero ws
-cleared_from (suc from) (w ∷ ws) = w ∷ cleared_from from ws

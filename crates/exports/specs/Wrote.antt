@@ -2,18 +2,16 @@
 use Rattle.std.specs.Prelude.{ℕ, ◌%◌, ◌^◌, ◌≡◌, Bool, List, [], ◌∷◌, length, get_or, ltb, eqb, Result, Ok, Err}
 use Rattle.ebpf.specs.Choice.{◌if◌else◌}
 use Rattle.program.specs.Table.{Lent, Shared, table_before, capacity}
+use Rattle.elf_parser.specs.declared.error.ElfParserError.TheVariants.{NoSuchIndex}
 use Rattle.loader.specs.declared.error.ElfError.{ElfError}
+use Rattle.loader.specs.declared.error.ElfError.TheVariants.{FailedToParse}
 use Rattle.loader.specs.declared.answer.Accepted.{Accepted}
 use Rattle.loader.specs.declared.validate.Config.{Config}
 use Rattle.loader.specs.Errors as load
 use Rattle.loader.specs.Load.{load_of_lent, answer_of}
-use Rattle.writers.specs.declared.Filled.{Filled}
-use Rattle.writers.specs.declared.Filled.TheVariants.{Whole, Refused as NotFilled}
 use Rattle.writers.specs.declared.LoadWrote.{LoadWrote}
 use Rattle.writers.specs.declared.Writer.{Writer}
 use Rattle.writers.specs.declared.Writer.TheVariants.{File, Call, Relocation}
-use Rattle.writers.specs.declared.Wrote.{Wrote}
-use Rattle.writers.specs.declared.Wrote.TheVariants.{By, NoSuchIndex, Refused}
 use Rattle.writers.specs.Asked.{text_of, asked_by}
 use Rattle.writers.specs.Loads.{LoadsAndTells}
 use Rattle.writers.specs.Whole.{code_by, filled_in}
@@ -32,10 +30,9 @@ number_in File = 0
 number_in (Call i) = i
 number_in (Relocation k) = k
 
-abbrev pub wrote_answer : Wrote → Answer
-wrote_answer (By w) = accepted (kind_of w ∷ number_in w ∷ [])
-wrote_answer NoSuchIndex = answer_with 45 (0 ∷ [])
-wrote_answer (Refused e) = reported (load.report_of e)
+abbrev pub wrote_answer : Result Writer ElfError → Answer
+wrote_answer (Ok w) = accepted (kind_of w ∷ number_in w ∷ [])
+wrote_answer (Err e) = reported (load.report_of e)
 
 -- ---- by the words of a load's answer, as `load_answer` lays them out
 
@@ -50,16 +47,16 @@ refused_in loaded = answer_with (refusal_in loaded) (get_or loaded 1 0 ∷ get_o
 abbrev pub version2_in : List ℕ → Bool
 version2_in loaded = eqb (get_or loaded 4 0) 2
 
-abbrev pub wrote_in : List ℕ → List ℕ → ℕ → Wrote
+abbrev pub wrote_in : List ℕ → List ℕ → ℕ → Result Writer ElfError
 wrote_in file loaded b = asked_by file (version2_in loaded) (get_or loaded 13 0) (get_or loaded 14 0) b
 
 -- WHO WROTE THE BYTE b
 unfoldable pub who_wrote_answer : List ℕ → List ℕ → ℕ → Answer
 who_wrote_answer file loaded b = wrote_answer (wrote_in file loaded b) if eqb (refusal_in loaded) 0 else refused_in loaded
 
-abbrev pub filled_answer : Filled → Answer
-filled_answer Whole = answer_with 0 (0 ∷ [])
-filled_answer (NotFilled e) = reported (load.report_of e)
+abbrev pub filled_answer : Result (Unit {0}) ElfError → Answer
+filled_answer (Ok filled) = answer_with 0 (0 ∷ [])
+filled_answer (Err e) = reported (load.report_of e)
 
 -- WHO WROTE EACH BYTE, in n numbers: the answer, and the number at b
 unfoldable pub all_answer : List ℕ → List ℕ → ℕ → Answer
@@ -83,12 +80,12 @@ pub record GivesNumbers (file loaded : Shared) (numbers answer : Lent) (r : ℕ)
 
 -- ---- with a load: the load's words as they are, and behind them the writer's two; 45 keeps the load's
 
-abbrev pub accepted_wrote : Accepted → Wrote → Answer
-accepted_wrote a (By w) = loaded_with 0 a (kind_of w) (number_in w)
-accepted_wrote a NoSuchIndex = loaded_with 45 a 0 0
-accepted_wrote a (Refused e) = reported (load.report_of e)
+abbrev pub accepted_wrote : Accepted → Result Writer ElfError → Answer
+accepted_wrote a (Ok w) = loaded_with 0 a (kind_of w) (number_in w)
+accepted_wrote a (Err (FailedToParse NoSuchIndex)) = loaded_with 45 a 0 0
+accepted_wrote a (Err e) = reported (load.report_of e)
 
-abbrev pub load_wrote_answer : Result Accepted ElfError → Wrote → Answer
+abbrev pub load_wrote_answer : Result Accepted ElfError → Result Writer ElfError → Answer
 load_wrote_answer (Ok a) wrote = accepted_wrote a wrote
 load_wrote_answer (Err e) wrote = reported (load.report_of e)
 

@@ -1,9 +1,9 @@
 // What the exported functions answer, and how it is written into a lent slice.
 ghost use Rattle.std.specs.Prelude.{◌≡◌, ◌∷◌, ◌++◌, ◌≤◌, length, get_or, drop};
-ghost use Rattle.exports.specs.Answers.{written, Gives, answer_with, reported, refused, laid_out, parse_answer, place_answer, table_answer, symbol_answer, row_answer, index_word, row_word, nine_words, cleared_from};
+ghost use Rattle.exports.specs.Answers.{written, Gives, answer_with, reported, refused, laid_out, parse_answer, place_answer, table_answer, symbol_answer, row_answer, word_or_none, nine_words};
 
-use elf_parser::{ElfParserError, Layout, Parsed, Place, Report, Sliced, report_of};
-use hash_table::FoundSymbol;
+use elf_parser::{ElfParserError, Entries, Layout, Place, Report};
+use hash_table::BadHashTable;
 use program::Row;
 
 // A number, 0 where nothing was refused, and what goes with it.
@@ -17,21 +17,16 @@ pub struct Answer {
 pub(crate) fn word_in(words: &[u64], i: usize) -> u64
     ensures { result ≡ get_or words.now i 0 }
 {
-    if i < words.len() {
-        return words[i];
-    }
-    0
+    words.get(i).copied().unwrap_or(0)
 }
 
 // Fills a slice: the words, as many as there is room for, and zeros behind them.
 fn fill(to: &mut [u64], words: &[u64])
     ensures { to.new ≡ written (length to.old) words.now }
 {
-    let mut i = 0;
-    while i < to.len() {
-        to[i] = word_in(words, i);
-        i += 1;
-    }
+    let held = to.len().min(words.len());
+    to[..held].copy_from_slice(&words[..held]);
+    to[held..].fill(0);
 }
 
 // An answer of a number and these words, with zeros behind them.
@@ -53,7 +48,7 @@ pub(crate) fn reported(r: Report) -> Answer
 pub(crate) fn refused(e: ElfParserError) -> Answer
     ensures { result ≡ refused e }
 {
-    reported(report_of(e))
+    reported(Report::from(e))
 }
 
 fn laid_out(l: Layout) -> Answer
@@ -72,10 +67,10 @@ fn laid_out(l: Layout) -> Answer
         program_headers.count,
         section_headers.offset,
         section_headers.count,
-        l.shstrtab,
-        l.symtab,
-        l.strtab,
-        l.dynstr,
+        l.shstrtab.unwrap_or(0),
+        l.symtab.unwrap_or(0),
+        l.strtab.unwrap_or(0),
+        l.dynstr.unwrap_or(0),
         relocations.offset,
         relocations.count,
         symbols.offset,
@@ -87,58 +82,51 @@ fn laid_out(l: Layout) -> Answer
     answer_with(0, &words)
 }
 
-pub(crate) fn parse_answer(p: Parsed) -> Answer
-    ensures { result ≡ parse_answer p }
+pub(crate) fn parse_answer(parsed: Result<Layout, ElfParserError>) -> Answer
+    ensures { result ≡ parse_answer parsed }
 {
-    match p {
-        Parsed::File(l) => laid_out(l),
-        Parsed::Refused(e) => refused(e),
+    match parsed {
+        Ok(layout) => laid_out(layout),
+        Err(e) => refused(e),
     }
 }
 
-pub(crate) fn place_answer(p: Place) -> Answer
-    ensures { result ≡ place_answer p }
+pub(crate) fn place_answer(place: Result<Place, ElfParserError>) -> Answer
+    ensures { result ≡ place_answer place }
 {
-    match p {
-        Place::At { start, length } => answer_with(0, &[0, 0, 0, start as u64, length as u64]),
-        Place::Refused(e) => refused(e),
+    match place {
+        Ok(p) => answer_with(0, &[0, 0, 0, p.start as u64, p.length as u64]),
+        Err(e) => refused(e),
     }
 }
 
-pub(crate) fn table_answer(t: Sliced) -> Answer
-    ensures { result ≡ table_answer t }
+pub(crate) fn table_answer(table: Result<Entries, ElfParserError>) -> Answer
+    ensures { result ≡ table_answer table }
 {
-    match t {
-        Sliced::At(e) => answer_with(0, &[0, 0, 0, e.offset, e.count]),
-        Sliced::Refused(e) => refused(e),
+    match table {
+        Ok(t) => answer_with(0, &[0, 0, 0, t.offset, t.count]),
+        Err(e) => refused(e),
     }
 }
 
-pub(crate) fn symbol_answer(f: FoundSymbol) -> Answer
-    ensures { result ≡ symbol_answer f }
+pub(crate) fn symbol_answer(found: Result<Option<u32>, BadHashTable>) -> Answer
+    ensures { result ≡ symbol_answer found }
 {
-    match f {
-        FoundSymbol::At(index) => answer_with(0, &[0, 0, 0, 1, index as u64]),
-        FoundSymbol::Nothing => answer_with(0, &[0, 0, 0, 0]),
-        FoundSymbol::BadHashTable => answer_with(48, &[0]),
+    match found {
+        Ok(Some(index)) => answer_with(0, &[0, 0, 0, 1, index as u64]),
+        Ok(None) => answer_with(0, &[0, 0, 0, 0]),
+        Err(_) => answer_with(48, &[0]),
     }
 }
 
 // The word that says that there is none.
 const NONE: u64 = 18446744073709551615;
 
-// The index that is found, or that word.
-pub(crate) fn index_word(f: Option<u32>) -> u64
-    ensures { result ≡ index_word f }
+// The index or the number of a row that is found, or that word.
+pub(crate) fn word_or_none(found: Option<u64>) -> u64
+    ensures { result ≡ word_or_none found }
 {
-    f.map_or(NONE, |index| index as u64)
-}
-
-// The same of the number of a row.
-pub(crate) fn row_word(f: Option<usize>) -> u64
-    ensures { result ≡ row_word f }
-{
-    f.map_or(NONE, |row| row as u64)
+    found.unwrap_or(NONE)
 }
 
 // Fills the lent slice: the number, and the words behind it. The words are lent: by value they
@@ -163,6 +151,7 @@ pub(crate) fn give(answer: &mut [u64], a: Answer) -> u32
 
 // Stores a row's nine words, the first four of them 0, at the front of a slice: straight, since a lookup
 // is made at every call.
+// Kept: one store a word, since `fill` would copy the words from an array of its own.
 fn store_nine(to: &mut [u64], found: u64, index: u64, kind: u64, start: u64, size: u64)
     requires { 9 ≤ length to.old }
     ensures { to.new ≡ nine_words found index kind start size ++ drop 9 to.old }
@@ -178,18 +167,6 @@ fn store_nine(to: &mut [u64], found: u64, index: u64, kind: u64, start: u64, siz
     to[8] = size;
 }
 
-// Zeros from a place on.
-fn clear_from(to: &mut [u64], from: usize)
-    requires { from ≤ length to.old }
-    ensures { to.new ≡ cleared_from from to.old }
-{
-    let mut i = from;
-    while i < to.len() {
-        to[i] = 0;
-        i += 1;
-    }
-}
-
 // Fills a lent slice with a row's nine words.
 fn give_nine(answer: &mut [u64], found: u64, index: u64, kind: u64, start: u64, size: u64)
     ensures { answer.new ≡ written (length answer.old) (nine_words found index kind start size) }
@@ -199,7 +176,7 @@ fn give_nine(answer: &mut [u64], found: u64, index: u64, kind: u64, start: u64, 
         return;
     }
     store_nine(answer, found, index, kind, start, size);
-    clear_from(answer, 9);
+    answer[9..].fill(0);
 }
 
 // Fills the lent slice with the words of a row, or of none.

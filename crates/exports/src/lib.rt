@@ -11,17 +11,18 @@ ghost use Rattle.elf_parser.specs.Records.{section_place_of, symbol_table_of};
 ghost use Rattle.hash_table.specs.Find.{find_symbol};
 ghost use Rattle.program.specs.Table.{lookup_in, lookup_ascending_in, row_ascending_in, index_ascending_in, slices};
 ghost use Rattle.loader.specs.GetBytes.{text_place};
-ghost use Rattle.exports.specs.Answers.{Gives, GivesAsked, GivesLoad, text_answer, parse_answer, place_answer, table_answer, symbol_answer, row_answer, index_word, row_word};
+ghost use Rattle.exports.specs.Answers.{Gives, GivesAsked, GivesLoad, text_answer, parse_answer, place_answer, table_answer, symbol_answer, row_answer, word_or_none};
 ghost use Rattle.exports.specs.Wrote.{who_wrote_answer, GivesNumbers, GivesLoadWrote};
 ghost use Rattle.exports.specs.Names.{Named, refusal_name};
 
-use answers::{give, give_row, index_word, parse_answer, row_word};
-use asked::{
-    dynamic_symbol_name_answer, find_symbol_answer, section_name_answer, section_place_answer,
-    symbol_name_answer, symbol_table_answer,
+use answers::{
+    give, give_row, parse_answer, place_answer, refused, symbol_answer, table_answer, word_or_none,
 };
 use ebpf::hash_symbol_name;
-use elf_parser::parse;
+use elf_parser::{
+    dynamic_symbol_name, parse, section_name, section_place, symbol_name, symbol_table,
+};
+use hash_table::find_symbol;
 use loader::{load, text_place};
 use loading::{config_of, load_answer, text_answer};
 use names::refusal_name;
@@ -30,7 +31,6 @@ use writers::load_who_wrote;
 use wrote::{load_wrote_answer, numbers_answer, who_wrote_answer};
 
 mod answers;
-mod asked;
 mod loading;
 mod names;
 mod wrote;
@@ -61,45 +61,50 @@ pub fn sbpf_parse(file: &[u8], answer: &mut [u64]) -> u32
 pub fn sbpf_section_place(file: &[u8], index: u32, answer: &mut [u64]) -> u32
     ensures { GivesAsked file (λ f l. place_answer (section_place_of f l index)) answer result }
 {
-    give(answer, section_place_answer(file, parse(file), index))
+    let place = parse(file).and_then(|layout| section_place(file, layout, index));
+    give(answer, place_answer(place))
 }
 
 // Where the section name at a string offset stands.
 pub fn sbpf_section_name(file: &[u8], sh_name: u32, answer: &mut [u64]) -> u32
     ensures { GivesAsked file (λ f l. place_answer (section_name f l sh_name)) answer result }
 {
-    give(answer, section_name_answer(file, parse(file), sh_name))
+    let place = parse(file).and_then(|layout| section_name(file, layout, sh_name));
+    give(answer, place_answer(place))
 }
 
 // Where the symbol name at a string offset stands.
 pub fn sbpf_symbol_name(file: &[u8], st_name: u32, answer: &mut [u64]) -> u32
     ensures { GivesAsked file (λ f l. place_answer (symbol_name f l st_name)) answer result }
 {
-    give(answer, symbol_name_answer(file, parse(file), st_name))
+    let place = parse(file).and_then(|layout| symbol_name(file, layout, st_name));
+    give(answer, place_answer(place))
 }
 
 // Where the dynamic symbol name at a string offset stands.
 pub fn sbpf_dynamic_symbol_name(file: &[u8], st_name: u32, answer: &mut [u64]) -> u32
     ensures { GivesAsked file (λ f l. place_answer (dynamic_symbol_name f l st_name)) answer result }
 {
-    give(
-        answer,
-        dynamic_symbol_name_answer(file, parse(file), st_name),
-    )
+    let place = parse(file).and_then(|layout| dynamic_symbol_name(file, layout, st_name));
+    give(answer, place_answer(place))
 }
 
 // Where the symbols of .symtab stand: none where there is no such section.
 pub fn sbpf_symbol_table(file: &[u8], answer: &mut [u64]) -> u32
     ensures { GivesAsked file (λ f l. table_answer (symbol_table_of f l)) answer result }
 {
-    give(answer, symbol_table_answer(file, parse(file)))
+    let table = parse(file).and_then(|layout| symbol_table(file, layout));
+    give(answer, table_answer(table))
 }
 
 // The dynamic symbol with a name, through the file's hash table: whether there is one, and its number.
 pub fn sbpf_find_symbol(file: &[u8], name: &[u8], answer: &mut [u64]) -> u32
     ensures { GivesAsked file (λ f l. symbol_answer (find_symbol f l name.now)) answer result }
 {
-    give(answer, find_symbol_answer(file, parse(file), name))
+    match parse(file) {
+        Ok(layout) => give(answer, symbol_answer(find_symbol(file, layout, name))),
+        Err(e) => give(answer, refused(e)),
+    }
 }
 
 // The first used row with the key, whatever the five slices hold; at most the rows lent count.
@@ -128,6 +133,8 @@ pub fn sbpf_lookup(
 
 // The row with the key that a binary search over the used keys comes to: what `sbpf_lookup` answers
 // where the rows ascend, as a load leaves them. At most the rows lent count.
+// Kept: the table is written out in both lookups, since a function that makes it would take the same six
+// parameters.
 pub fn sbpf_lookup_ascending(
     keys: &[u32],
     indices: &[u32],
@@ -154,17 +161,19 @@ pub fn sbpf_lookup_ascending(
 // The index of that row, by the columns of keys and indices alone; the largest word where there is
 // none. At most the rows lent count, that is as many as the shorter column has.
 pub fn sbpf_index_ascending(keys: &[u32], indices: &[u32], used: u64, key: u32) -> u64
-    ensures { result ≡ index_word (index_ascending_in keys.now indices.now used key) }
+    ensures { result ≡ word_or_none (index_ascending_in keys.now indices.now used key) }
 {
-    index_word(index_ascending(keys, indices, used as usize, key))
+    let index = index_ascending(keys, indices, used as usize, key);
+    word_or_none(index.map(|index| index as u64))
 }
 
 // The number of that row, by the column of keys alone; the largest word where there is none. At most
 // as many rows count as the column has numbers.
 pub fn sbpf_row_ascending(keys: &[u32], used: u64, key: u32) -> u64
-    ensures { result ≡ row_word (row_ascending_in keys.now used key) }
+    ensures { result ≡ word_or_none (row_ascending_in keys.now used key) }
 {
-    row_word(row_ascending(keys, used as usize, key))
+    let row = row_ascending(keys, used as usize, key);
+    word_or_none(row.map(|row| row as u64))
 }
 
 // A load, as `loader::load`, with the settings by their bits.

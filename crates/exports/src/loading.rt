@@ -1,11 +1,12 @@
 // The settings of a load by their bits, and what a load answers in words.
 ghost use Rattle.std.specs.Prelude.{◌≡◌, ◌<◌};
-ghost use Rattle.exports.specs.Answers.{bit_of, config_of, number_of, loaded_with, load_answer, text_answer};
+ghost use Rattle.exports.specs.Answers.{bit_of, config_of, loaded_with, load_answer, text_answer};
 
 use crate::answers::{Answer, answer_with, reported};
 use loader::{Accepted, Config, ElfError, PartPlace, report_of};
 
 // Whether the bit of that value, a power of two, is set.
+#[tactic(auto, unfolding(crate::specs::Answers::bit_of))]
 fn bit(settings: u32, value: u32) -> bool
     requires { 0 < value }
     ensures { result ≡ bit_of settings value }
@@ -27,20 +28,10 @@ pub(crate) fn config_of(settings: u32) -> Config
     }
 }
 
-fn number_of(b: bool) -> u64
-    ensures { result ≡ number_of b }
-{
-    if b {
-        return 1;
-    }
-    0
-}
-
 // The words of an accepted load, with a number before them and two words behind them.
 pub(crate) fn loaded_with(number: u32, a: Accepted, last: u64, behind: u64) -> Answer
     ensures { result ≡ loaded_with number a last behind }
 {
-    let copied = number_of(a.ro_copied);
     let words = [
         0,
         0,
@@ -49,7 +40,7 @@ pub(crate) fn loaded_with(number: u32, a: Accepted, last: u64, behind: u64) -> A
         a.entry as u64,
         a.used as u64,
         a.moves,
-        copied,
+        u64::from(a.ro_copied),
         a.ro_offset,
         a.ro_start,
         a.ro_length,

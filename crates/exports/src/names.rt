@@ -3,20 +3,19 @@ ghost use Rattle.std.specs.Prelude.{◌≡◌, ◌+◌, ◌≤◌, ◌<◌, leng
 ghost use Rattle.exports.specs.Answers.{written};
 ghost use Rattle.exports.specs.Names.{piece_of, left_behind, Starts, Named, refusal_name};
 
-use ebpf::little_endian::read;
-
 // Fills a slice: the bytes, as many as there is room for, and zeros behind them.
+// Kept: apart from `fill` of answers.rt, since at a type parameter std's `fill` owes that a clone can't fail and
+// is the value.
 fn fill_bytes(to: &mut [u8], bytes: &[u8])
     ensures { to.new ≡ written (length to.old) bytes.now }
 {
-    let mut i = 0;
-    while i < to.len() {
-        to[i] = read(bytes, i);
-        i += 1;
-    }
+    let held = to.len().min(bytes.len());
+    to[..held].copy_from_slice(&bytes[..held]);
+    to[held..].fill(0);
 }
 
 // How many zeros are left to pass behind a byte.
+#[tactic(auto, using(ebpf::specs::Choice::choices), unfolding(crate::specs::Names::left_behind))]
 fn left_behind(left: u32, byte: u8) -> u32
     requires { 0 < left }
     ensures { result ≡ left_behind left byte }
@@ -33,15 +32,13 @@ fn name_start(names: &[u8], number: u32) -> usize
     ensures { Starts names.now number result }
 {
     let mut left = number;
-    let mut at = 0;
-    while at < names.len() {
+    for at in 0..names.len() {
         if left == 0 {
             return at;
         }
         left = left_behind(left, names[at]);
-        at += 1;
     }
-    at
+    names.len()
 }
 
 // Where the name that starts there ends: at its zero, or where all ends.
@@ -49,14 +46,12 @@ fn name_end(names: &[u8], start: usize) -> usize
     requires { start ≤ length names.now }
     ensures { result ≡ start + length (piece_of 0 (drop start names.now)) }
 {
-    let mut at = start;
-    while at < names.len() {
+    for at in start..names.len() {
         if names[at] == 0 {
             return at;
         }
-        at += 1;
     }
-    at
+    names.len()
 }
 
 // The name with a number, as a part of the names.

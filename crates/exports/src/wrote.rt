@@ -4,8 +4,9 @@ ghost use Rattle.exports.specs.Wrote.{kind_of, number_in, wrote_answer, refusal_
 
 use crate::answers::{Answer, answer_with, reported, word_in};
 use crate::loading::loaded_with;
+use elf_parser::ElfParserError;
 use loader::{Accepted, ElfError, clear_words, report_of};
-use writers::{Filled, Writer, Wrote, who_wrote_all_by, who_wrote_by};
+use writers::{Writer, who_wrote_all_by, who_wrote_by};
 
 fn kind_of(w: Writer) -> u64
     ensures { result ≡ kind_of w }
@@ -27,13 +28,12 @@ fn number_in(w: Writer) -> u64
     }
 }
 
-fn wrote_answer(wrote: Wrote) -> Answer
+fn wrote_answer(wrote: Result<Writer, ElfError>) -> Answer
     ensures { result ≡ wrote_answer wrote }
 {
     match wrote {
-        Wrote::By(w) => answer_with(0, &[0, 0, 0, kind_of(w), number_in(w)]),
-        Wrote::NoSuchIndex => answer_with(45, &[0]),
-        Wrote::Refused(e) => reported(report_of(e)),
+        Ok(w) => answer_with(0, &[0, 0, 0, kind_of(w), number_in(w)]),
+        Err(e) => reported(report_of(e)),
     }
 }
 
@@ -53,6 +53,7 @@ fn refused_in(loaded: &[u64]) -> Answer
 }
 
 // Who wrote a byte, by the words of a load's answer.
+#[tactic(auto, using(ebpf::specs::Choice::choices), unfolding(crate::specs::Wrote::who_wrote_answer))]
 pub(crate) fn who_wrote_answer(file: &[u8], loaded: &[u64], offset: u64) -> Answer
     ensures { result ≡ who_wrote_answer file.now loaded.now offset }
 {
@@ -65,12 +66,12 @@ pub(crate) fn who_wrote_answer(file: &[u8], loaded: &[u64], offset: u64) -> Answ
     wrote_answer(who_wrote_by(file, version2, start, length, offset))
 }
 
-fn filled_answer(filled: Filled) -> Answer
+fn filled_answer(filled: Result<(), ElfError>) -> Answer
     ensures { result ≡ filled_answer filled }
 {
     match filled {
-        Filled::Whole => answer_with(0, &[0]),
-        Filled::Refused(e) => reported(report_of(e)),
+        Ok(()) => answer_with(0, &[0]),
+        Err(e) => reported(report_of(e)),
     }
 }
 
@@ -88,18 +89,22 @@ pub(crate) fn numbers_answer(numbers: &mut [u32], file: &[u8], loaded: &[u64]) -
     filled_answer(who_wrote_all_by(numbers, file, version2, start, length))
 }
 
-// The answer of an accepted load, with who wrote the byte behind it.
-fn accepted_wrote(a: Accepted, wrote: Wrote) -> Answer
+// The answer of an accepted load, with who wrote the byte behind it. An offset past the file's end
+// leaves the load's words as they are.
+fn accepted_wrote(a: Accepted, wrote: Result<Writer, ElfError>) -> Answer
     ensures { result ≡ accepted_wrote a wrote }
 {
     match wrote {
-        Wrote::By(w) => loaded_with(0, a, kind_of(w), number_in(w)),
-        Wrote::NoSuchIndex => loaded_with(45, a, 0, 0),
-        Wrote::Refused(e) => reported(report_of(e)),
+        Ok(w) => loaded_with(0, a, kind_of(w), number_in(w)),
+        Err(ElfError::FailedToParse(ElfParserError::NoSuchIndex)) => loaded_with(45, a, 0, 0),
+        Err(e) => reported(report_of(e)),
     }
 }
 
-pub(crate) fn load_wrote_answer(load: Result<Accepted, ElfError>, wrote: Wrote) -> Answer
+pub(crate) fn load_wrote_answer(
+    load: Result<Accepted, ElfError>,
+    wrote: Result<Writer, ElfError>,
+) -> Answer
     ensures { result ≡ load_wrote_answer load wrote }
 {
     match load {

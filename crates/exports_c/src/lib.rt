@@ -9,7 +9,7 @@ ghost use Rattle.elf_parser.specs.Records.{section_place_of, symbol_table_of};
 ghost use Rattle.hash_table.specs.Find.{find_symbol};
 ghost use Rattle.program.specs.Table.{lookup_in, lookup_ascending_in, row_ascending_in, index_ascending_in, slices};
 ghost use Rattle.loader.specs.GetBytes.{text_place};
-ghost use Rattle.exports.specs.Answers.{Gives, GivesAsked, GivesLoad, text_answer, parse_answer, place_answer, table_answer, symbol_answer, row_answer, index_word, row_word};
+ghost use Rattle.exports.specs.Answers.{Gives, GivesAsked, GivesLoad, text_answer, parse_answer, place_answer, table_answer, symbol_answer, row_answer, word_or_none};
 ghost use Rattle.exports.specs.Wrote.{who_wrote_answer, GivesNumbers, GivesLoadWrote};
 ghost use Rattle.exports.specs.Names.{Named, refusal_name};
 
@@ -125,7 +125,7 @@ pub extern "C" fn sbpf_lookup_ascending(
 // none. At most the rows lent count, that is as many as the shorter column has.
 #[unsafe(no_mangle)]
 pub extern "C" fn sbpf_index_ascending(keys: &[u32], indices: &[u32], used: u64, key: u32) -> u64
-    ensures { result ≡ index_word (index_ascending_in keys.now indices.now used key) }
+    ensures { result ≡ word_or_none (index_ascending_in keys.now indices.now used key) }
 {
     exports::sbpf_index_ascending(keys, indices, used, key)
 }
@@ -134,7 +134,7 @@ pub extern "C" fn sbpf_index_ascending(keys: &[u32], indices: &[u32], used: u64,
 // as many rows count as the column has numbers.
 #[unsafe(no_mangle)]
 pub extern "C" fn sbpf_row_ascending(keys: &[u32], used: u64, key: u32) -> u64
-    ensures { result ≡ row_word (row_ascending_in keys.now used key) }
+    ensures { result ≡ word_or_none (row_ascending_in keys.now used key) }
 {
     exports::sbpf_row_ascending(keys, used, key)
 }

@@ -1,40 +1,45 @@
 -- The lists that the scope has of two files, and that of a file that is too long, by computation: from the bytes of the file to those of the lines.
 use Rattle.std.specs.Prelude.{ℕ, ◌≡◌, refl, List, [], ◌∷◌, ◌++◌, replicate}
 use Rattle.ebpf.specs.Choice.{◌if◌else◌}
+use Rattle.ebpf.specs.IndexKeys.{index_key, key_in}
 use Rattle.ebpf.specs.Instructions.{slot_at, insn_at}
 use Rattle.ebpf.specs.LittleEndian.{le, bytes_of}
-use Rattle.elf_parser.specs.Dynamic.{first_with, segment_slice, section_slice, or_else, values_from, relocations_of, symbols_of, linking, dynamic_in}
-use Rattle.elf_parser.specs.Errors as parser
-use Rattle.elf_parser.specs.FileHeader.{header_fixed, header_right, header_check, tables_check}
-use Rattle.elf_parser.specs.Loops.{◌into◌, over}
+use Rattle.ebpf.specs.Murmur3.{body, murmur3}
+use Rattle.elf_parser.specs.Dynamic.{first_with, segment_slice, section_slice, or_else, with_tag, values_from, relocations_at, relocations_by, relocations_of, symbols_by, symbols_of}
+use Rattle.elf_parser.specs.FileHeader.{header_fixed, header_right, header_check as reader-headerCheck, tables_check}
+use Rattle.elf_parser.specs.Loops.{over}
 use Rattle.elf_parser.specs.Names.{name_by}
 use Rattle.elf_parser.specs.Parse.{first_check, file_check, named_layout, parsed}
 use Rattle.elf_parser.specs.Parts.{bytes_at}
-use Rattle.elf_parser.specs.Records.{entry_at, symbol_table_of, file_range}
-use Rattle.elf_parser.specs.SectionHeaders.{section_check, leaves, section_step}
-use Rattle.elf_parser.specs.SectionNames.{same_bytes, role_of, placed, named}
-use Rattle.elf_parser.specs.Strings.{string_check, before_zero, terminated, gives, string_in}
-use Rattle.elf_parser.specs.Types.{file_header, section_header}
-use Rattle.program.specs.HashedLegacy.{legacy_key, is_taken, legacy_row}
-use Rattle.program.specs.Rows.{register, registered}
+use Rattle.elf_parser.specs.ProgramHeaders.{load_step, contains_step, header_for_vaddr}
+use Rattle.elf_parser.specs.Records.{entry_at, sliced, symbol_table_in, symbol_table_of, symbols_at, file_range}
+use Rattle.elf_parser.specs.SectionHeaders.{section_check, section_step}
+use Rattle.elf_parser.specs.SectionNames.{same_bytes, role_of}
+use Rattle.elf_parser.specs.Strings.{string_check, before_zero, terminated, string_in}
+use Rattle.elf_parser.specs.Types.{file_header, program_header, section_header, sym, rel, dynamic}
+use Rattle.program.specs.HashedLegacy.{legacy_key, kept_symbol, is_taken, legacy_row}
+use Rattle.program.specs.Rows.{rank, register, registered, unregister}
+use Rattle.program.specs.Search.{narrowed, binary_search, is_among}
 use Rattle.loader.specs.Addresses.{machine_addr}
-use Rattle.loader.specs.Calls.{is_local_call, call_of, call_at, call_deed, slot_trace}
+use Rattle.loader.specs.Bytes.{put}
+use Rattle.loader.specs.Calls.{inside, target, is_local_call, call_of, call_at, call_deed, slot_trace}
 use Rattle.loader.specs.Deeds.{deed_trace}
 use Rattle.loader.specs.Entry.{entry_deed}
 use Rattle.loader.specs.Functions.{row_for}
-use Rattle.loader.specs.Labels.{label_symbols}
+use Rattle.loader.specs.Labels.{label_of, label_deed, label_symbols, label_trace}
 use Rattle.loader.specs.Load.{load_of}
 use Rattle.loader.specs.Parts.{job_trace}
-use Rattle.loader.specs.ReadOnly as ro
+use Rattle.loader.specs.ReadOnly.{read_only, gives as loader-gives, invalid_by, end_of, grown, taken, gather_step, from_start, can_borrow, borrowed, owned, placed as loader-placed, placing, copied_to, copy_step, copied_from}
+use Rattle.loader.specs.Relocations.{relocation_at, header_at, first_from, used_header, used_before, place_of, within, program_address, immediate_at, halves_deed, word_deed, address_deed, plan6464, relative_text, relative_value, plan_relative, function_call, builtin_call, call_by_name, plan6432, plan_at, relocation_trace}
 use Rattle.loader.specs.Sections.{section_at, starts_with, unsupported, outside_file, survey_step, survey_from}
 use Rattle.loader.specs.Trace.{and_then, each, settle}
-use Rattle.loader.specs.Validate as load
+use Rattle.loader.specs.Validate.{size_check, ascends, header_check as loader-headerCheck, sections_check, text_check, job_of, validated, prepared}
 use Rattle.listing.specs.Decimal.{decimal, digits_in}
 use Rattle.listing.specs.Lines.{spaced, word_line, row_line, row_lines, too_long, lines_of}
 
 -- no bytes: refused 33 0 0 0
 empty_file : lines_of [] ≡ 114 ∷ 101 ∷ 102 ∷ 117 ∷ 115 ∷ 101 ∷ 100 ∷ 32 ∷ 51 ∷ 51 ∷ 32 ∷ 48 ∷ 32 ∷ 48 ∷ 32 ∷ 48 ∷ 10 ∷ []
-unfolding lines_of word_line spaced decimal digits_in ◌if◌else◌ load_of load.prepared load.size_check load.ascends parsed file_check parser.◌then◌ header_check
+unfolding lines_of word_line spaced decimal digits_in ◌if◌else◌ load_of prepared size_check ascends parsed file_check reader-headerCheck
 empty_file = refl
 
 -- one byte more than is read
@@ -83,5 +88,5 @@ file =
 
 -- accepted 2 0 1 0, and 0 0 2
 two_slots : lines_of file ≡ 97 ∷ 99 ∷ 99 ∷ 101 ∷ 112 ∷ 116 ∷ 101 ∷ 100 ∷ 32 ∷ 50 ∷ 32 ∷ 48 ∷ 32 ∷ 49 ∷ 32 ∷ 48 ∷ 10 ∷ 48 ∷ 32 ∷ 48 ∷ 32 ∷ 50 ∷ 10 ∷ []
-unfolding file lines_of word_line row_line row_lines spaced decimal digits_in ◌if◌else◌ slot_at insn_at le bytes_of first_with segment_slice section_slice or_else values_from relocations_of symbols_of linking dynamic_in parser.◌then◌ header_fixed header_right header_check tables_check ◌into◌ over name_by first_check file_check named_layout parsed bytes_at entry_at symbol_table_of file_range section_check leaves section_step same_bytes role_of placed named string_check before_zero terminated gives string_in file_header section_header legacy_key is_taken legacy_row register registered machine_addr is_local_call call_of call_at call_deed slot_trace deed_trace entry_deed row_for label_symbols load_of job_trace ro.read_only ro.invalid_by ro.end_of ro.grown ro.taken ro.gather_step ro.can_borrow ro.borrowed ro.placed ro.placing section_at starts_with unsupported outside_file survey_step survey_from and_then each settle load.size_check load.ascends load.header_check load.sections_check load.text_check load.job_of load.validated load.prepared
+unfolding file lines_of word_line row_line row_lines spaced decimal digits_in ◌if◌else◌ index_key key_in slot_at insn_at le bytes_of body murmur3 first_with segment_slice section_slice or_else with_tag values_from relocations_at relocations_by relocations_of symbols_by symbols_of header_fixed header_right reader-headerCheck tables_check over name_by first_check file_check named_layout parsed bytes_at load_step contains_step entry_at sliced symbol_table_in symbol_table_of file_range section_check section_step same_bytes role_of string_check before_zero terminated string_in file_header program_header section_header sym rel legacy_key kept_symbol is_taken legacy_row rank register registered unregister narrowed binary_search is_among machine_addr put inside target is_local_call call_of call_at call_deed slot_trace deed_trace entry_deed row_for label_of label_deed label_symbols label_trace load_of job_trace read_only loader-gives invalid_by end_of grown taken gather_step from_start can_borrow borrowed owned loader-placed placing copied_to copy_step copied_from relocation_at header_at first_from used_header used_before place_of within program_address immediate_at halves_deed word_deed address_deed plan6464 relative_text relative_value plan_relative function_call builtin_call call_by_name plan6432 plan_at relocation_trace section_at starts_with unsupported outside_file survey_step survey_from and_then each settle size_check ascends loader-headerCheck sections_check text_check job_of validated prepared dynamic header_for_vaddr symbols_at
 two_slots = refl

@@ -66,10 +66,8 @@ fn put_rows(
     ensures { Stores 16128 (row_lines (column_rows keys indices kinds used)) out at result }
 {
     let mut next = at;
-    let mut i = 0;
-    while i < used {
+    for i in 0..used {
         next = put_row(out, next, keys[i], indices[i], kinds[i]);
-        i += 1;
     }
     next
 }

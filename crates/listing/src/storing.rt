@@ -8,13 +8,10 @@ ghost use Rattle.listing.specs.Lines.{spaced, Stores};
 pub(crate) fn clear(out: &mut [u8])
     ensures { out.new ≡ replicate (length out.old) 0 }
 {
-    let mut i = 0;
-    while i < out.len() {
-        out[i] = 0;
-        i += 1;
-    }
+    out.fill(0);
 }
 
+#[tactic(auto, using(crate::proofs::Stores::byte_left, crate::proofs::Stores::byte_stored))]
 pub(crate) fn put_byte(out: &mut [u8], at: usize, b: u8) -> usize
     requires { at + 1 ≤ 2 ^ 32 }
     ensures { Stores 1 (b ∷ []) out at result }
@@ -31,10 +28,8 @@ pub(crate) fn put_bytes(out: &mut [u8], at: usize, bytes: &[u8]) -> usize
     ensures { Stores (length bytes.now) bytes.now out at result }
 {
     let mut next = at;
-    let mut i = 0;
-    while i < bytes.len() {
+    for i in 0..bytes.len() {
         next = put_byte(out, next, bytes[i]);
-        i += 1;
     }
     next
 }

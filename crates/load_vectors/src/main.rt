@@ -40,6 +40,7 @@ struct Sizes {
     lengths: usize,
 }
 
+// Kept: three outcomes, since the end of the input is neither a case nor a bad one.
 #[derive(Clone, Copy)]
 enum Head {
     Case(Sizes),

@@ -9,9 +9,9 @@ use borrow.Author.Tests.{le-ltb}
 use Rattle.std.specs.Prelude.{Ok, Result, Err}
 use Rattle.ebpf.specs.Choice.{◌if◌else◌, not_first, row_rest, row_cases}
 use Rattle.program.specs.declared.Row.{Row}
-use Rattle.program.proofs.Cases.{zero_one}
 use Rattle.elf_parser.specs.declared.layout.Layout.{Layout}
 use Rattle.elf_parser.specs.declared.types.Elf64Ehdr.{Elf64Ehdr}
+use Rattle.elf_parser.specs.Errors.{ok_is}
 use Rattle.elf_parser.specs.Parse.{parsed}
 use Rattle.elf_parser.specs.Sound.{parse_steps}
 use Rattle.elf_parser.specs.Types.{file_header}
@@ -33,9 +33,10 @@ use Rattle.loader.proofs.Ends.{Ends}
 use Rattle.loader.proofs.Imaged.{zeros_behind}
 use Rattle.loader.proofs.Readied.{readied}
 use Rattle.loader.proofs.Traces.{settle_ends}
+use Rattle.writers.specs.declared.Writer.{Writer}
 use Rattle.writers.specs.declared.Writer.TheVariants.{File}
-use Rattle.writers.specs.declared.Wrote.TheVariants.{By, NoSuchIndex}
-use Rattle.writers.specs.declared.text.TextOf.TheVariants.{Is}
+use Rattle.elf_parser.specs.declared.error.ElfParserError.TheVariants.{NoSuchIndex}
+use Rattle.loader.specs.declared.error.ElfError.TheVariants.{FailedToParse}
 use Rattle.writers.specs.Asked.{text_in, text_of, asked}
 use Rattle.writers.specs.Writers.{writer_of, wrote_by, wrote_of}
 use Rattle.writers.proofs.Writing.{text_is, writer_named, unwritten}
@@ -81,13 +82,9 @@ was_read s builtins c image ro j e =
     parsed_read s c (parsed s) j refl (row_rest _ _ _ _ (not_ok _ _) w.1)
 
 -- as many as e_phnum says
-abbrev count_read : Result Layout ElfParserError → ℕ
-count_read (Ok l) = l.program_headers.count
-count_read (Err e) = 0
-
 headers_counted : (s : List ℕ) (l : Layout) → parsed s ≡ Ok l → l.program_headers.count ≡ (file_header s).e_phnum
 unfolding file_header
-headers_counted s l e = ap count_read (parse_steps s l e).layout
+headers_counted s l e = ap (λ (x : Layout). x.program_headers.count) (parse_steps s l e).layout
 
 -- ---- so the text of its answer is the job's
 
@@ -100,12 +97,19 @@ text_told : (s : List ℕ) (j : Job) (a : Accepted) → InFile s j → Read s j
     → a.version ≡ (2 if j.version2 else 1)
     → a.text_start ≡ j.start
     → a.text_length ≡ j.length
-    → text_of s (eqb a.version 2) a.text_start a.text_length ≡ Is (text_is j)
+    → text_of s (eqb a.version 2) a.text_start a.text_length ≡ Ok (text_is j)
 unfolding text_of text_in ◌if◌else◌
 text_told s j a inside read v p n =
     rw (le-ltb 0x100_0000 (length s) inside.short, p, n, le-ltb (length s) (j.start + j.length) inside.text, read.layout_is, v, version_told j.version2, headers_counted s j.layout read.layout_is, read.few) refl
 
 module _ (file builtins : List ℕ) (c : Config) (n m rows b : ℕ) where
+  -- the answer for a byte of the file, and for an offset past its end
+  abbrev told_ok : Job → Result Writer ElfError
+  told_ok j = Ok (writer_of file builtins j b)
+
+  abbrev past_end : Result Writer ElfError
+  past_end = Err (FailedToParse NoSuchIndex)
+
   -- of an accepted load
   module _ (j : Job) (ready : prepared file builtins c n m ≡ Ok j) (im : List ℕ) (held : List Row) (moves : ℕ) (settles : settle rows (job_trace file builtins j file) [] 0 ≡ accepted im held moves) where
     inside : InFile file j
@@ -115,24 +119,24 @@ module _ (file builtins : List ℕ) (c : Config) (n m rows b : ℕ) where
     ends = settle_ends rows im held moves (job_trace file builtins j file) [] 0 settles
 
     told : (a : Accepted) → a.version ≡ (2 if j.version2 else 1) → a.text_start ≡ j.start → a.text_length ≡ j.length
-        → asked file (Ok a) b ≡ (By (writer_of file builtins j b) if ltb b (length file) else NoSuchIndex)
+        → asked file (Ok a) b ≡ (told_ok j if ltb b (length file) else past_end)
     told a v p k = rw (text_told file j a inside (was_read file builtins c n m j ready) v p k, ← writer_named file builtins j inside im ends b) refl
 
-    byte : (By (writer_of file builtins j b) if ltb b (length file) else NoSuchIndex) ≡ By File → get_or (im ++ replicate (n - length im) 0) b 0 ≡ get_or file b 0
+    byte : (told_ok j if ltb b (length file) else past_end) ≡ Ok File → get_or (im ++ replicate (n - length im) 0) b 0 ≡ get_or file b 0
     byte e =
         zeros_behind (n - length im) im b
         ∙ unwritten file builtins j inside im ends b
-        (row_cases (ltb b (length file)) (By (writer_of file builtins j b)) NoSuchIndex (By File) (writer_of file builtins j b ≡ File) (λ h q. cc) (λ h q. absurd (zero_one (cc))) e)
+        (row_cases (ltb b (length file)) (told_ok j) past_end (Ok File) (writer_of file builtins j b ≡ File) (λ h q. ok_is _ _ q) (λ h q. absurd (not_ok _ _ q)) e)
 
     placed_told : (p : Result Placing ElfError) → asked file (answer_of (held_by file j m p im held moves)) b ≡ wrote_by file builtins (length file) b (held_by file j m p im held moves) (Ok j)
     placed_told (Ok (Borrowed offset start k)) = told (accepted_as j false offset start k (length held) moves) refl refl refl
     placed_told (Ok (Owned offset lowest k)) = told (accepted_as j true offset 0 k (length held) moves) refl refl refl
     placed_told (Err r) = refl
 
-    placed_kept : (p : Result Placing ElfError) → wrote_by file builtins (length file) b (held_by file j m p im held moves) (Ok j) ≡ By File → get_or (image_of n (held_by file j m p im held moves)) b 0 ≡ get_or file b 0
+    placed_kept : (p : Result Placing ElfError) → wrote_by file builtins (length file) b (held_by file j m p im held moves) (Ok j) ≡ Ok File → get_or (image_of n (held_by file j m p im held moves)) b 0 ≡ get_or file b 0
     placed_kept (Ok (Borrowed offset start k)) e = byte e
     placed_kept (Ok (Owned offset lowest k)) e = byte e
-    placed_kept (Err r) e = absurd (zero_one (cc))
+    placed_kept (Err r) e = absurd (not_ok _ _ e)
 
   -- THE QUESTION ABOUT A LOAD ALREADY MADE, by that load's answer, is what its parts wrote
   pub agrees : asked file (answer_of (load_of file builtins c n m rows)) b ≡ wrote_of file builtins c n m rows b
@@ -151,20 +155,20 @@ module _ (file builtins : List ℕ) (c : Config) (n m rows b : ℕ) where
       by_prepared (Ok j) e = by_settled j e (settle rows (job_trace file builtins j file) [] 0) refl
 
   -- A BYTE THAT NOTHING WROTE is the file's, in the lent image
-  pub kept : wrote_of file builtins c n m rows b ≡ By File → get_or (image_of n (load_of file builtins c n m rows)) b 0 ≡ get_or file b 0
+  pub kept : wrote_of file builtins c n m rows b ≡ Ok File → get_or (image_of n (load_of file builtins c n m rows)) b 0 ≡ get_or file b 0
   unfolding load_of wrote_of
   kept e = by_prepared (prepared file builtins c n m) refl e
     where
       by_settled : (j : Job) → prepared file builtins c n m ≡ Ok j
           → (s : Settled)
           → settle rows (job_trace file builtins j file) [] 0 ≡ s
-          → wrote_by file builtins (length file) b (on_trace file j m s) (Ok j) ≡ By File
+          → wrote_by file builtins (length file) b (on_trace file j m s) (Ok j) ≡ Ok File
           → get_or (image_of n (on_trace file j m s)) b 0 ≡ get_or file b 0
-      by_settled j e (refused r) q h = absurd (zero_one (cc))
+      by_settled j e (refused r) q h = absurd (not_ok _ _ h)
       by_settled j e (accepted im held moves) q h = placed_kept j e im held moves q j.placing h
 
       by_prepared : (p : Result Job ElfError) → prepared file builtins c n m ≡ p
-          → wrote_by file builtins (length file) b (on_prepared file builtins m rows p) p ≡ By File
+          → wrote_by file builtins (length file) b (on_prepared file builtins m rows p) p ≡ Ok File
           → get_or (image_of n (on_prepared file builtins m rows p)) b 0 ≡ get_or file b 0
-      by_prepared (Err r) e h = absurd (zero_one (cc))
+      by_prepared (Err r) e h = absurd (not_ok _ _ h)
       by_prepared (Ok j) e h = by_settled j e (settle rows (job_trace file builtins j file) [] 0) refl h

@@ -16,8 +16,12 @@ use Rattle.loader.specs.Deeds.{is_in}
 use Rattle.loader.proofs.Kept.{not_in, in_places}
 use Rattle.writers.specs.declared.Writer.{Writer}
 use Rattle.writers.specs.declared.Writer.TheVariants.{File}
+use Rattle.writers.specs.declared.naming.Named.{Named}
+use Rattle.writers.specs.declared.naming.Named.TheVariants.{Halves, Word, Immediate}
+use Rattle.writers.specs.Named.{is_named}
+use Rattle.std.specs.Prelude.{Option, Some, None}
 use Rattle.writers.specs.Whole.{code_of, OnlyZeros, Marked, Holds}
-use Rattle.writers.proofs.Places.{parts, no_places, past_all}
+use Rattle.writers.proofs.Places.{parts, no_places, past_all, eight}
 use Rattle.writers.proofs.Slots.{and_off, and_on}
 
 -- ---- one marking behind another
@@ -78,6 +82,25 @@ module _ (code len : ℕ) where
 
   pub marked_not : (P : ℕ → Bool) (q : Bool) (s : List ℕ) → q ≡ false → Marked (λ b. P b && q) code len s s
   marked_not P q s e = marked_none (λ b. P b && q) s (λ b. rw (e, and_off (P b)) refl)
+
+  -- the bytes that a relocation names: none, four, or twice four
+  module _ (x : Option Named) where
+    pub named_none : (s : List ℕ) → x ≡ None → Marked (is_named x) code len s s
+    named_none s e = marked_none (is_named x) s (λ b. rw e refl)
+
+    module _ (r : ℕ) where
+      pub named_immediate : (s s' : List ℕ) → x ≡ Some (Immediate r) → Marked (is_in (r + 4) 4) code len s s' → Marked (is_named x) code len s s'
+      named_immediate s s' e m = marked_as (is_in (r + 4) 4) (is_named x) s s' (λ b. rw e refl) m
+
+      pub named_halves : (s s' s'' : List ℕ) → x ≡ Some (Halves r) → Marked (is_in (r + 4) 4) code len s s' → Marked (is_in (r + 12) 4) code len s' s'' → Marked (is_named x) code len s s''
+      named_halves s s' s'' e m n =
+          marked_as (λ b. is_in (r + 4) 4 b || is_in (r + 12) 4 b) (is_named x) s s'' (λ b. rw e refl)
+          (marked_both (is_in (r + 4) 4) (is_in (r + 12) 4) s s' s'' m n)
+
+      pub named_word : (s s' s'' : List ℕ) → x ≡ Some (Word r) → Marked (is_in (r + 0) 4) code len s s' → Marked (is_in (r + 4) 4) code len s' s'' → Marked (is_named x) code len s s''
+      named_word s s' s'' e m n =
+          marked_as (λ b. is_in (r + 0) 4 b || is_in (r + 4) 4 b) (is_named x) s s'' (λ b. rw e (sym (eight r b)))
+          (marked_both (is_in (r + 0) 4) (is_in (r + 4) 4) s s' s'' m n)
 
 -- ---- the numbers of writers
 

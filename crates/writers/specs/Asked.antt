@@ -1,49 +1,47 @@
 -- The question about a load already made: its answer and the file. On every input, an answer too that no load of this file gave.
 use Rattle.std.specs.Prelude.{ℕ, ◌+◌, ◌*◌, ◌≤◌, ◌^◌, Bool, ◌&&◌, List, length, ltb, leb, eqb, Result, Ok, Err}
 use Rattle.ebpf.specs.Choice.{◌if◌else◌}
-use Rattle.elf_parser.specs.declared.error.ElfParserError.TheVariants.{InvalidProgramHeader}
+use Rattle.elf_parser.specs.declared.error.ElfParserError.TheVariants.{InvalidProgramHeader, NoSuchIndex}
 use Rattle.elf_parser.specs.declared.layout.Layout.{Layout}
 use Rattle.elf_parser.specs.Parse.{parsed}
 use Rattle.loader.specs.declared.error.ElfError.{ElfError}
 use Rattle.loader.specs.declared.answer.Accepted.{Accepted}
 use Rattle.loader.specs.declared.error.ElfError.TheVariants.{FailedToParse, FileTooLong, ValueOutOfBounds}
 use Rattle.loader.specs.Errors.{from_parser}
-use Rattle.writers.specs.declared.Wrote.{Wrote}
-use Rattle.writers.specs.declared.Wrote.TheVariants.{By, NoSuchIndex, Refused}
+use Rattle.writers.specs.declared.Writer.{Writer}
 use Rattle.writers.specs.declared.text.Text.{Text}
-use Rattle.writers.specs.declared.text.TextOf.{TextOf}
-use Rattle.writers.specs.declared.text.TextOf.TheVariants.{Is, Refused as NoText}
 use Rattle.writers.specs.Named.{by_names}
 use Rattle.elf_parser.specs.declared.error.ElfParserError.{ElfParserError}
 
 -- version 2 has at most nine program headers
-unfoldable pub text_in : Layout → Bool → ℕ → ℕ → TextOf
+unfoldable pub text_in : Layout → Bool → ℕ → ℕ → Result Text ElfError
 text_in l version2 start n =
-    NoText (FailedToParse InvalidProgramHeader) if version2 && leb 10 l.program_headers.count else
-    Is (record { layout = l; version2 = version2; start = start; length = n })
+    Err (FailedToParse InvalidProgramHeader) if version2 && leb 10 l.program_headers.count else
+    Ok (record { layout = l; version2 = version2; start = start; length = n })
 
-abbrev pub text_by : Result Layout ElfParserError → Bool → ℕ → ℕ → TextOf
-text_by (Err e) version2 start n = NoText (from_parser e)
+abbrev pub text_by : Result Layout ElfParserError → Bool → ℕ → ℕ → Result Text ElfError
+text_by (Err e) version2 start n = Err (from_parser e)
 text_by (Ok l) version2 start n = text_in l version2 start n
 
 -- by the version, and the text's place and length in the file; refused where no load of this file can have given these: the file is too long, the text
 -- is not in it, or it can't be read
-unfoldable pub text_of : List ℕ → Bool → ℕ → ℕ → TextOf
+unfoldable pub text_of : List ℕ → Bool → ℕ → ℕ → Result Text ElfError
 text_of file version2 start n =
-    NoText FileTooLong if ltb 0x100_0000 (length file) else
-    NoText ValueOutOfBounds if ltb (length file) (start + n) else
+    Err FileTooLong if ltb 0x100_0000 (length file) else
+    Err ValueOutOfBounds if ltb (length file) (start + n) else
     text_by (parsed file) version2 start n
 
-abbrev pub asked_in : List ℕ → ℕ → TextOf → Wrote
-asked_in file b (NoText r) = Refused r
-asked_in file b (Is t) = By (by_names file t b) if ltb b (length file) else NoSuchIndex
+-- an offset past the file's end is no index of a byte
+abbrev pub asked_in : List ℕ → ℕ → Result Text ElfError → Result Writer ElfError
+asked_in file b (Err r) = Err r
+asked_in file b (Ok t) = Ok (by_names file t b) if ltb b (length file) else Err (FailedToParse NoSuchIndex)
 
-abbrev pub asked_by : List ℕ → Bool → ℕ → ℕ → ℕ → Wrote
+abbrev pub asked_by : List ℕ → Bool → ℕ → ℕ → ℕ → Result Writer ElfError
 asked_by file version2 start n b = asked_in file b (text_of file version2 start n)
 
 -- WHO WROTE THE BYTE b, by a load's answer
-abbrev pub asked : List ℕ → Result Accepted ElfError → ℕ → Wrote
-asked file (Err r) b = Refused r
+abbrev pub asked : List ℕ → Result Accepted ElfError → ℕ → Result Writer ElfError
+asked file (Err r) b = Err r
 asked file (Ok a) b = asked_by file (eqb a.version 2) a.text_start a.text_length b
 
 -- what the functions behind `text_of` may count on

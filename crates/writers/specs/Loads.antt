@@ -1,11 +1,10 @@
 -- What `load_who_wrote` promises.
-use Rattle.std.specs.Prelude.{ℕ, ◌≡◌, length, get_or}
+use Rattle.std.specs.Prelude.{ℕ, ◌≡◌, length, get_or, Ok}
 use Rattle.program.specs.Table.{Lent, Shared, table_before, capacity}
 use Rattle.loader.specs.declared.validate.Config.{Config}
 use Rattle.loader.specs.Loads.{Loads}
 use Rattle.writers.specs.declared.LoadWrote.{LoadWrote}
 use Rattle.writers.specs.declared.Writer.TheVariants.{File}
-use Rattle.writers.specs.declared.Wrote.TheVariants.{By}
 use Rattle.writers.specs.Writers.{wrote_of}
 
 -- all that `load` promises, whatever the offset is, and who wrote the byte
@@ -13,4 +12,4 @@ pub record LoadsAndTells (file builtins : Shared) (c : Config) (image ro keys in
   pub loads : Loads file builtins c image ro keys indices kinds starts lengths r.load
   pub tells : r.wrote ≡ wrote_of file.entry.now builtins.entry.now c (length image.entry.now) (length ro.entry.now) (capacity (table_before keys indices kinds starts lengths)) offset
   -- a byte that nothing wrote is the file's
-  pub kept : r.wrote ≡ By File → get_or image.exit.now offset 0 ≡ get_or file.entry.now offset 0
+  pub kept : r.wrote ≡ Ok File → get_or image.exit.now offset 0 ≡ get_or file.entry.now offset 0

@@ -1,6 +1,6 @@
 -- The same by the bytes that calls and relocations name, in a file whose text is known.
 use Rattle.loader.specs.declared.relocations.UsedHeader.{UsedHeader}
-use Rattle.std.specs.Prelude.{ℕ, zero, suc, ◌+◌, ◌-◌, ◌*◌, ◌/◌, ◌%◌, ◌^◌, ◌≡◌, Bool, false, ◌&&◌, List, take, drop, ltb, leb, Option}
+use Rattle.std.specs.Prelude.{ℕ, zero, suc, ◌+◌, ◌-◌, ◌*◌, ◌/◌, ◌%◌, ◌^◌, ◌≡◌, Bool, false, ◌&&◌, List, take, drop, ltb, leb, Option, Some, None}
 use Rattle.ebpf.specs.Choice.{◌if◌else◌}
 use Rattle.ebpf.specs.Instructions.{insn_at}
 use Rattle.elf_parser.specs.declared.layout.Layout.{Layout}
@@ -11,7 +11,7 @@ use Rattle.loader.specs.Relocations.{relocation_at, used_header, place_of}
 use Rattle.writers.specs.declared.Writer.{Writer}
 use Rattle.writers.specs.declared.Writer.TheVariants.{File, Call, Relocation}
 use Rattle.writers.specs.declared.naming.Named.{Named}
-use Rattle.writers.specs.declared.naming.Named.TheVariants.{Halves, Word, Immediate, None}
+use Rattle.writers.specs.declared.naming.Named.TheVariants.{Halves, Word, Immediate}
 use Rattle.writers.specs.declared.naming.Next.{Next}
 use Rattle.writers.specs.declared.text.Text.{Text}
 
@@ -60,14 +60,14 @@ by_names file t b = last_of Relocation (λ i. names_byte file t i b) (count_of t
 
 -- ---- the bytes that one relocation names, as the code holds them
 
-abbrev pub is_named : Named → ℕ → Bool
-is_named (Halves r) b = in_halves r b
-is_named (Word r) b = is_in r 8 b
-is_named (Immediate r) b = is_in (r + 4) 4 b
+abbrev pub is_named : Option Named → ℕ → Bool
+is_named (Some (Halves r)) b = in_halves r b
+is_named (Some (Word r)) b = is_in r 8 b
+is_named (Some (Immediate r)) b = is_in (r + 4) 4 b
 is_named None b = false
 
 -- they are the bytes of which P holds
-abbrev pub Names : Named → (ℕ → Bool) → Type 0
+abbrev pub Names : Option Named → (ℕ → Bool) → Type 0
 Names x P = (b : ℕ) → is_named x b ≡ P b
 
 -- the relocation number i, behind those that used `header` last

@@ -5,15 +5,9 @@ use Rattle.program.specs.Table.{Lent, Shared}
 use Rattle.loader.specs.declared.error.ElfError.{ElfError}
 use Rattle.loader.specs.declared.answer.Accepted.{Accepted}
 use Rattle.loader.specs.declared.error.ElfError.TheVariants.{BufferShort}
-use Rattle.writers.specs.declared.Filled.{Filled}
-use Rattle.writers.specs.declared.Filled.TheVariants.{Whole, Refused as NotFilled}
 use Rattle.writers.specs.declared.Writer.{Writer}
 use Rattle.writers.specs.declared.Writer.TheVariants.{File, Call, Relocation}
-use Rattle.writers.specs.declared.Wrote.{Wrote}
-use Rattle.writers.specs.declared.Wrote.TheVariants.{By, NoSuchIndex, Refused}
 use Rattle.writers.specs.declared.text.Text.{Text}
-use Rattle.writers.specs.declared.text.TextOf.{TextOf}
-use Rattle.writers.specs.declared.text.TextOf.TheVariants.{Is, Refused as NoText}
 use Rattle.writers.specs.Named.{call_writer, by_names}
 use Rattle.writers.specs.Asked.{text_of, asked_by, asked}
 
@@ -24,31 +18,31 @@ code_of (Call i) = i + 1
 code_of (Relocation k) = 0x8000_0000 + k
 
 -- and of an answer: 0 where there is none
-abbrev pub code_by : Wrote → ℕ
-code_by (By w) = code_of w
-code_by NoSuchIndex = 0
-code_by (Refused r) = 0
+abbrev pub code_by : Result Writer ElfError → ℕ
+code_by (Ok w) = code_of w
+code_by (Err r) = 0
 
-abbrev pub filled_in : ℕ → ℕ → TextOf → Filled
-filled_in len n (NoText r) = NotFilled r
-filled_in len n (Is t) = NotFilled BufferShort if ltb n len else Whole
+-- whether n numbers are filled for so many bytes
+abbrev pub filled_in : ℕ → ℕ → Result Text ElfError → Result (Unit {0}) ElfError
+filled_in len n (Err r) = Err r
+filled_in len n (Ok t) = Err BufferShort if ltb n len else Ok tt
 
 -- WHAT THE NUMBERS TELL, n of them: at b stands the number of who wrote that byte, and only zeros where n is too small
-pub record Filling (file : Shared) (numbers : Lent) (wrote : ℕ → Wrote) (filled : Filled) (r : Filled) : Type 0 where
+pub record Filling (file : Shared) (numbers : Lent) (wrote : ℕ → Result Writer ElfError) (filled r : Result (Unit {0}) ElfError) : Type 0 where
   pub answers : r ≡ filled
   pub length_as : length numbers.exit.now ≡ length numbers.entry.now
   pub tells : (b : ℕ) → get_or numbers.exit.now b 0 ≡ (0 if ltb (length numbers.entry.now) (length file.entry.now) else code_by (wrote b))
 
 -- WHAT `who_wrote_all_by` PROMISES, and `who_wrote_all`
-abbrev pub FillsBy : Shared → Bool → ℕ → ℕ → Lent → Filled → Type 0
+abbrev pub FillsBy : Shared → Bool → ℕ → ℕ → Lent → Result (Unit {0}) ElfError → Type 0
 FillsBy file version2 start n numbers r =
     Filling file numbers (asked_by file.entry.now version2 start n) (filled_in (length file.entry.now) (length numbers.entry.now) (text_of file.entry.now version2 start n)) r
 
-abbrev pub filled_of : List ℕ → ℕ → Result Accepted ElfError → Filled
-filled_of file n (Err r) = NotFilled r
+abbrev pub filled_of : List ℕ → ℕ → Result Accepted ElfError → Result (Unit {0}) ElfError
+filled_of file n (Err r) = Err r
 filled_of file n (Ok a) = filled_in (length file) n (text_of file (eqb a.version 2) a.text_start a.text_length)
 
-abbrev pub Fills : Shared → Result Accepted ElfError → Lent → Filled → Type 0
+abbrev pub Fills : Shared → Result Accepted ElfError → Lent → Result (Unit {0}) ElfError → Type 0
 Fills file answer numbers r = Filling file numbers (asked file.entry.now answer) (filled_of file.entry.now (length numbers.entry.now) answer) r
 
 -- ---- the steps

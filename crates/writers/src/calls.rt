@@ -22,6 +22,7 @@ pub(crate) fn is_call(file: &[u8], text: Text, i: usize) -> bool
 const IMMEDIATE: u64 = 4;
 
 // The call that has the byte in its immediate, else the file.
+#[tactic(auto, using(ebpf::specs::Choice::choices), unfolding(crate::specs::Named::call_to))]
 pub(crate) fn call_writer(file: &[u8], text: Text, b: u64) -> Writer
     requires { Askable file.now text × (b < length file.now) }
     ensures { result ≡ call_writer file.now text b }

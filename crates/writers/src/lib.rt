@@ -6,9 +6,10 @@ ghost use Rattle.writers.specs.Asked.{asked_by, asked};
 ghost use Rattle.writers.specs.Whole.{OnlyZeros, FillsBy, Fills};
 ghost use Rattle.writers.specs.Loads.{LoadsAndTells};
 
+use elf_parser::ElfParserError;
 use loader::{Accepted, Config, ElfError, clear_words, load};
 use naming::last_naming;
-use text::{TextOf, text_of};
+use text::text_of;
 use whole::mark_all;
 
 mod calls;
@@ -24,51 +25,42 @@ pub enum Writer {
     Relocation(u32),
 }
 
-// The writer; 45, for an offset at or past the file's end; or why the load is refused.
-#[derive(Clone, Copy)]
-pub enum Wrote {
-    By(Writer),
-    NoSuchIndex,
-    Refused(ElfError),
-}
-
 // What a load answers, and who wrote the byte that was asked for.
 #[derive(Clone, Copy)]
 pub struct LoadWrote {
     pub load: Result<Accepted, ElfError>,
-    pub wrote: Wrote,
-}
-
-#[derive(Clone, Copy)]
-pub enum Filled {
-    Whole,
-    Refused(ElfError),
+    pub wrote: Result<Writer, ElfError>,
 }
 
 // WHO WROTE A BYTE of the image that a load of this file made, by the version and the text's place in
-// that load's answer.
-pub fn who_wrote_by(file: &[u8], version2: bool, start: usize, length: usize, offset: u64) -> Wrote
+// that load's answer. An offset at or past the file's end is `NoSuchIndex`.
+#[tactic(auto, using(ebpf::specs::Choice::choices, crate::proofs::Telling::askable))]
+pub fn who_wrote_by(
+    file: &[u8],
+    version2: bool,
+    start: usize,
+    length: usize,
+    offset: u64,
+) -> Result<Writer, ElfError>
     ensures { result ≡ asked_by file.now version2 start length offset }
 {
-    match text_of(file, version2, start, length) {
-        TextOf::Refused(r) => Wrote::Refused(r),
-        TextOf::Is(text) => {
-            if file.len() as u64 <= offset {
-                return Wrote::NoSuchIndex;
-            }
-            Wrote::By(last_naming(file, text, offset))
-        }
+    let text = text_of(file, version2, start, length)?;
+    if file.len() as u64 <= offset {
+        return Err(ElfError::FailedToParse(ElfParserError::NoSuchIndex));
     }
+    Ok(last_naming(file, text, offset))
 }
 
 // The same by the whole answer, which may be a refusal. Nothing is lent but the file.
-pub fn who_wrote(file: &[u8], answer: Result<Accepted, ElfError>, offset: u64) -> Wrote
+pub fn who_wrote(
+    file: &[u8],
+    answer: Result<Accepted, ElfError>,
+    offset: u64,
+) -> Result<Writer, ElfError>
     ensures { result ≡ asked file.now answer offset }
 {
-    match answer {
-        Err(r) => Wrote::Refused(r),
-        Ok(a) => who_wrote_by(file, a.version == 2, a.text_start, a.text_length, offset),
-    }
+    let a = answer?;
+    who_wrote_by(file, a.version == 2, a.text_start, a.text_length, offset)
 }
 
 // A load, and who wrote a byte of its image.
@@ -97,32 +89,36 @@ pub fn load_who_wrote(
 }
 
 // In numbers that are zero.
-fn fill_by(numbers: &mut [u32], file: &[u8], version2: bool, start: usize, length: usize) -> Filled
+#[tactic(auto, using(crate::proofs::Telling::askable))]
+fn fill_by(
+    numbers: &mut [u32],
+    file: &[u8],
+    version2: bool,
+    start: usize,
+    length: usize,
+) -> Result<(), ElfError>
     requires { OnlyZeros numbers.old }
     ensures { FillsBy file version2 start length numbers result }
 {
-    match text_of(file, version2, start, length) {
-        TextOf::Refused(r) => Filled::Refused(r),
-        TextOf::Is(text) => {
-            if numbers.len() < file.len() {
-                return Filled::Refused(ElfError::BufferShort);
-            }
-            mark_all(numbers, file, text);
-            Filled::Whole
-        }
+    let text = text_of(file, version2, start, length)?;
+    if numbers.len() < file.len() {
+        return Err(ElfError::BufferShort);
     }
+    mark_all(numbers, file, text);
+    Ok(())
 }
 
 // WHO WROTE EACH BYTE: one number a byte of the file, 0 for the file, i + 1 for the call in slot i, and
 // 2^31 + j for relocation j; zeros behind them. One pass over the calls and one over the relocations.
 // A refusal leaves only zeros.
+#[tactic(auto, using(crate::proofs::Telling::cleared, crate::proofs::Telling::as_long))]
 pub fn who_wrote_all_by(
     numbers: &mut [u32],
     file: &[u8],
     version2: bool,
     start: usize,
     length: usize,
-) -> Filled
+) -> Result<(), ElfError>
     ensures { FillsBy file version2 start length numbers result }
 {
     clear_words(numbers);
@@ -130,13 +126,18 @@ pub fn who_wrote_all_by(
 }
 
 // The same by the whole answer.
-pub fn who_wrote_all(numbers: &mut [u32], file: &[u8], answer: Result<Accepted, ElfError>) -> Filled
+#[tactic(auto, using(crate::proofs::Telling::cleared, crate::proofs::Telling::as_long, crate::proofs::Marking::only_zero))]
+pub fn who_wrote_all(
+    numbers: &mut [u32],
+    file: &[u8],
+    answer: Result<Accepted, ElfError>,
+) -> Result<(), ElfError>
     ensures { Fills file answer numbers result }
 {
     match answer {
         Err(r) => {
             clear_words(numbers);
-            Filled::Refused(r)
+            Err(r)
         }
         Ok(a) => { who_wrote_all_by(numbers, file, a.version == 2, a.text_start, a.text_length) }
     }

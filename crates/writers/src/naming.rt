@@ -1,9 +1,8 @@
 // The bytes that relocations name.
-ghost use Rattle.std.specs.Prelude.{◌≡◌, ℕ, ◌+◌, ◌%◌, ◌^◌, ◌≤◌, ◌<◌, length};
+ghost use Rattle.std.specs.Prelude.{◌≡◌, ℕ, Some, ◌+◌, ◌%◌, ◌^◌, ◌≤◌, ◌<◌, length};
 ghost use Rattle.ebpf.specs.Choice.{◌if◌else◌};
 ghost use Rattle.loader.specs.Demand.{in_halves, named_by, named_in};
 ghost use Rattle.loader.specs.Deeds.{is_in};
-ghost use Rattle.writers.specs.declared.Writer.TheVariants.{Relocation};
 ghost use Rattle.writers.specs.Named.{is_named, Names, NamesNext, count_of, by_names};
 ghost use Rattle.writers.specs.Asked.{Askable};
 
@@ -19,18 +18,18 @@ const R_BPF_64_RELATIVE: u32 = 8;
 
 const R_BPF_64_32: u32 = 10;
 
-// The bytes that a relocation at place `r` names: an instruction's two halves, eight bytes, an
-// instruction's immediate, or none.
+// The bytes that a relocation at place `r` names: an instruction's two halves, eight bytes, or an
+// instruction's immediate.
 #[derive(Clone, Copy)]
 pub enum Named {
     Halves(u64),
     Word(u64),
     Immediate(u64),
-    None,
 }
 
+#[tactic(auto, using(ebpf::specs::Choice::choices))]
 fn halves_or_word(halves: bool, r: u64) -> Named
-    ensures { Names result (λ b. in_halves r b if halves else is_in r 8 b) }
+    ensures { Names (Some result) (λ b. in_halves r b if halves else is_in r 8 b) }
 {
     if halves {
         return Named::Halves(r);
@@ -38,39 +37,36 @@ fn halves_or_word(halves: bool, r: u64) -> Named
     Named::Word(r)
 }
 
-fn named_by(version2: bool, in_text: bool, kind: u32, r: u64) -> Named
+#[tactic(auto, using(ebpf::specs::Choice::choices), unfolding(loader::specs::Demand::named_by))]
+fn named_by(version2: bool, in_text: bool, kind: u32, r: u64) -> Option<Named>
     ensures { Names result (named_by version2 in_text kind r) }
 {
     if kind == R_BPF_64_64 {
-        return halves_or_word(in_text | !version2, r);
+        return Some(halves_or_word(in_text | !version2, r));
     }
     if kind == R_BPF_64_RELATIVE {
-        return halves_or_word(in_text, r);
+        return Some(halves_or_word(in_text, r));
     }
     if kind == R_BPF_64_32 {
-        return Named::Immediate(r);
+        return Some(Named::Immediate(r));
     }
-    Named::None
+    None
 }
 
-fn named_in(text: Text, place: Option<u64>, r_info: u64) -> Named
+fn named_in(text: Text, place: Option<u64>, r_info: u64) -> Option<Named>
     ensures { Names result (named_in text.version2 text.start text.length place (r_info % 2 ^ 32)) }
 {
-    match place {
-        None => Named::None,
-        Some(r) => {
-            let in_text = is_within(text.start as u64, text.length as u64, r);
-            let kind = (r_info % 0x1_0000_0000) as u32;
-            named_by(text.version2, in_text, kind, r)
-        }
-    }
+    let r = place?;
+    let in_text = is_within(text.start as u64, text.length as u64, r);
+    let kind = (r_info % 0x1_0000_0000) as u32;
+    named_by(text.version2, in_text, kind, r)
 }
 
-// The program header used last, and the bytes that a relocation names.
+// The program header used last, and the bytes that a relocation names, if it names any.
 #[derive(Clone, Copy)]
 pub struct Next {
     pub header: Option<UsedHeader>,
-    pub named: Named,
+    pub named: Option<Named>,
 }
 
 // Of the relocation number `i`, behind those that used `header` last.
@@ -99,14 +95,14 @@ fn four_behind(r: u64, n: u64, b: u64) -> bool
     (n <= d) & (d < n + 4)
 }
 
-pub(crate) fn is_named(named: Named, b: u64) -> bool
+pub(crate) fn is_named(named: Option<Named>, b: u64) -> bool
     ensures { result ≡ is_named named b }
 {
     match named {
-        Named::None => false,
-        Named::Immediate(r) => four_behind(r, 4, b),
-        Named::Halves(r) => four_behind(r, 4, b) | four_behind(r, 12, b),
-        Named::Word(r) => four_behind(r, 0, b) | four_behind(r, 4, b),
+        None => false,
+        Some(Named::Immediate(r)) => four_behind(r, 4, b),
+        Some(Named::Halves(r)) => four_behind(r, 4, b) | four_behind(r, 12, b),
+        Some(Named::Word(r)) => four_behind(r, 0, b) | four_behind(r, 4, b),
     }
 }
 
@@ -120,16 +116,8 @@ pub(crate) fn relocation_count(layout: Layout) -> u32
     (older.count + newer.count) as u32
 }
 
-fn writer_after(named: bool, i: u32, writer: Writer) -> Writer
-    ensures { result ≡ (Relocation i if named else writer) }
-{
-    if named {
-        return Writer::Relocation(i);
-    }
-    writer
-}
-
 // The last relocation that names the byte, else the call that has it in its immediate, else the file.
+#[tactic(auto, using(crate::proofs::Turns::last_none, crate::proofs::Turns::none_used), unfolding(crate::specs::Named::by_names))]
 pub(crate) fn last_naming(file: &[u8], text: Text, b: u64) -> Writer
     requires { Askable file.now text × (b < length file.now) }
     ensures { result ≡ by_names file.now text b }
@@ -137,15 +125,12 @@ pub(crate) fn last_naming(file: &[u8], text: Text, b: u64) -> Writer
     let count = relocation_count(text.layout);
     let mut writer = call_writer(file, text, b);
     let mut header = None;
-    let mut i: u32 = 0;
-    while i < count {
+    for i in 0..count {
         let next = named_next(file, text, header, i);
-        let named = next.named;
-        let used = next.header;
-        let after = writer_after(is_named(named, b), i, writer);
-        writer = after;
-        header = used;
-        i += 1;
+        header = next.header;
+        if is_named(next.named, b) {
+            writer = Writer::Relocation(i);
+        }
     }
     writer
 }

@@ -2,7 +2,7 @@
 ghost use Rattle.std.specs.Prelude.{◌≡◌};
 ghost use Rattle.writers.specs.Asked.{text_in, text_of};
 
-use elf_parser::{ElfParserError, Layout, Parsed, parse, past};
+use elf_parser::{ElfParserError, Layout, parse, past};
 use loader::ElfError;
 
 // The file's layout, the version, and the text's place in the file.
@@ -14,21 +14,16 @@ pub struct Text {
     pub length: usize,
 }
 
-#[derive(Clone, Copy)]
-pub enum TextOf {
-    Is(Text),
-    Refused(ElfError),
-}
-
 // Version 2 has at most nine program headers.
-fn text_in(layout: Layout, version2: bool, start: usize, length: usize) -> TextOf
+#[tactic(auto, using(ebpf::specs::Choice::choices), unfolding(crate::specs::Asked::text_in))]
+fn text_in(layout: Layout, version2: bool, start: usize, length: usize) -> Result<Text, ElfError>
     ensures { result ≡ text_in layout version2 start length }
 {
     let headers = layout.program_headers;
     if version2 & (10 <= headers.count) {
-        return TextOf::Refused(ElfError::FailedToParse(ElfParserError::InvalidProgramHeader));
+        return Err(ElfError::FailedToParse(ElfParserError::InvalidProgramHeader));
     }
-    TextOf::Is(Text {
+    Ok(Text {
         layout,
         version2,
         start,
@@ -38,18 +33,21 @@ fn text_in(layout: Layout, version2: bool, start: usize, length: usize) -> TextO
 
 // By the version and the text's place that the answer of a load of this file has. Others are refused
 // where the file can not have been loaded, or the text is not in it.
-pub(crate) fn text_of(file: &[u8], version2: bool, start: usize, length: usize) -> TextOf
+#[tactic(auto, using(ebpf::specs::Choice::choices), unfolding(crate::specs::Asked::text_of))]
+pub(crate) fn text_of(
+    file: &[u8],
+    version2: bool,
+    start: usize,
+    length: usize,
+) -> Result<Text, ElfError>
     ensures { result ≡ text_of file.now version2 start length }
 {
     let len = file.len() as u64;
     if 0x100_0000 < len {
-        return TextOf::Refused(ElfError::FileTooLong);
+        return Err(ElfError::FileTooLong);
     }
     if past(len, start as u64, length as u64) {
-        return TextOf::Refused(ElfError::ValueOutOfBounds);
+        return Err(ElfError::ValueOutOfBounds);
     }
-    match parse(file) {
-        Parsed::Refused(r) => TextOf::Refused(ElfError::from(r)),
-        Parsed::File(layout) => text_in(layout, version2, start, length),
-    }
+    text_in(parse(file)?, version2, start, length)
 }

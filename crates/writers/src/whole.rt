@@ -26,27 +26,26 @@ fn mark_four(numbers: &mut [u32], len: usize, r: u64, n: usize, code: u32)
 {
     if r < len as u64 {
         let from = r as usize + n;
-        let mut k = 0;
-        while k < 4 {
+        for k in 0..4 {
             mark_one(numbers, len, from + k, code);
-            k += 1;
         }
     }
 }
 
-// `code` for each byte that a relocation names.
-fn mark_named(numbers: &mut [u32], len: usize, named: Named, code: u32)
+// `code` for each byte that a relocation names, if it names any.
+#[tactic(auto, using(crate::proofs::Marking::named_immediate))]
+fn mark_named(numbers: &mut [u32], len: usize, named: Option<Named>, code: u32)
     requires { (len ≤ length numbers.old) × (len ≤ 2 ^ 24) }
     ensures { Marks (is_named named) code len numbers }
 {
     match named {
-        Named::None => {}
-        Named::Immediate(r) => mark_four(numbers, len, r, 4, code),
-        Named::Halves(r) => {
+        None => {}
+        Some(Named::Immediate(r)) => mark_four(numbers, len, r, 4, code),
+        Some(Named::Halves(r)) => {
             mark_four(numbers, len, r, 4, code);
             mark_four(numbers, len, r, 12, code);
         }
-        Named::Word(r) => {
+        Some(Named::Word(r)) => {
             mark_four(numbers, len, r, 0, code);
             mark_four(numbers, len, r, 4, code);
         }
@@ -54,6 +53,7 @@ fn mark_named(numbers: &mut [u32], len: usize, named: Named, code: u32)
 }
 
 // Slot number `i`, for the bytes of its immediate, if it is a local call.
+#[tactic(auto, using(crate::proofs::Marking::marked_if))]
 fn mark_call(numbers: &mut [u32], file: &[u8], text: Text, i: usize)
     requires { Askable file.now text × (length file.now ≤ length numbers.old) × (i < 2 ^ 24) }
     ensures { Marks (λ b. is_in (immediate_of text i) 4 b && is_call file.now text i) (i + 1) (length file.now) numbers }
@@ -74,11 +74,8 @@ fn mark_calls(numbers: &mut [u32], file: &[u8], text: Text)
     requires { Askable file.now text × (length file.now ≤ length numbers.old) × OnlyZeros numbers.old }
     ensures { HoldsCalls file text numbers }
 {
-    let count = text.length / 8;
-    let mut i = 0;
-    while i < count {
+    for i in 0..text.length / 8 {
         mark_call(numbers, file, text, i);
-        i += 1;
     }
 }
 
@@ -91,13 +88,9 @@ pub(crate) fn mark_all(numbers: &mut [u32], file: &[u8], text: Text)
     let len = file.len();
     let count = relocation_count(text.layout);
     let mut header = None;
-    let mut i: u32 = 0;
-    while i < count {
+    for i in 0..count {
         let next = named_next(file, text, header, i);
-        let named = next.named;
-        let used = next.header;
-        mark_named(numbers, len, named, 0x8000_0000 + i);
-        header = used;
-        i += 1;
+        header = next.header;
+        mark_named(numbers, len, next.named, 0x8000_0000 + i);
     }
 }

@@ -2,43 +2,39 @@
 -- Assumes nothing.
 use mathlib.Core.Path.{◌≡◌, refl, sym, ◌∙◌}
 use lib.ListN.{length}
-use Rattle.loader.specs.declared.error.ElfError.{ElfError}
 use Rattle.writers.specs.declared.text.Text.{Text}
-use Rattle.writers.specs.declared.text.TextOf.TheVariants.{Is, Refused as NoText}
+use Rattle.std.specs.Prelude.{Ok, Err}
+use Rattle.std.proofs.lemmas.Result.{err_from_is_err_and}
 use Rattle.writers.specs.Asked.{text_of}
-use Rattle.writers.proofs.Telling.{askable, refused_tells, short_filled, short_tells, whole_filled, whole_tells}
+use lib.Dec.{ltb}
+use Rattle.writers.proofs.Marking.{only_zero}
+use Rattle.writers.proofs.Telling.{short_filled, short_tells, whole_filled, whole_tells}
 use Rattle.writers.proofs.fill_by.Goals as goal
 
 pub returns-then-numbers-file : goal.returns-then-numbers-file
 returns-then-numbers-file c =
-    let t : Text = c.in-Is.text in
-    let e : text_of c.args.file.now c.args.version2 c.args.start c.args.length ≡ Is t = sym c.text_of.ensures ∙ c.in-Is.is in
+    let t : Text = c.in_ok-text.text in
+    let e : text_of c.args.file.now c.args.version2 c.args.start c.args.length ≡ Ok t = sym c.text_of.ensures ∙ c.in_ok-text.was in
     record {
       answers = rw e (short_filled c.args.file.now (length c.args.numbers.now) t c.if-numbers-file.true);
       length_as = refl;
       tells = λ b. rw e (c.requires b ∙ short_tells c.args.file.now (length c.args.numbers.now) t c.if-numbers-file.true b);
     }
 
-pub mark_all-requires : goal.mark_all-requires
-mark_all-requires c =
-    let t : Text = c.in-Is.text in
-    let e : text_of c.args.file.now c.args.version2 c.args.start c.args.length ≡ Is t = sym c.text_of.ensures ∙ c.in-Is.is in
-    (askable c.args.file.now c.args.version2 c.args.start c.args.length t e, c.if-numbers-file.false, c.requires)
-
-pub returns-in-Refused : goal.returns-in-Refused
-returns-in-Refused c =
-    let r : ElfError = c.in-Refused.r in
-    let e : text_of c.args.file.now c.args.version2 c.args.start c.args.length ≡ NoText r = sym c.text_of.ensures ∙ c.in-Refused.is in
+pub returns-in_err-text : goal.returns-in_err-text
+returns-in_err-text c =
+    let e : text_of c.args.file.now c.args.version2 c.args.start c.args.length ≡ Err _ = sym c.text_of.ensures ∙ c.in_err-text.was in
+    let p = err_from_is_err_and c.from_residual.result c.from_residual.ensures.1 in
     record {
-      answers = rw e refl;
+      answers = rw (p.1, p.2, e) refl;
       length_as = refl;
-      tells = λ b. rw e (c.requires b ∙ refused_tells c.args.file.now (length c.args.numbers.now) r b);
+      tells = λ b. rw e (c.requires b ∙ only_zero (ltb (length c.args.numbers.now) (length c.args.file.now)));
     }
 
-pub returns-else-numbers-file : goal.returns-else-numbers-file
-returns-else-numbers-file c =
-    let t : Text = c.in-Is.text in
-    let e : text_of c.args.file.now c.args.version2 c.args.start c.args.length ≡ Is t = sym c.text_of.ensures ∙ c.in-Is.is in
+pub returns : goal.returns
+returns c =
+    let t : Text = c.in_ok-text.text in
+    let e : text_of c.args.file.now c.args.version2 c.args.start c.args.length ≡ Ok t = sym c.text_of.ensures ∙ c.in_ok-text.was in
     record {
       answers = rw e (whole_filled c.args.file.now (length c.args.numbers.now) t c.if-numbers-file.false);
       length_as = c.mark_all.ensures.length_as;

@@ -4,27 +4,14 @@ use mathlib.Core.Path.{ap}
 use native.Mathlib.Omega.{arith}
 use lib.ListN.{length}
 use Rattle.exports.proofs.Naming.{piece_past, piece_ends, piece_goes}
-use borrow.Author.Rules.{rules}
 use Rattle.exports.proofs.names.name_end.Goals as goal
-
-pub loop-at-init : goal.loop-at-init
-loop-at-init c = (search rules, search rules)
-
-pub bounds-names-at : goal.bounds-names-at
-bounds-names-at c = omega arith
 
 pub returns-then-names-at-eq0 : goal.returns-then-names-at-eq0
 returns-then-names-at-eq0 c = omega (arith, piece_ends c.args.names.now c.loop-at.at c.loop-at-test.true c.if-names-at-eq0.true)
 
-pub overflow_add-at : goal.overflow_add-at
-overflow_add-at c = omega arith
-
-pub loop-at-smaller : goal.loop-at-smaller
-loop-at-smaller c = omega arith
-
 pub loop-at-preserved : goal.loop-at-preserved
 loop-at-preserved c =
-    (omega arith, omega (arith, piece_goes c.args.names.now c.loop-at.at c.loop-at-test.true c.if-names-at-eq0.false))
+    omega (arith, piece_goes c.args.names.now c.loop-at.at c.loop-at-test.true c.if-names-at-eq0.false)
 
 pub returns : goal.returns
 returns c = omega (arith, ap length (piece_past c.args.names.now c.loop-at.at 0 c.loop-at-test.false))

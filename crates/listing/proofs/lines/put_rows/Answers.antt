@@ -5,44 +5,16 @@ use mathlib.Core.List.{[]}
 use Rattle.program.specs.Table.{Slices, slices}
 use Rattle.listing.proofs.Stores.{storing_start, storing_turn, storing_end}
 use Rattle.listing.proofs.Listed.{lines_from, lines_end}
-use borrow.Author.Rules.{rules}
 use Rattle.listing.proofs.lines.put_rows.Goals as goal
 
 pub loop-i-init : goal.loop-i-init
-loop-i-init c = (storing_start _ _ _, search rules, search rules)
-
-pub offset_bounds-keys-i : goal.offset_bounds-keys-i
-offset_bounds-keys-i c = omega arith
-
-pub bounds-keys-i : goal.bounds-keys-i
-bounds-keys-i c = omega arith
-
-pub offset_bounds-indices-i : goal.offset_bounds-indices-i
-offset_bounds-indices-i c = omega arith
-
-pub bounds-indices-i : goal.bounds-indices-i
-bounds-indices-i c = omega arith
-
-pub offset_bounds-kinds-i : goal.offset_bounds-kinds-i
-offset_bounds-kinds-i c = omega arith
-
-pub bounds-kinds-i : goal.bounds-kinds-i
-bounds-kinds-i c = omega arith
-
-pub put_row-next-requires : goal.put_row-next-requires
-put_row-next-requires c = omega arith
-
-pub overflow_add-i : goal.overflow_add-i
-overflow_add-i c = omega arith
-
-pub loop-i-smaller : goal.loop-i-smaller
-loop-i-smaller c = omega arith
+loop-i-init c = (storing_start _ _ _, omega arith)
 
 pub loop-i-preserved : goal.loop-i-preserved
 loop-i-preserved c =
     let T : Slices = slices c.args.keys.now c.args.indices.now c.args.kinds.now [] [] in
     let line = lines_from T c.args.used c.loop-i.i (omega arith) in
-    (storing_turn 63 _ _ _ _ _ _ _ _ _ (rw line at c.loop-i.invariant.0) c.put_row-next.ensures, search rules, omega (arith, c.put_row-next.ensures.near, c.loop-i.invariant.2))
+    (storing_turn 63 _ _ _ _ _ _ _ _ _ (rw line at c.loop-i.invariant.0) c.put_row-next.ensures, omega (arith, c.put_row-next.ensures.near, c.loop-i.invariant.1))
 
 pub shape_of-out : goal.shape_of-out
 shape_of-out c = c.loop-i.invariant.0.same

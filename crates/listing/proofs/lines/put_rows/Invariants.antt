@@ -1,6 +1,6 @@
 -- `listing::lines::put_rows` meets its contract. The loop's invariant: the lines of the rows from i on are left to store, at the next place.
 -- Assumes nothing.
-use Prim.Native.Nat.{◌+◌, ◌-◌, ◌*◌, ◌≤◌}
+use Prim.Native.Nat.{◌+◌, ◌*◌, ◌≤◌}
 use mathlib.Core.List.{[]}
 use lib.ListN.{drop}
 use Rattle.program.specs.Table.{slices, rows_of}
@@ -11,7 +11,4 @@ use Rattle.listing.proofs.lines.put_rows.Given as goal
 abbrev pub invariant-loop-i : goal.invariant-loop-i
 invariant-loop-i l =
     let rows = rows_of (slices l.keys l.indices l.kinds [] []) l.used in
-    Storing (row_lines rows) (row_lines (drop l.i rows)) l.initial.out l.out l.at l.next × (l.i ≤ l.used) × (l.next ≤ l.at + 63 * l.i)
-
-abbrev pub decreases-loop-i : goal.decreases-loop-i
-decreases-loop-i l = l.used - l.i
+    Storing (row_lines rows) (row_lines (drop l.i rows)) l.initial.out l.out l.at l.next × (l.next ≤ l.at + 63 * l.i)

@@ -1,6 +1,5 @@
 -- `writers::naming::last_naming` meets its contract. The loop's invariant: the header used last, and the writer by the relocations so far.
 -- Assumes nothing.
-use Prim.Native.Nat.{◌-◌, ◌≤◌}
 use mathlib.Core.Path.{◌≡◌}
 use Rattle.loader.specs.Relocations.{used_before}
 use Rattle.writers.specs.declared.Writer.TheVariants.{Relocation}
@@ -9,7 +8,4 @@ use Rattle.writers.proofs.naming.last_naming.Given as goal
 
 abbrev pub invariant-loop-i : goal.invariant-loop-i
 invariant-loop-i l =
-    (l.i ≤ l.count) × (l.header ≡ used_before l.file l.text.layout l.text.version2 l.i) × (l.writer ≡ last_of Relocation (λ k. names_byte l.file l.text k l.b) l.i (call_writer l.file l.text l.b))
-
-abbrev pub decreases-loop-i : goal.decreases-loop-i
-decreases-loop-i l = l.count - l.i
+    (l.header ≡ used_before l.file l.text.layout l.text.version2 l.i) × (l.writer ≡ last_of Relocation (λ k. names_byte l.file l.text k l.b) l.i (call_writer l.file l.text l.b))

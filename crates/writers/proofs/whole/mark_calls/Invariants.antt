@@ -1,13 +1,9 @@
 -- `writers::whole::mark_calls` meets its contract. The loop's invariant: the numbers are those of the calls in the first i slots.
 -- Assumes nothing.
-use Prim.Native.Nat.{◌-◌, ◌≤◌}
 use lib.ListN.{length}
 use Rattle.writers.specs.Named.{call_to}
 use Rattle.writers.specs.Whole.{Holds}
 use Rattle.writers.proofs.whole.mark_calls.Given as goal
 
 abbrev pub invariant-loop-i : goal.invariant-loop-i
-invariant-loop-i l = (l.i ≤ l.count) × Holds (call_to l.file l.text l.i) (length l.file) l.initial.numbers l.numbers
-
-abbrev pub decreases-loop-i : goal.decreases-loop-i
-decreases-loop-i l = l.count - l.i
+invariant-loop-i l = Holds (call_to l.file l.text l.i) (length l.file) l.initial.numbers l.numbers

@@ -1,12 +1,9 @@
 -- `writers::whole::mark_four` meets its contract. The loop's invariant: of the four places k are marked.
 -- Assumes nothing.
-use Prim.Native.Nat.{◌+◌, ◌-◌, ◌≤◌}
+use Prim.Native.Nat.{◌+◌}
 use Rattle.loader.specs.Deeds.{is_in}
 use Rattle.writers.specs.Whole.{Marked}
 use Rattle.writers.proofs.whole.mark_four.Given as goal
 
 abbrev pub invariant-loop-k : goal.invariant-loop-k
-invariant-loop-k l = (l.k ≤ 4) × Marked (is_in (l.r + l.n) l.k) l.code l.len l.initial.numbers l.numbers
-
-abbrev pub decreases-loop-k : goal.decreases-loop-k
-decreases-loop-k l = 4 - l.k
+invariant-loop-k l = Marked (is_in (l.r + l.n) l.k) l.code l.len l.initial.numbers l.numbers

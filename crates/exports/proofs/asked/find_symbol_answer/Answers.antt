@@ -1,9 +1,0 @@
--- `exports::asked::find_symbol_answer` meets its contract: the question, or the refusal of the parse.
--- Assumes nothing.
-use Rattle.exports.proofs.asked.find_symbol_answer.Goals as goal
-
-pub returns-in-File : goal.returns-in-File
-returns-in-File c = rw (c.in-File.is, ← c.find_symbol.ensures) c.symbol_answer.ensures
-
-pub returns-in-Refused : goal.returns-in-Refused
-returns-in-Refused c = rw c.in-Refused.is c.refused.ensures

@@ -1,6 +1,0 @@
--- `exports::sbpf_symbol_name` meets its contract: the answer to the question is given.
--- Assumes nothing.
-use Rattle.exports.proofs.sbpf_symbol_name.Goals as goal
-
-pub returns : goal.returns
-returns c = rw (← c.parse.ensures, ← c.symbol_name_answer.ensures) c.give.ensures
