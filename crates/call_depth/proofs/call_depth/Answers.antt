@@ -10,5 +10,4 @@ pub returns-in-Err : goal.returns-in-Err
 returns-in-Err c = rw c.in-Err.is refl
 
 pub returns-in-Ok : goal.returns-in-Ok
-unfolding capacity
 returns-in-Ok c = rw (c.in-Ok.is, ← c.rows_lent-rows.ensures.is) c.depth_by.ensures
