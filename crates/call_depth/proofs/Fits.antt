@@ -39,6 +39,10 @@ fits rows len used start n e =
       inside = ltb-false len (start + n) (was_false (ltb len (start + n)) (and_right (leb n 0x100_0000) (not (ltb len (start + n))) b));
     }
 
+-- the used rows of a column
+pub used_long : (n : ℕ) (xs : List ℕ) → n ≤ length xs → n ≡ length (take n xs)
+used_long n xs l = sym (length-take-le n xs l)
+
 -- the parts that are lent
 pub lent_parts : (rows m start n used : ℕ) (image indices w : List ℕ) → m ≡ n → AnswerFits rows (length image) used start n → rows ≤ length indices → rows ≤ length w
     → WorkLent (take m (drop start image)) (take used indices) (take used w)

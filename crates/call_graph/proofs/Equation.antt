@@ -220,27 +220,36 @@ module _ (P : Profile) where
       let a = within_met P.rows m.0 (P.index r) m.2 in
       (within_met P.rows i (P.index r) b.0, (a.0, (m.0, m.1, a.1)))
 
-  least_is : (e i : ℕ) → e < P.rows → ((r : ℕ) → P.index r < 0x1_0000_0000) → Smallest (CallsFunction P) (P.index e) i → least_of (comes_back P (P.index e)) P.index P.rows ≡ i
+  least_is : (e i : ℕ) → e < P.rows → i < 0x1_0000_0000 → Smallest (CallsFunction P) (P.index e) i → least_of (comes_back P (P.index e)) P.index P.rows ≡ i
   least_is e i h f s =
       let g = lift P s.again.0 i i s.again.1 in
       let a : comes_back P (P.index e) g.0 ≡ true = comes_back_lem e g.0 h g.1 (rw g.2 s.reached) (rw g.2 s.again) in
       let b : least_of (comes_back P (P.index e)) P.index P.rows ≤ P.index g.0 = least_at (comes_back P (P.index e)) P.index P.rows g.0 g.1 a in
       let low : i ≤ least_of (comes_back P (P.index e)) P.index P.rows = ⊎_elim
-      (λ z. absurd (omega (arith, z, b, f g.0)))
+      (λ z. absurd (omega (arith, z, b, f, g.2)))
       (λ z. let m = comes_back_met (P.index e) z.0 z.2 in let q : i ≤ P.index z.0 = s.smallest (P.index z.0) m.0 m.1 in omega (arith, z.3, q))
       (least_met (comes_back P (P.index e)) P.index P.rows) in
       omega (arith, b, low, g.2)
 
   -- the computed answer
-  pub answer_is : (e : ℕ) (a : Depth) → e < P.rows → ((r : ℕ) → P.index r < 0x1_0000_0000) → Answers P (P.index e) a → a ≡ depth_of P (P.index e)
+  pub chain_is : (e d : ℕ) → e < P.rows → Longest (CallsFunction P) (P.index e) d → Ok d ≡ depth_of P (P.index e)
   unfolding depth_of ◌if◌else◌
-  answer_is e (Ok d) h f l =
+  chain_is e d h l =
       let few : d ≤ P.rows = longest_few e d h l in
       let c : chain_from P (suc P.rows) (P.index e) ≡ d = chain_longest P.rows (P.index e) d (omega arith) l in
       rw (c, le-ltb P.rows d few) refl
+
+  pub recursive_is : (e i : ℕ) → e < P.rows → i < 0x1_0000_0000 → Smallest (CallsFunction P) (P.index e) i → recursive i ≡ depth_of P (P.index e)
+  unfolding depth_of ◌if◌else◌
+  recursive_is e i h f s =
+      let c : P.rows < chain_from P (suc P.rows) (P.index e) = loops_full (P.index e) i P.rows s.reached s.again in
+      rw (lt-ltb P.rows (chain_from P (suc P.rows) (P.index e)) c, least_is e i h f s) refl
+
+  pub answer_is : (e : ℕ) (a : Depth) → e < P.rows → ((r : ℕ) → P.index r < 0x1_0000_0000) → Answers P (P.index e) a → a ≡ depth_of P (P.index e)
+  answer_is e (Ok d) h f l = chain_is e d h l
   answer_is e (Err r) h f s =
-      let c : P.rows < chain_from P (suc P.rows) (P.index e) = loops_full (P.index e) r.index P.rows s.reached s.again in
-      rw (lt-ltb P.rows (chain_from P (suc P.rows) (P.index e)) c, least_is e r.index h f s) refl
+      let g = lift P s.again.0 r.index r.index s.again.1 in
+      recursive_is e r.index h (omega (arith, f g.0, g.2)) s
 
   -- and what it means
   chain_is_longest : (i : ℕ) → chain_from P (suc P.rows) i ≤ P.rows → Longest (CallsFunction P) i (chain_from P (suc P.rows) i)
