@@ -56,6 +56,7 @@ impl Profile<'_> {
     }
 
     // From the function at the index `entry`.
+    #[tactic(auto, using(ebpf::specs::Choice::choices, crate::proofs::Entries::first_none, crate::proofs::Entries::first_some), unfolding(crate::specs::Asked::depth_in))]
     fn depth_in(self, work: &mut [u32], entry: u32, limit: u32) -> Result<u32, CallDepthError>
         requires { WorkLent self.text.now self.indices.now work.old }
         ensures { result ≡ depth_in self.entry.text.now self.entry.keys.now self.entry.indices.now self.entry.version2 entry limit }

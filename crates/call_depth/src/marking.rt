@@ -32,6 +32,7 @@ impl Profile<'_> {
     }
 
     // Where row `r` is marked, marks what it calls: how many rows are newly marked.
+    #[tactic(auto, using(call_graph::proofs::Marking::not_followed, call_graph::proofs::Marking::followed))]
     fn mark_one(self, work: &mut [u32], r: usize) -> usize
         requires { Shaped (profile_now self) (slots_in self.text.now) work.old × (r < length self.indices.now) }
         ensures { Followed (profile_of self) r work.old work.new result }
@@ -43,6 +44,7 @@ impl Profile<'_> {
     }
 
     // Each row that is marked marks what it calls, and so does row `b`.
+    #[tactic(auto, using(call_graph::proofs::Marking::round_start, call_graph::proofs::Marking::shaped_kept, call_graph::proofs::Marking::begun_kept))]
     fn mark_pass(self, work: &mut [u32], b: usize) -> usize
         requires { Begun (profile_now self) (slots_in self.text.now) b work.old }
         ensures { Circled (profile_of self) b work.old work.new result }
@@ -55,6 +57,7 @@ impl Profile<'_> {
     }
 
     // Marks all that row `b` calls, and so on.
+    #[tactic(auto, using(call_graph::proofs::Marking::grown_same, call_graph::proofs::Marking::round_done))]
     pub(crate) fn mark_all(self, work: &mut [u32], b: usize)
         requires { Begun (profile_now self) (slots_in self.text.now) b work.old }
         ensures { Spread (profile_of self) b work.old work.new }
@@ -68,6 +71,7 @@ impl Profile<'_> {
     }
 
     // Where row `r` is not settled, marks what it calls.
+    #[tactic(auto, using(call_graph::proofs::Marking::spot_none, call_graph::proofs::Marking::spot_some))]
     fn mark_called(self, work: &mut [u32], r: usize)
         requires { Shaped (profile_now self) (slots_in self.text.now) work.old × (r < length self.indices.now) }
         ensures { Spot (profile_of self) r work.old work.new }
@@ -79,6 +83,7 @@ impl Profile<'_> {
     }
 
     // Marks what the rows that are not settled call.
+    #[tactic(auto, using(call_graph::proofs::Marking::spotted_start, call_graph::proofs::Marking::spotted_next, call_graph::proofs::Marking::shaped_kept))]
     pub(crate) fn mark_callees(self, work: &mut [u32])
         requires { Shaped (profile_now self) (slots_in self.text.now) work.old }
         ensures { Spotted (profile_of self) (length self.entry.indices.now) work.old work.new }

@@ -18,6 +18,7 @@ fn bare(word: u32) -> u32
 }
 
 // Takes all marks off.
+#[tactic(auto, using(call_graph::proofs::Least::each_start, call_graph::proofs::Least::each_next))]
 fn unmark(work: &mut [u32])
     ensures { Each bare (length work.old) work.old work.new }
 {
@@ -43,6 +44,7 @@ fn kept(word: u32, r: usize, entry: usize) -> u32
 }
 
 // Takes all marks off, and gives up the rows that had none, but for the entry.
+#[tactic(auto, using(call_graph::proofs::Least::each_start, call_graph::proofs::Least::each_next))]
 fn keep_marked(work: &mut [u32], entry: usize)
     ensures { Each (keep entry) (length work.old) work.old work.new }
 {
@@ -52,6 +54,7 @@ fn keep_marked(work: &mut [u32], entry: usize)
 }
 
 // Row `r`, or `best`, whichever is left and has the smaller index.
+#[tactic(auto, using(call_graph::proofs::Least::lowest_settled, call_graph::proofs::Least::lowest_kept, call_graph::proofs::Least::lowest_new))]
 fn lower(work: &[u32], indices: &[u32], best: usize, r: usize) -> usize
     requires { (length work.now ≡ length indices.now) × (r < length indices.now) }
     ensures { Lowest (length indices.now) (nth_of indices.now) work.now r best → Lowest (length indices.now) (nth_of indices.now) work.now (r + 1) result }
@@ -69,6 +72,7 @@ fn lower(work: &[u32], indices: &[u32], best: usize, r: usize) -> usize
 }
 
 // The row of the smallest index of those that are left.
+#[tactic(auto, using(call_graph::proofs::Least::lowest_start))]
 fn lowest(work: &[u32], indices: &[u32]) -> usize
     requires { length work.now ≡ length indices.now }
     ensures { Lowest (length indices.now) (nth_of indices.now) work.now (length indices.now) result }

@@ -17,6 +17,7 @@ fn nearer(i: u32, x: u32, best: u32) -> u32
 }
 
 // The smallest index above `i`, or `count`.
+#[tactic(auto, using(call_graph::proofs::Ends::next_turn, call_graph::proofs::Ends::next_end))]
 fn end_of(indices: &[u32], i: u32, count: u32) -> u32
     ensures { result ≡ next_above i count indices.now }
 {
@@ -29,6 +30,7 @@ fn end_of(indices: &[u32], i: u32, count: u32) -> u32
 
 impl Profile<'_> {
     // No row is settled yet: each word holds the end of its function's slots.
+    #[tactic(auto, using(call_graph::proofs::Least::each_start, call_graph::proofs::Least::each_next, call_graph::proofs::Ends::next_within))]
     fn prepare(self, work: &mut [u32])
         requires { WorkLent self.text.now self.indices.now work.old }
         ensures { Each (unsettled (profile_of self)) (length self.entry.indices.now) work.old work.new }
@@ -40,6 +42,7 @@ impl Profile<'_> {
     }
 
     // Tries row `r`: 1 where it is newly settled, else 0.
+    #[tactic(auto, using(call_graph::proofs::Settling::tried_kept, call_graph::proofs::Settling::tried_zero, call_graph::proofs::Settling::end_within))]
     fn settle_one(self, work: &mut [u32], r: usize) -> usize
         requires { WordsReady (profile_now self) (slots_in self.text.now) work.old × (r < length self.indices.now) }
         ensures { RowTried (profile_of self) work.old work.new r result }
@@ -59,6 +62,7 @@ impl Profile<'_> {
     }
 
     // Tries each row once: how many are newly settled.
+    #[tactic(auto, using(call_graph::proofs::Settling::passing_start, call_graph::proofs::Settling::passing_next))]
     fn settle_pass(self, work: &mut [u32]) -> usize
         requires { WordsReady (profile_now self) (slots_in self.text.now) work.old }
         ensures { Passing (profile_of self) work.old work.new (length self.entry.indices.now) result }
@@ -71,6 +75,7 @@ impl Profile<'_> {
     }
 
     // Passes until one settles nothing, or row `entry` is settled.
+    #[tactic(auto, using(call_graph::proofs::Settling::stopped_still, call_graph::proofs::Settling::stopped_settled))]
     fn settle_all(self, work: &mut [u32], entry: usize)
         requires { WordsReady (profile_now self) (slots_in self.text.now) work.old × (entry < length self.indices.now) }
         ensures { Stopped (profile_of self) entry work.new }

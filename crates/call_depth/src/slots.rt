@@ -37,6 +37,7 @@ fn word_at(work: &[u32], r: usize) -> u32
 }
 
 // Marks a row that is neither settled nor marked: 1 where it is newly marked, else 0.
+#[tactic(auto, using(call_graph::proofs::Marking::row_past, call_graph::proofs::Marking::row_kept))]
 fn mark_row(work: &mut [u32], r: usize) -> usize
     ensures { Slots (always r) 0 1 1 work.old work.new result }
 {
@@ -66,6 +67,7 @@ impl Profile<'_> {
     }
 
     // The row that a slot calls. Most slots are no call, which the opcode says.
+    #[tactic(auto, using(crate::proofs::Entries::no_call), unfolding(crate::specs::Called::callee_in))]
     fn callee_of(self, s: usize) -> usize
         requires { s < slots_in self.text.now }
         ensures { result ≡ callee_in self.entry.text.now self.entry.keys.now self.entry.version2 s }
@@ -77,6 +79,7 @@ impl Profile<'_> {
     }
 
     // 0 where a slot calls a row that is not settled, else 1 and the largest depth of those called.
+    #[tactic(auto, using(call_graph::proofs::Scans::over_start, call_graph::proofs::Scans::over_next, call_graph::proofs::Scans::scan_stop, call_graph::proofs::Scans::scan_end))]
     pub(crate) fn depth_over(self, work: &[u32], from: usize, end: usize) -> u32
         requires { end ≤ slots_in self.text.now }
         ensures { Scan (callee_in self.entry.text.now self.entry.keys.now self.entry.version2) work.now from end result }
@@ -93,6 +96,7 @@ impl Profile<'_> {
     }
 
     // Marks what some slots call: how many rows are newly marked.
+    #[tactic(auto, using(call_graph::proofs::Marking::slots_start, call_graph::proofs::Marking::slots_next, call_graph::proofs::Marking::slots_end))]
     pub(crate) fn mark_slots(self, work: &mut [u32], from: usize, end: usize) -> usize
         requires { end ≤ slots_in self.text.now }
         ensures { Slots (callee_in self.entry.text.now self.entry.keys.now self.entry.version2) from end end work.old work.new result }

@@ -1,18 +1,6 @@
 use Rattle.call_graph.proofs.Marking.{grown_same, grown_then, round_done, begun_kept, marking_less}
 use Rattle.call_depth.proofs.Profile.mark_all.Goals as goal
 
-pub loop-b-init : goal.loop-b-init
-loop-b-init c = (c.requires, grown_same _ _)
-
-pub mark_pass-more-requires : goal.mark_pass-more-requires
-mark_pass-more-requires c = c.loop-b.invariant.0
-
-pub shape_of-work-then-more-eq0 : goal.shape_of-work-then-more-eq0
-shape_of-work-then-more-eq0 c = (round_done _ _ _ _ _ _ c.loop-b.invariant.1 c.mark_pass-more.ensures c.if-more-eq0.true).grown.long
-
-pub returns-then-more-eq0 : goal.returns-then-more-eq0
-returns-then-more-eq0 c = round_done _ _ _ _ _ _ c.loop-b.invariant.1 c.mark_pass-more.ensures c.if-more-eq0.true
-
 pub loop-b-smaller : goal.loop-b-smaller
 loop-b-smaller c =
     marking_less _ _ _ _ _ c.loop-b.invariant.0.shaped.long c.mark_pass-more.ensures.round.marks c.if-more-eq0.false

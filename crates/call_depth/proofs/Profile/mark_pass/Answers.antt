@@ -17,13 +17,6 @@ circled p =
     let x = subst (λ (n : ℕ). Round (profile_now p.args.self) p.args.b n p.args.work.now p.loop-r.work p.loop-r.more) e p.loop-r.invariant in
     round_last (profile_now p.args.self) (slots_in p.args.self.text.now) p.args.b p.args.work.now p.loop-r.work _ _ _ p.requires x p.mark_calls.ensures
 
-pub loop-r-init : goal.loop-r-init
-loop-r-init c = round_start _ _ _
-
-pub mark_one-more-requires : goal.mark_one-more-requires
-mark_one-more-requires c =
-    (shaped_kept (profile_now c.args.self) (slots_in c.args.self.text.now) c.args.work.now c.requires.shaped _ c.loop-r.work c.loop-r.invariant.marks.grown, c.loop-r-test.true)
-
 pub overflow_add-more : goal.overflow_add-more
 overflow_add-more c =
     omega (arith, c.requires.shaped.sized.rows_few, c.requires.shaped.long, marking_few _ _ _ _ (round_next (profile_now c.args.self) (slots_in c.args.self.text.now) c.args.b c.loop-r.r c.args.work.now _ _ _ _ c.requires c.loop-r-test.true c.loop-r.invariant c.mark_one-more.ensures).marks)
@@ -31,9 +24,6 @@ overflow_add-more c =
 pub loop-r-preserved : goal.loop-r-preserved
 loop-r-preserved c =
     round_next (profile_now c.args.self) (slots_in c.args.self.text.now) c.args.b c.loop-r.r c.args.work.now _ _ _ _ c.requires c.loop-r-test.true c.loop-r.invariant c.mark_one-more.ensures
-
-pub mark_calls-requires : goal.mark_calls-requires
-mark_calls-requires c = let g = begun (goal.at.mark_calls-requires c).After-loop-r in (g.shaped, g.below, g.unsettled)
 
 pub overflow_add-result : goal.overflow_add-result
 overflow_add-result c = omega (arith, c.requires.shaped.sized.rows_few, c.requires.shaped.long, marking_few _ _ _ _ (circled (goal.at.overflow_add-result c).After-mark_calls).round.marks)
