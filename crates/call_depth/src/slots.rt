@@ -1,5 +1,5 @@
 // The slots of a function: what they call, and the words of the rows that they call.
-ghost use Rattle.std.specs.Prelude.{◌≡◌, ◌≤◌, ◌<◌, get_or};
+ghost use Rattle.std.specs.Prelude.{◌≡◌, ◌≤◌, ◌<◌};
 ghost use Rattle.call_graph.specs.Marks.{Slots, always};
 ghost use Rattle.call_graph.specs.Words.{Scan};
 ghost use Rattle.call_depth.specs.Called.{calls_key, row_under, callee_by, callee_in, slots_in};
@@ -27,13 +27,6 @@ fn row_under(keys: &[u32], key: u32) -> usize
     ensures { result ≡ row_under keys.now key }
 {
     row_ascending(keys, keys.len(), key).unwrap_or(keys.len())
-}
-
-// The word of a row, 0 where there is no such row.
-fn word_at(work: &[u32], r: usize) -> u32
-    ensures { result ≡ get_or work.now r 0 }
-{
-    work.get(r).copied().unwrap_or(0)
 }
 
 // Marks a row that is neither settled nor marked: 1 where it is newly marked, else 0.
@@ -86,7 +79,7 @@ impl Profile<'_> {
     {
         let mut most = 0;
         for s in from..end {
-            let d = word_at(work, self.callee_of(s));
+            let d = work.get(self.callee_of(s)).copied().unwrap_or(0);
             if FLAG <= d {
                 return 0;
             }

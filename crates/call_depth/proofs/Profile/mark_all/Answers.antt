@@ -1,4 +1,4 @@
-use Rattle.call_graph.proofs.Marking.{grown_same, grown_then, round_done, begun_kept, marking_less}
+use Rattle.call_graph.proofs.Marking.{grown_then, begun_kept, marking_less}
 use Rattle.call_depth.proofs.Profile.mark_all.Goals as goal
 
 pub loop-b-smaller : goal.loop-b-smaller

@@ -3,7 +3,7 @@ use mathlib.Core.Path.{◌≡◌, subst}
 use native.Mathlib.Omega.{arith}
 use lib.ListN.{length}
 use Rattle.call_graph.specs.Marks.{Begun, Round, Circled}
-use Rattle.call_graph.proofs.Marking.{round_start, round_next, round_last, marking_few, shaped_kept, begun_kept}
+use Rattle.call_graph.proofs.Marking.{round_next, round_last, marking_few, begun_kept}
 use Rattle.call_depth.specs.Called.{profile_now, slots_in}
 use Rattle.call_depth.proofs.Profile.mark_pass.Goals.{After-loop-r, After-mark_calls}
 use Rattle.call_depth.proofs.Profile.mark_pass.Goals as goal

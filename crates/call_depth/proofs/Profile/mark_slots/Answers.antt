@@ -1,5 +1,5 @@
 use native.Mathlib.Omega.{arith}
-use Rattle.call_graph.proofs.Marking.{slots_start, slots_next, slots_end, marking_few}
+use Rattle.call_graph.proofs.Marking.{slots_next, marking_few}
 use Rattle.call_depth.proofs.Profile.mark_slots.Goals as goal
 
 pub overflow_add-more : goal.overflow_add-more

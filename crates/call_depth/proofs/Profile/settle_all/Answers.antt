@@ -1,4 +1,4 @@
-use Rattle.call_graph.proofs.Settling.{stopped_still, stopped_settled, passing_less}
+use Rattle.call_graph.proofs.Settling.{passing_less}
 use Rattle.call_depth.proofs.Profile.settle_all.Goals as goal
 
 pub loop-entry-smaller : goal.loop-entry-smaller

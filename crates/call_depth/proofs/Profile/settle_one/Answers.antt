@@ -1,4 +1,4 @@
-use Rattle.call_graph.proofs.Settling.{tried_kept, tried_zero, tried_some, end_within}
+use Rattle.call_graph.proofs.Settling.{tried_some}
 use Rattle.call_depth.specs.Called.{profile_now, slots_in}
 use Rattle.call_depth.proofs.Profile.settle_one.Goals as goal
 

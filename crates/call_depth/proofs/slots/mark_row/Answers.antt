@@ -1,5 +1,4 @@
-use mathlib.Core.Logic.{inl, inr}
-use Rattle.call_graph.proofs.Marking.{row_past, row_kept, row_marked}
+use Rattle.call_graph.proofs.Marking.{row_marked}
 use Rattle.call_depth.proofs.slots.mark_row.Goals as goal
 
 -- src/lib.rt:103:9
