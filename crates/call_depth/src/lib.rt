@@ -29,8 +29,8 @@ pub struct LoadDepth {
     pub depth: Result<u32, CallDepthError>,
 }
 
-// What of a loaded profile says who calls whom: the text in the image, the used rows' columns of keys and
-// of indices, and the version.
+// What says which function calls which: the text in the image, the columns of keys and of indices of the
+// used rows, and whether the version is 2.
 #[derive(Clone, Copy)]
 pub(crate) struct Profile<'a> {
     pub(crate) text: &'a [u8],
