@@ -23,10 +23,6 @@ was_false : (b : Bool) → not b ≡ true → b ≡ false
 was_false true e = sym e
 was_false false e = refl
 
-pub was_true : (b : Bool) → not b ≡ false → b ≡ true
-was_true true e = refl
-was_true false e = sym e
-
 pub fits : (rows len used start n : ℕ) → fits_in rows len used start n ≡ true → AnswerFits rows len used start n
 unfolding fits_in
 fits rows len used start n e =
