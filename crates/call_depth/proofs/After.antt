@@ -1,14 +1,14 @@
 -- After an accepted load the question has its numbers: the text stands in the image, the used rows are few, and a row has the entry's index.
 -- Assumes nothing.
-use Prim.Native.Nat.{ℕ, zero, suc, ◌+◌, ◌-◌, ◌≤◌, ◌<◌, ◌^◌}
+use Prim.Native.Nat.{ℕ, zero, ◌+◌, ◌-◌, ◌≤◌, ◌<◌, ◌^◌}
 use mathlib.Core.Path.{◌≡◌, refl, sym, ap, ◌∙◌}
 use mathlib.Core.Bool.{Bool, true, false, true≢false}
-use mathlib.Core.List.{List, [], ◌∷◌}
+use mathlib.Core.List.{List, []}
 use mathlib.Core.Logic.{◌⊎◌, inl, inr}
 use native.Mathlib.Omega.{arith}
 use lib.ListN.{length, get_or, take, replicate, length-append, length-replicate}
 use lib.Seq.{length-take-le, get_or-take}
-use borrow.Author.Tests.{le-leb, lt-ltb, le-ltb, eq-eqb}
+use borrow.Author.Tests.{le-leb, lt-ltb, le-ltb}
 use Rattle.std.specs.Prelude.{Option, Some, None, Ok, Err, Result}
 use Rattle.ebpf.specs.Choice.{◌if◌else◌}
 use Rattle.program.specs.declared.Row.{Row}
@@ -17,7 +17,7 @@ use Rattle.program.specs.declared.FunctionName.TheVariants.{Entrypoint}
 use Rattle.program.specs.Search.{index_of}
 use Rattle.program.specs.Table.{Slices, Lent, Shared, table_before, table_after, least, capacity, lookup_in, row_ascending_in, row_of_found, row_at, Ready as IsTable}
 use Rattle.program.specs.HashedLegacy.{legacy_row, collision}
-use Rattle.program.proofs.Cases.{by_eq, zero_one}
+use Rattle.program.proofs.Cases.{zero_one}
 use Rattle.program.proofs.Steps.{row_below}
 use Rattle.program.proofs.Tables.{lookups_agree, row_agrees}
 use Rattle.loader.specs.declared.read_only.Placing.TheVariants.{Borrowed, Owned}
@@ -41,6 +41,7 @@ use Rattle.loader.proofs.Readied.{readied}
 use Rattle.loader.proofs.Registering.{entry_row}
 use Rattle.loader.proofs.Traces.{settle_ends}
 use Rattle.call_depth.specs.Asked.{fits_in}
+use Rattle.call_depth.proofs.Entries.{first_below}
 use Rattle.call_depth.proofs.Few.{rows_few, settle_room}
 
 -- ---- the numbers of an answer
@@ -119,12 +120,6 @@ free_index false key x row e = cc
 row_index : (builtins : List ℕ) (j : Job) (name : FunctionName) (index : ℕ) (row : Row) → row_for builtins j name index ≡ Ok row → row.index ≡ index
 unfolding row_for legacy_row
 row_index builtins j name index row e = ap (λ r. r.index) (sym (free_index _ _ _ row e))
-
-first_below : (k : ℕ) (xs : List ℕ) (n : ℕ) → n < length xs → get_or xs n 0 ≡ k → index_of k xs < length xs
-unfolding ◌if◌else◌
-first_below k [] n l e = absurd (let z : n < 0 = l in omega arith)
-first_below k (x ∷ xs) zero l e = rw (eq-eqb x k e) (omega arith)
-first_below k (x ∷ xs) (suc n) l e = by_eq x k (λ b. (0 if b else suc (index_of k xs)) < suc (length xs)) (λ _. omega arith) (λ _. let h : index_of k xs < length xs = first_below k xs n (omega arith) e in omega arith)
 
 -- what a lookup finds is one of the used rows
 module _ (t : Slices) (used : ℕ) (table : IsTable t used) where

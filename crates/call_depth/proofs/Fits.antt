@@ -23,10 +23,6 @@ was_false : (b : Bool) → not b ≡ true → b ≡ false
 was_false true e = sym e
 was_false false e = refl
 
-pub was_true : (b : Bool) → not b ≡ false → b ≡ true
-was_true true e = refl
-was_true false e = sym e
-
 pub fits : (rows len used start n : ℕ) → fits_in rows len used start n ≡ true → AnswerFits rows len used start n
 unfolding fits_in
 fits rows len used start n e =
@@ -38,6 +34,10 @@ fits rows len used start n e =
       short = leb-true n 0x100_0000 (and_left (leb n 0x100_0000) (not (ltb len (start + n))) b);
       inside = ltb-false len (start + n) (was_false (ltb len (start + n)) (and_right (leb n 0x100_0000) (not (ltb len (start + n))) b));
     }
+
+-- the used rows of a column
+pub used_long : (n : ℕ) (xs : List ℕ) → n ≤ length xs → n ≡ length (take n xs)
+used_long n xs l = sym (length-take-le n xs l)
 
 -- the parts that are lent
 pub lent_parts : (rows m start n used : ℕ) (image indices w : List ℕ) → m ≡ n → AnswerFits rows (length image) used start n → rows ≤ length indices → rows ≤ length w

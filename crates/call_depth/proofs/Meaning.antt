@@ -19,10 +19,8 @@ use Rattle.program.specs.Table.{Slices, capacity, lookup_in, number_at, row_asce
 use Rattle.program.proofs.Cases.{by_le, by_lt, zero_one}
 use Rattle.program.proofs.Laying.{within_room}
 use Rattle.program.proofs.Tables.{lookups_agree, row_agrees}
-use Rattle.call_graph.specs.declared.Depth.{Depth}
-use Rattle.call_graph.specs.declared.Depth.TheVariants.{Deep as IsDeep, Recursive as IsRecursive}
 use Rattle.call_graph.specs.Answer.{depth_of}
-use Rattle.call_graph.specs.Profile.{Profile, CallsFunction, Answers}
+use Rattle.call_graph.specs.Profile.{Profile, Depth, CallsFunction, Answers}
 use Rattle.call_graph.specs.Ways.{Reaches, Calling}
 use Rattle.call_graph.proofs.Equation.{answer_means}
 use Rattle.call_graph.proofs.Ways.{longest_as, smallest_as, no_return}
@@ -31,10 +29,9 @@ use Rattle.loader.specs.declared.answer.Accepted.{Accepted}
 use Rattle.loader.specs.declared.error.ElfError.TheVariants.{BufferShort}
 use Rattle.loader.specs.declared.validate.Config.{Config}
 use Rattle.loader.specs.Demand.{Finds}
-use Rattle.call_depth.specs.declared.CallDepth.{CallDepth}
-use Rattle.call_depth.specs.declared.CallDepth.TheVariants.{Deep, RecursiveCall, TooDeep, Refused}
+use Rattle.call_depth.specs.declared.error.CallDepthError.TheVariants.{RecursiveCall, TooDeep, Refused}
 use Rattle.call_depth.specs.Called.{calls_key, row_or, callee_by, callee_in}
-use Rattle.call_depth.specs.Asked.{limit_of, limited, depth_in, depth_by, depth_asked}
+use Rattle.call_depth.specs.Asked.{CallDepth, limit_of, limited, depth_in, depth_by, depth_asked}
 use Rattle.call_depth.specs.Loads.{MeansOf}
 use Rattle.call_depth.specs.Meaning.{text_of_image, used_indices, profile_after, SlotCalls, FunctionCalls, Means}
 use Rattle.call_depth.proofs.Entries.{first_at}
@@ -114,15 +111,15 @@ module _ (a : Accepted) (im : List ℕ) (t : Slices) (table : IsTable t a.used) 
 -- ---- what is answered
 
 means_as : (R S : ℕ → ℕ → Type 0) → ((i j : ℕ) → R i j → S i j) → ((i j : ℕ) → S i j → R i j) → (e limit : ℕ) (x : CallDepth) → Means R e limit x → Means S e limit x
-means_as R S f g e limit (Deep d) m = (longest_as R S f g e d m.0, m.1)
-means_as R S f g e limit (TooDeep d) m = (longest_as R S f g e d m.0, m.1)
-means_as R S f g e limit (RecursiveCall i) m = smallest_as R S f g e i m
-means_as R S f g e limit (Refused r) m = m
+means_as R S f g e limit (Ok d) m = (longest_as R S f g e d m.0, m.1)
+means_as R S f g e limit (Err (TooDeep d)) m = (longest_as R S f g e d m.0, m.1)
+means_as R S f g e limit (Err (RecursiveCall i)) m = smallest_as R S f g e i m
+means_as R S f g e limit (Err (Refused r)) m = m
 
 limited_means : (Q : Profile) (e limit : ℕ) (d : Depth) → Answers Q e d → Means (CallsFunction Q) e limit (limited limit d)
 unfolding ◌if◌else◌
-limited_means Q e limit (IsRecursive i) m = m
-limited_means Q e limit (IsDeep d) m = by_lt limit d (λ b. Means (CallsFunction Q) e limit (TooDeep d if b else Deep d)) (λ h. (m, h)) (λ h. (m, h))
+limited_means Q e limit (Err r) m = m
+limited_means Q e limit (Ok d) m = by_lt limit d (λ b. Means (CallsFunction Q) e limit (Err (TooDeep d) if b else Ok d)) (λ h. (m, h)) (λ h. (m, h))
 
 small_front : (xs : List ℕ) (n r : ℕ) → ((i : ℕ) → get_or xs i 0 < 2 ^ 32) → n ≤ length xs → get_or (take n xs) r 0 < 2 ^ 32
 small_front xs n r h l = by_lt r n (λ _. get_or (take n xs) r 0 < 2 ^ 32)
@@ -133,7 +130,7 @@ module _ (file builtins : List ℕ) (c : Config) (n m : ℕ) (t₀ : Slices) (im
   module _ (a : Accepted) (l : Made file builtins c n m t₀ im t (Ok a)) where
     -- THE QUESTION ABOUT AN ACCEPTED LOAD is refused for a short `work` only
     pub answered : (work limit : ℕ)
-        → depth_by work (capacity t₀) im t.keys t.indices a limit ≡ (Refused BufferShort if ltb work (capacity t₀) else limited (limit_of limit) (depth_of (profile_after a im t) a.entry))
+        → depth_by work (capacity t₀) im t.keys t.indices a limit ≡ (Err (Refused BufferShort) if ltb work (capacity t₀) else limited (limit_of limit) (depth_of (profile_after a im t) a.entry))
     unfolding depth_by depth_in ◌if◌else◌
     answered work limit = rw (fits_after file builtins c n m t₀ im t a l, lt-leb _ _ (entry_after file builtins c n m t₀ im t a l)) refl
 
@@ -160,8 +157,8 @@ module _ (file builtins : List ℕ) (c : Config) (n m : ℕ) (t₀ : Slices) (im
   depth_means (Err r) l work limit small x e = tt
 
 -- 50 EXACTLY WHERE A FUNCTION THAT IS REACHED REACHES ITSELF
-pub recursive_iff : (R : ℕ → ℕ → Type 0) (e limit : ℕ) (x : CallDepth) → Means R e limit x → ((i : ℕ) × (x ≡ RecursiveCall i)) ↔ ((j : ℕ) × Reaches R e j × Calling R j j)
-recursive_iff R e limit (RecursiveCall i) m = (λ _. (i, m.reached, m.again), λ _. (i, refl))
-recursive_iff R e limit (Deep d) m = (λ h. absurd (zero_one (cc)), λ h. absurd (no_return R e d h.0 m.0 h.1 h.2))
-recursive_iff R e limit (TooDeep d) m = (λ h. absurd (zero_one (cc)), λ h. absurd (no_return R e d h.0 m.0 h.1 h.2))
-recursive_iff R e limit (Refused r) m = absurd m
+pub recursive_iff : (R : ℕ → ℕ → Type 0) (e limit : ℕ) (x : CallDepth) → Means R e limit x → ((i : ℕ) × (x ≡ Err (RecursiveCall i))) ↔ ((j : ℕ) × Reaches R e j × Calling R j j)
+recursive_iff R e limit (Err (RecursiveCall i)) m = (λ _. (i, m.reached, m.again), λ _. (i, refl))
+recursive_iff R e limit (Ok d) m = (λ h. absurd (zero_one (cc)), λ h. absurd (no_return R e d h.0 m.0 h.1 h.2))
+recursive_iff R e limit (Err (TooDeep d)) m = (λ h. absurd (zero_one (cc)), λ h. absurd (no_return R e d h.0 m.0 h.1 h.2))
+recursive_iff R e limit (Err (Refused r)) m = absurd m

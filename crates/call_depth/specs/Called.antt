@@ -1,11 +1,12 @@
 -- Which function a slot of the image calls: by the text's bytes in the image, and the columns of keys and indices of the used rows.
 use Rattle.std.specs.Prelude.{ℕ, ◌/◌, ◌<◌, ◌≡◌, Bool, ◌&&◌, not, List, length, eqb, Option, Some, None}
-use Rattle.std.specs.Borrow.{Bor}
+use denote.Triple.Both.{Both}
 use Rattle.ebpf.specs.Choice.{◌if◌else◌}
 use Rattle.ebpf.specs.Instructions.{insn_at}
 use Rattle.ebpf.specs.declared.Insn.{Insn}
-use Rattle.program.specs.Table.{Shared, row_ascending_in}
+use Rattle.program.specs.Table.{row_ascending_in}
 use Rattle.call_graph.specs.Profile.{Profile, next_above, nth_of}
+use Rattle.call_depth.specs.declared.Profile.{Profile as LentProfile}
 
 -- a call by a key: opcode 0x85, and in version 2 source not 0
 unfoldable pub calls_key : Bool → Insn → Bool
@@ -42,11 +43,11 @@ profile_in text keys indices version2 = record {
 }
 
 -- that of the lent slices: in a `requires`, and in an `ensures`
-abbrev pub profile_now : Bor (List ℕ) → Bor (List ℕ) → Bor (List ℕ) → Bool → Profile
-profile_now text keys indices version2 = profile_in text.now keys.now indices.now version2
+abbrev pub profile_now : LentProfile → Profile
+profile_now p = profile_in p.text.now p.keys.now p.indices.now p.version2
 
-abbrev pub profile_of : Shared → Shared → Shared → Bool → Profile
-profile_of text keys indices version2 = profile_in text.entry.now keys.entry.now indices.entry.now version2
+abbrev pub profile_of : Both LentProfile LentProfile → Profile
+profile_of p = profile_now p.entry
 
 -- what the numbers lent keep to
 pub record WorkLent (text indices w : List ℕ) : Type 0 where

@@ -11,10 +11,9 @@ use Rattle.loader.specs.declared.deeds.Deed.TheVariants.{Key}
 use Rattle.loader.specs.declared.error.ElfError.TheVariants.{WrongAbi, BufferShort, ValueOutOfBounds}
 use Rattle.loader.specs.Bytes.{put}
 use Rattle.loader.specs.Deeds.{written}
-use Rattle.call_depth.specs.declared.CallDepth.{CallDepth}
-use Rattle.call_depth.specs.declared.CallDepth.TheVariants.{Deep, RecursiveCall, TooDeep, Refused}
+use Rattle.call_depth.specs.declared.error.CallDepthError.TheVariants.{RecursiveCall, TooDeep, Refused}
 use Rattle.call_depth.specs.Called.{calls_key, callee_in}
-use Rattle.call_depth.specs.Asked.{limit_of, depth_in, fits_in, depth_by, depth_asked}
+use Rattle.call_depth.specs.Asked.{CallDepth, limit_of, depth_in, fits_in, depth_by, depth_asked}
 
 -- slots: a call by a key, with source 1 or 0, and an exit
 abbrev call : ℕ → List ℕ
@@ -34,39 +33,39 @@ abbrev deep : List ℕ → ℕ → CallDepth
 deep text limit = depth_in text three three true 0 limit
 
 -- a lone entry, and one beside others that it does not call
-lone : depth_in exit (0 ∷ []) (0 ∷ []) true 0 64 ∷ deep (exit ++ exit ++ exit) 1 ∷ [] ≡ Deep 1 ∷ Deep 1 ∷ []
+lone : depth_in exit (0 ∷ []) (0 ∷ []) true 0 64 ∷ deep (exit ++ exit ++ exit) 1 ∷ [] ≡ Ok 1 ∷ Ok 1 ∷ []
 unfolding depth_in limit_of depth_of callee_in calls_key row_ascending_in number_at binary_search narrowed insn_at slot_at le bytes_of ◌if◌else◌
 lone = refl
 
 -- 0 calls 1 and 1 calls 2: the limits 3 and 2, and 0 and 65, which are read as 64
 chain : deep (call 1 ++ call 2 ++ exit) 3 ∷ deep (call 1 ++ call 2 ++ exit) 2 ∷ deep (call 1 ++ call 2 ++ exit) 0 ∷ deep (call 1 ++ call 2 ++ exit) 65 ∷ []
-    ≡ Deep 3 ∷ TooDeep 3 ∷ Deep 3 ∷ Deep 3 ∷ []
+    ≡ Ok 3 ∷ Err (TooDeep 3) ∷ Ok 3 ∷ Ok 3 ∷ []
 unfolding depth_in limit_of depth_of callee_in calls_key row_ascending_in number_at binary_search narrowed insn_at slot_at le bytes_of ◌if◌else◌
 chain = refl
 
 -- 0 calls itself; 0 calls 1, which calls itself; 0 calls 2, 2 calls 1 and 1 calls 2, at a limit that a chain passes too
-itself : deep (call 0 ++ exit ++ exit) 64 ∷ deep (call 1 ++ call 1 ++ exit) 64 ∷ deep (call 2 ++ call 2 ++ call 1) 1 ∷ [] ≡ RecursiveCall 0 ∷ RecursiveCall 1 ∷ RecursiveCall 1 ∷ []
+itself : deep (call 0 ++ exit ++ exit) 64 ∷ deep (call 1 ++ call 1 ++ exit) 64 ∷ deep (call 2 ++ call 2 ++ call 1) 1 ∷ [] ≡ Err (RecursiveCall 0) ∷ Err (RecursiveCall 1) ∷ Err (RecursiveCall 1) ∷ []
 unfolding depth_in limit_of depth_of callee_in calls_key row_ascending_in number_at binary_search narrowed insn_at slot_at le bytes_of ◌if◌else◌
 itself = refl
 
 -- 1 and 2 call each other, and the entry calls neither
-not_reached : deep (exit ++ call 2 ++ call 1) 64 ≡ Deep 1
+not_reached : deep (exit ++ call 2 ++ call 1) 64 ≡ Ok 1
 unfolding depth_in limit_of depth_of callee_in calls_key row_ascending_in number_at binary_search narrowed insn_at slot_at le bytes_of ◌if◌else◌
 not_reached = refl
 
 -- a built-in's key, which finds no row; source 0, which is no call in version 2 and is one in version 1
-no_call : deep (call 0x1234_5678 ++ exit ++ exit) 64 ∷ deep (near 1 ++ exit ++ exit) 64 ∷ depth_in (near 1 ++ exit ++ exit) three three false 0 64 ∷ [] ≡ Deep 1 ∷ Deep 1 ∷ Deep 2 ∷ []
+no_call : deep (call 0x1234_5678 ++ exit ++ exit) 64 ∷ deep (near 1 ++ exit ++ exit) 64 ∷ depth_in (near 1 ++ exit ++ exit) three three false 0 64 ∷ [] ≡ Ok 1 ∷ Ok 1 ∷ Ok 2 ∷ []
 unfolding depth_in limit_of depth_of callee_in calls_key row_ascending_in number_at binary_search narrowed insn_at slot_at le bytes_of ◌if◌else◌
 no_call = refl
 
 -- the entry owns two slots up to the function at 2; with the entry at 1, slot 0 is nobody's
-owned : depth_in (exit ++ call 2 ++ exit) (0 ∷ 2 ∷ []) (0 ∷ 2 ∷ []) true 0 64 ∷ depth_in (call 1 ++ exit ++ exit) (1 ∷ 2 ∷ []) (1 ∷ 2 ∷ []) true 1 64 ∷ [] ≡ Deep 2 ∷ Deep 1 ∷ []
+owned : depth_in (exit ++ call 2 ++ exit) (0 ∷ 2 ∷ []) (0 ∷ 2 ∷ []) true 0 64 ∷ depth_in (call 1 ++ exit ++ exit) (1 ∷ 2 ∷ []) (1 ∷ 2 ∷ []) true 1 64 ∷ [] ≡ Ok 2 ∷ Ok 1 ∷ []
 unfolding depth_in limit_of depth_of callee_in calls_key row_ascending_in number_at binary_search narrowed insn_at slot_at le bytes_of ◌if◌else◌
 owned = refl
 
 -- version 1: the keys 5 and 9 have rows with the index 0, which is one function, and 7 one with the index 1: 0 calls 1; and 1 calls 0 by its other key
 two_rows : depth_in (call 7 ++ exit) (5 ∷ 7 ∷ 9 ∷ []) (0 ∷ 1 ∷ 0 ∷ []) false 0 64 ∷ depth_in (call 7 ++ call 9) (5 ∷ 7 ∷ 9 ∷ []) (0 ∷ 1 ∷ 0 ∷ []) false 0 64 ∷ []
-    ≡ Deep 2 ∷ RecursiveCall 0 ∷ []
+    ≡ Ok 2 ∷ Err (RecursiveCall 0) ∷ []
 unfolding depth_in limit_of depth_of callee_in calls_key row_ascending_in number_at binary_search narrowed insn_at slot_at le bytes_of ◌if◌else◌
 two_rows = refl
 
@@ -74,12 +73,12 @@ two_rows = refl
 abbrev unwritten : List ℕ
 unwritten = call 0xffff_ffff ++ exit ++ exit
 
-relocated : deep unwritten 64 ∷ deep (written (Ok (Key 4 2)) unwritten) 64 ∷ [] ≡ Deep 1 ∷ Deep 2 ∷ []
+relocated : deep unwritten 64 ∷ deep (written (Ok (Key 4 2)) unwritten) 64 ∷ [] ≡ Ok 1 ∷ Ok 2 ∷ []
 unfolding depth_in limit_of depth_of callee_in calls_key row_ascending_in number_at binary_search narrowed insn_at slot_at le bytes_of put ◌if◌else◌
 relocated = refl
 
 -- an index at the text's end owns no slot; an uneven text has one whole slot less
-edges : depth_in (call 1) (0 ∷ 1 ∷ []) (0 ∷ 1 ∷ []) true 0 64 ∷ depth_in (exit ++ 0x85 ∷ 16 ∷ 0 ∷ 0 ∷ 1 ∷ 0 ∷ 0 ∷ []) (0 ∷ 1 ∷ []) (0 ∷ 1 ∷ []) true 0 64 ∷ [] ≡ Deep 2 ∷ Deep 1 ∷ []
+edges : depth_in (call 1) (0 ∷ 1 ∷ []) (0 ∷ 1 ∷ []) true 0 64 ∷ depth_in (exit ++ 0x85 ∷ 16 ∷ 0 ∷ 0 ∷ 1 ∷ 0 ∷ 0 ∷ []) (0 ∷ 1 ∷ []) (0 ∷ 1 ∷ []) true 0 64 ∷ [] ≡ Ok 2 ∷ Ok 1 ∷ []
 unfolding depth_in limit_of depth_of callee_in calls_key row_ascending_in number_at binary_search narrowed insn_at slot_at le bytes_of ◌if◌else◌
 edges = refl
 
@@ -104,10 +103,10 @@ ask work a = depth_asked work 4 (exit ++ call 1 ++ call 2 ++ exit) (0 ∷ 1 ∷ 
 
 -- a chain of 3; `work` shorter than the rows lent, though not than those used: 41; an entry without a row, more rows used than lent, a text past the image: 33
 asked : ask 4 (answer 0 3 8) ∷ ask 3 (answer 0 3 8) ∷ ask 4 (answer 3 3 8) ∷ ask 4 (answer 0 5 8) ∷ ask 4 (answer 0 3 9) ∷ []
-    ≡ Deep 3 ∷ Refused BufferShort ∷ Refused ValueOutOfBounds ∷ Refused ValueOutOfBounds ∷ Refused ValueOutOfBounds ∷ []
+    ≡ Ok 3 ∷ Err (Refused BufferShort) ∷ Err (Refused ValueOutOfBounds) ∷ Err (Refused ValueOutOfBounds) ∷ Err (Refused ValueOutOfBounds) ∷ []
 unfolding depth_by fits_in depth_in limit_of depth_of callee_in calls_key row_ascending_in number_at binary_search narrowed insn_at slot_at le bytes_of ◌if◌else◌
 asked = refl
 
 -- a refused load's own refusal, whatever `work` is
-refused : depth_asked 0 4 [] [] [] (Err WrongAbi) 64 ≡ Refused WrongAbi
+refused : depth_asked 0 4 [] [] [] (Err WrongAbi) 64 ≡ Err (Refused WrongAbi)
 refused = refl

@@ -5,9 +5,8 @@ use Rattle.loader.specs.declared.error.ElfError.{ElfError}
 use Rattle.loader.specs.declared.answer.Accepted.{Accepted}
 use Rattle.loader.specs.declared.validate.Config.{Config}
 use Rattle.loader.specs.Loads.{Loads}
-use Rattle.call_depth.specs.declared.CallDepth.{CallDepth}
 use Rattle.call_depth.specs.declared.LoadDepth.{LoadDepth}
-use Rattle.call_depth.specs.Asked.{limit_of, depth_asked}
+use Rattle.call_depth.specs.Asked.{CallDepth, limit_of, depth_asked}
 use Rattle.call_depth.specs.Meaning.{FunctionCalls, Means}
 
 -- of an accepted load, with a number of `work` for each row

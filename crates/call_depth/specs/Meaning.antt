@@ -1,5 +1,5 @@
 -- What the answers say of an accepted load, in the words of the request.
-use Rattle.std.specs.Prelude.{ℕ, ◌≤◌, ◌<◌, ◌≡◌, true, List, take, drop, eqb, Some}
+use Rattle.std.specs.Prelude.{ℕ, ◌≤◌, ◌<◌, ◌≡◌, true, List, take, drop, eqb, Some, Ok, Err}
 use Rattle.ebpf.specs.Instructions.{insn_at}
 use Rattle.ebpf.specs.declared.Insn.{Insn}
 use Rattle.program.specs.Table.{Slices, lookup_in}
@@ -7,9 +7,9 @@ use Rattle.call_graph.specs.Ways.{Longest, Smallest}
 use Rattle.call_graph.specs.Profile.{Profile, next_above}
 use Rattle.loader.specs.declared.answer.Accepted.{Accepted}
 use Rattle.loader.specs.Demand.{Finds}
-use Rattle.call_depth.specs.declared.CallDepth.{CallDepth}
-use Rattle.call_depth.specs.declared.CallDepth.TheVariants.{Deep, RecursiveCall, TooDeep, Refused}
+use Rattle.call_depth.specs.declared.error.CallDepthError.TheVariants.{RecursiveCall, TooDeep, Refused}
 use Rattle.call_depth.specs.Called.{calls_key, slots_in, profile_in}
+use Rattle.call_depth.specs.Asked.{CallDepth}
 
 -- the text's bytes in an image, and the indices of the used rows of a table
 abbrev pub text_of_image : Accepted → List ℕ → List ℕ
@@ -37,7 +37,7 @@ FunctionCalls a im t i j = (s : ℕ) × Owns a im t i s × SlotCalls a im t s j
 -- WHAT AN ANSWER MEANS, from the entry e by the relation 'calls' R: there is a chain of d functions and none is longer, within the limit or past it; or i is
 -- the smallest index that is reached and reaches itself
 abbrev pub Means : (ℕ → ℕ → Type 0) → ℕ → ℕ → CallDepth → Type 0
-Means R e limit (Deep d) = Longest R e d × (d ≤ limit)
-Means R e limit (TooDeep d) = Longest R e d × (limit < d)
-Means R e limit (RecursiveCall i) = Smallest R e i
-Means R e limit (Refused r) = ⊥
+Means R e limit (Ok d) = Longest R e d × (d ≤ limit)
+Means R e limit (Err (TooDeep d)) = Longest R e d × (limit < d)
+Means R e limit (Err (RecursiveCall i)) = Smallest R e i
+Means R e limit (Err (Refused r)) = ⊥

@@ -1,78 +1,81 @@
 #![tactic(auto)]
 // How deep a loaded profile calls: the longest chain of calls from the entry, counted in functions. Asked
 // with a load, or about a load already made, by its answer, its image and its table.
-ghost use Rattle.std.specs.Prelude.{◌≡◌, ◌≤◌, ◌<◌, length, get_or};
-ghost use Rattle.program.specs.Search.{index_of};
-ghost use Rattle.program.specs.Table.{slices, capacity};
+ghost use Rattle.std.specs.Prelude.{◌≡◌, ◌<◌, position, eqb, length, get_or};
+ghost use Rattle.program.specs.Table.{slices, capacity, columns_in};
 ghost use Rattle.call_graph.specs.Answer.{depth_of};
 ghost use Rattle.call_depth.specs.Called.{profile_of, WorkLent};
 ghost use Rattle.call_depth.specs.Asked.{limit_of, limited, depth_in, fits_in, depth_by, depth_asked};
 ghost use Rattle.call_depth.specs.Loads.{LoadsAndMeasures};
 
-use call_graph::Depth;
+use call_graph::Recursive;
 use elf_parser::past;
 use loader::{Accepted, Config, ElfError, load};
 use program::FunctionTable;
-use recursion::recursive;
-use settling::settle;
 use slots::FLAG;
 
+mod error;
 mod marking;
 mod recursion;
 mod settling;
 mod slots;
 
-// The longest chain; 50, with the smallest index of a function that is reached and reaches itself; 51,
-// with a chain past the limit; or why the load or the question is refused.
-#[derive(Clone, Copy)]
-pub enum CallDepth {
-    Deep(u32),
-    RecursiveCall(u32),
-    TooDeep(u32),
-    Refused(ElfError),
-}
+pub use error::CallDepthError;
 
 // What a load answers, and how deep the profile calls.
 #[derive(Clone, Copy)]
 pub struct LoadDepth {
     pub load: Result<Accepted, ElfError>,
-    pub depth: CallDepth,
+    pub depth: Result<u32, CallDepthError>,
 }
 
-// From the function of row `entry`.
-fn depth_from(
-    work: &mut [u32],
-    text: &[u8],
-    keys: &[u32],
-    indices: &[u32],
-    version2: bool,
-    entry: usize,
-) -> Depth
-    requires { WorkLent text.now indices.now work.old × (entry < length indices.now) }
-    ensures { result ≡ depth_of (profile_of text keys indices version2) (get_or indices.now entry 0) }
-{
-    settle(work, text, keys, indices, version2, entry);
-    let word = work[entry];
-    if word < FLAG {
-        return Depth::Deep(word);
-    }
-    Depth::Recursive(recursive(work, text, keys, indices, version2, entry))
+// What says which function calls which: the text in the image, the columns of keys and of indices of the
+// used rows, and whether the version is 2.
+#[derive(Clone, Copy)]
+pub(crate) struct Profile<'a> {
+    pub(crate) text: &'a [u8],
+    pub(crate) keys: &'a [u32],
+    pub(crate) indices: &'a [u32],
+    pub(crate) version2: bool,
 }
 
-// The first row with an index, or as many as there are.
-fn row_with(indices: &[u32], index: u32) -> usize
-    ensures { result ≡ index_of index indices.now }
-{
-    let mut r = 0;
-    while r < indices.len() {
-        if indices[r] == index {
-            return r;
+impl Profile<'_> {
+    // From the function of row `entry`.
+    fn depth_from(self, work: &mut [u32], entry: usize) -> Result<u32, Recursive>
+        requires { WorkLent self.text.now self.indices.now work.old × (entry < length self.indices.now) }
+        ensures { result ≡ depth_of (profile_of self) (get_or self.entry.indices.now entry 0) }
+    {
+        self.settle(work, entry);
+        let word = work[entry];
+        if word < FLAG {
+            return Ok(word);
         }
-        r += 1;
+        Err(Recursive {
+            index: self.recursive(work, entry),
+        })
     }
-    r
+
+    // From the function at the index `entry`.
+    #[tactic(auto, using(ebpf::specs::Choice::choices, crate::proofs::Entries::first_none, crate::proofs::Entries::first_some), unfolding(crate::specs::Asked::depth_in))]
+    fn depth_in(self, work: &mut [u32], entry: u32, limit: u32) -> Result<u32, CallDepthError>
+        requires { WorkLent self.text.now self.indices.now work.old }
+        ensures { result ≡ depth_in self.entry.text.now self.entry.keys.now self.entry.indices.now self.entry.version2 entry limit }
+    {
+        let Some(row) = row_with(self.indices, entry) else {
+            return Err(CallDepthError::Refused(ElfError::ValueOutOfBounds));
+        };
+        limited(limit_of(limit), self.depth_from(work, row))
+    }
 }
 
+// The first row with an index.
+fn row_with(indices: &[u32], index: u32) -> Option<usize>
+    ensures { result ≡ position (λ held. eqb held index) indices.now }
+{
+    indices.iter().position(|held| *held == index)
+}
+
+#[tactic(auto, using(ebpf::specs::Choice::choices), unfolding(crate::specs::Asked::limit_of))]
 fn limit_of(limit: u32) -> u32
     ensures { result ≡ limit_of limit }
 {
@@ -82,80 +85,51 @@ fn limit_of(limit: u32) -> u32
     limit
 }
 
-fn limited(limit: u32, depth: Depth) -> CallDepth
+#[tactic(auto, using(ebpf::specs::Choice::choices))]
+fn limited(limit: u32, depth: Result<u32, Recursive>) -> Result<u32, CallDepthError>
     ensures { result ≡ limited limit depth }
 {
-    match depth {
-        Depth::Recursive(i) => CallDepth::RecursiveCall(i),
-        Depth::Deep(d) => {
-            if limit < d {
-                return CallDepth::TooDeep(d);
-            }
-            CallDepth::Deep(d)
-        }
+    let chain = depth?;
+    if limit < chain {
+        return Err(CallDepthError::TooDeep(chain));
     }
+    Ok(chain)
 }
 
-// By the text in the image and the used rows.
-fn depth_in(
-    work: &mut [u32],
-    text: &[u8],
-    keys: &[u32],
-    indices: &[u32],
-    version2: bool,
-    entry: u32,
-    limit: u32,
-) -> CallDepth
-    requires { WorkLent text.now indices.now work.old }
-    ensures { result ≡ depth_in text.now keys.now indices.now version2 entry limit }
+#[tactic(auto, unfolding(crate::specs::Asked::fits_in))]
+fn fits_in(rows: usize, len: usize, a: Accepted) -> bool
+    ensures { result ≡ fits_in rows len a.used a.text_start a.text_length }
 {
-    let row = row_with(indices, entry);
-    if indices.len() <= row {
-        return CallDepth::Refused(ElfError::ValueOutOfBounds);
-    }
-    let depth = depth_from(work, text, keys, indices, version2, row);
-    limited(limit_of(limit), depth)
+    let outside = past(len as u64, a.text_start as u64, a.text_length as u64);
+    ((a.used <= rows) & (a.used < 0x4000_0000)) & ((a.text_length <= 0x100_0000) & !outside)
 }
 
-fn fits_in(rows: usize, len: usize, used: usize, start: usize, n: usize) -> bool
-    ensures { result ≡ fits_in rows len used start n }
-{
-    let outside = past(len as u64, start as u64, n as u64);
-    ((used <= rows) & (used < 0x4000_0000)) & ((n <= 0x100_0000) & !outside)
-}
-
-// By an accepted load's answer, with so many rows lent.
+// By an accepted load's answer.
+#[tactic(auto, using(ebpf::specs::Choice::choices, crate::proofs::Fits::fits, crate::proofs::Fits::used_long), unfolding(crate::specs::Asked::depth_by))]
 fn depth_by(
     work: &mut [u32],
     image: &[u8],
-    keys: &[u32],
-    indices: &[u32],
-    rows: usize,
+    table: FunctionTable,
     a: Accepted,
     limit: u32,
-) -> CallDepth
-    requires { (rows ≤ length keys.now) × (rows ≤ length indices.now) }
-    ensures { result ≡ depth_by (length work.old) rows image.now keys.now indices.now a limit }
+) -> Result<u32, CallDepthError>
+    ensures { result ≡ depth_by (length work.old) (capacity (columns_in table.entry)) image.now table.entry.keys.now table.entry.indices.now a limit }
 {
+    let rows = table.rows_lent();
     if work.len() < rows {
-        return CallDepth::Refused(ElfError::BufferShort);
+        return Err(CallDepthError::Refused(ElfError::BufferShort));
+    }
+    if !fits_in(rows, image.len(), a) {
+        return Err(CallDepthError::Refused(ElfError::ValueOutOfBounds));
     }
     let used = a.used;
-    let start = a.text_start;
-    let n = a.text_length;
-    if !fits_in(rows, image.len(), used, start, n) {
-        return CallDepth::Refused(ElfError::ValueOutOfBounds);
-    }
-    let end = start + n;
-    depth_in(
-        &mut work[..used],
-        &image[start..end],
-        &keys[..used],
-        &indices[..used],
-        a.version == 2,
-        a.entry,
-        limit,
-    )
+    let profile = Profile {
+        text: &image[a.text_start..a.text_start + a.text_length],
+        keys: &table.keys[..used],
+        indices: &table.indices[..used],
+        version2: a.version == 2,
+    };
+    profile.depth_in(&mut work[..used], a.entry, limit)
 }
 
 // HOW DEEP THE PROFILE CALLS that a load answered for: by its answer, which may be a refusal, and by the
@@ -171,22 +145,19 @@ pub fn call_depth(
     lengths: &[u32],
     answer: Result<Accepted, ElfError>,
     limit: u32,
-) -> CallDepth
+) -> Result<u32, CallDepthError>
     ensures { result ≡ depth_asked (length work.old) (capacity (slices keys.now indices.now kinds.now starts.now lengths.now)) image.now keys.now indices.now answer limit }
 {
+    let accepted = answer?;
     let table = FunctionTable {
         keys,
         indices,
         kinds,
         starts,
         lengths,
-        used: 0,
+        used: accepted.used,
     };
-    let rows = table.rows_lent();
-    match answer {
-        Err(r) => CallDepth::Refused(r),
-        Ok(a) => depth_by(work, image, keys, indices, rows, a, limit),
-    }
+    depth_by(work, image, table, accepted, limit)
 }
 
 // A load, and how deep the profile calls. The load's outputs stay as they are where the question is

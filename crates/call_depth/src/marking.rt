@@ -1,12 +1,14 @@
 // Marks on rows that are not settled: what a row calls, and so on.
-ghost use Rattle.std.specs.Prelude.{◌≡◌, ◌≤◌, ◌<◌, length};
-ghost use Rattle.call_graph.specs.Marks.{end_in, Shaped, Followed, Begun, Circled, Spread, Spot, Spotted};
+ghost use Rattle.std.specs.Prelude.{◌≡◌, ◌≤◌, ◌<◌, length, get_or};
+ghost use Rattle.call_graph.specs.Marks.{end_in, Shaped, Followed, Begun, Circled, Spread, Spot, Spotted, CallsMarked};
 ghost use Rattle.call_graph.specs.Words.{FLAG};
 ghost use Rattle.call_depth.specs.Called.{profile_now, profile_of, slots_in};
 
-use crate::slots::{BOTH, FLAG, mark_slots, wide};
+use crate::Profile;
+use crate::slots::{BOTH, FLAG};
 
 // The end of a row's slots, in its word.
+#[tactic(auto, using(ebpf::specs::Choice::choices))]
 fn end_in(word: u32) -> u32
     requires { FLAG ≤ word }
     ensures { result ≡ end_in word }
@@ -18,121 +20,76 @@ fn end_in(word: u32) -> u32
     }
 }
 
-// Where row `r` is marked, marks what it calls: how many rows are newly marked.
-fn mark_one(
-    work: &mut [u32],
-    text: &[u8],
-    keys: &[u32],
-    indices: &[u32],
-    version2: bool,
-    r: usize,
-) -> usize
-    requires { Shaped (profile_now text keys indices version2) (slots_in text.now) work.old × (r < length indices.now) }
-    ensures { Followed (profile_of text keys indices version2) r work.old work.new result }
-{
-    let word = work[r];
-    if word < BOTH {
-        return 0;
+impl Profile<'_> {
+    // Marks what row `r` calls: how many rows are newly marked.
+    fn mark_calls(self, work: &mut [u32], r: usize) -> usize
+        requires { Shaped (profile_now self) (slots_in self.text.now) work.old × (r < length self.indices.now) × (FLAG ≤ get_or work.old r 0) }
+        ensures { CallsMarked (profile_of self) r work.old work.new result }
+    {
+        let from = self.indices[r] as usize;
+        let end = end_in(work[r]) as usize;
+        self.mark_slots(work, from, end)
     }
-    mark_slots(
-        work,
-        text,
-        keys,
-        version2,
-        wide(indices[r]),
-        wide(end_in(word)),
-    )
-}
 
-// Each row that is marked marks what it calls, and so does row `b`.
-fn mark_pass(
-    work: &mut [u32],
-    text: &[u8],
-    keys: &[u32],
-    indices: &[u32],
-    version2: bool,
-    b: usize,
-) -> usize
-    requires { Begun (profile_now text keys indices version2) (slots_in text.now) b work.old }
-    ensures { Circled (profile_of text keys indices version2) b work.old work.new result }
-{
-    let mut more = 0;
-    let mut r = 0;
-    while r < indices.len() {
-        more += mark_one(work, text, keys, indices, version2, r);
-        r += 1;
+    // Where row `r` is marked, marks what it calls: how many rows are newly marked.
+    #[tactic(auto, using(call_graph::proofs::Marking::not_followed, call_graph::proofs::Marking::followed))]
+    fn mark_one(self, work: &mut [u32], r: usize) -> usize
+        requires { Shaped (profile_now self) (slots_in self.text.now) work.old × (r < length self.indices.now) }
+        ensures { Followed (profile_of self) r work.old work.new result }
+    {
+        if work[r] < BOTH {
+            return 0;
+        }
+        self.mark_calls(work, r)
     }
-    let word = work[b];
-    more + mark_slots(
-        work,
-        text,
-        keys,
-        version2,
-        wide(indices[b]),
-        wide(end_in(word)),
-    )
-}
 
-// Marks all that row `b` calls, and so on.
-pub(crate) fn mark_all(
-    work: &mut [u32],
-    text: &[u8],
-    keys: &[u32],
-    indices: &[u32],
-    version2: bool,
-    b: usize,
-)
-    requires { Begun (profile_now text keys indices version2) (slots_in text.now) b work.old }
-    ensures { Spread (profile_of text keys indices version2) b work.old work.new }
-{
-    loop {
-        let more = mark_pass(work, text, keys, indices, version2, b);
-        if more == 0 {
-            return;
+    // Each row that is marked marks what it calls, and so does row `b`.
+    #[tactic(auto, using(call_graph::proofs::Marking::round_start, call_graph::proofs::Marking::shaped_kept, call_graph::proofs::Marking::begun_kept))]
+    fn mark_pass(self, work: &mut [u32], b: usize) -> usize
+        requires { Begun (profile_now self) (slots_in self.text.now) b work.old }
+        ensures { Circled (profile_of self) b work.old work.new result }
+    {
+        let mut more = 0;
+        for r in 0..self.indices.len() {
+            more += self.mark_one(work, r);
+        }
+        more + self.mark_calls(work, b)
+    }
+
+    // Marks all that row `b` calls, and so on.
+    #[tactic(auto, using(call_graph::proofs::Marking::grown_same, call_graph::proofs::Marking::round_done))]
+    pub(crate) fn mark_all(self, work: &mut [u32], b: usize)
+        requires { Begun (profile_now self) (slots_in self.text.now) b work.old }
+        ensures { Spread (profile_of self) b work.old work.new }
+    {
+        loop {
+            let more = self.mark_pass(work, b);
+            if more == 0 {
+                return;
+            }
         }
     }
-}
 
-// Where row `r` is not settled, marks what it calls.
-fn mark_called(
-    work: &mut [u32],
-    text: &[u8],
-    keys: &[u32],
-    indices: &[u32],
-    version2: bool,
-    r: usize,
-)
-    requires { Shaped (profile_now text keys indices version2) (slots_in text.now) work.old × (r < length indices.now) }
-    ensures { Spot (profile_of text keys indices version2) r work.old work.new }
-{
-    let word = work[r];
-    if word < FLAG {
-        return;
+    // Where row `r` is not settled, marks what it calls.
+    #[tactic(auto, using(call_graph::proofs::Marking::spot_none, call_graph::proofs::Marking::spot_some))]
+    fn mark_called(self, work: &mut [u32], r: usize)
+        requires { Shaped (profile_now self) (slots_in self.text.now) work.old × (r < length self.indices.now) }
+        ensures { Spot (profile_of self) r work.old work.new }
+    {
+        if work[r] < FLAG {
+            return;
+        }
+        self.mark_calls(work, r);
     }
-    mark_slots(
-        work,
-        text,
-        keys,
-        version2,
-        wide(indices[r]),
-        wide(end_in(word)),
-    );
-}
 
-// Marks what the rows that are not settled call.
-pub(crate) fn mark_callees(
-    work: &mut [u32],
-    text: &[u8],
-    keys: &[u32],
-    indices: &[u32],
-    version2: bool,
-)
-    requires { Shaped (profile_now text keys indices version2) (slots_in text.now) work.old }
-    ensures { Spotted (profile_of text keys indices version2) (length indices.now) work.old work.new }
-{
-    let mut r = 0;
-    while r < indices.len() {
-        mark_called(work, text, keys, indices, version2, r);
-        r += 1;
+    // Marks what the rows that are not settled call.
+    #[tactic(auto, using(call_graph::proofs::Marking::spotted_start, call_graph::proofs::Marking::spotted_next, call_graph::proofs::Marking::shaped_kept))]
+    pub(crate) fn mark_callees(self, work: &mut [u32])
+        requires { Shaped (profile_now self) (slots_in self.text.now) work.old }
+        ensures { Spotted (profile_of self) (length self.entry.indices.now) work.old work.new }
+    {
+        for r in 0..self.indices.len() {
+            self.mark_called(work, r);
+        }
     }
 }

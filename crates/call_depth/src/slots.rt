@@ -1,9 +1,10 @@
 // The slots of a function: what they call, and the words of the rows that they call.
-ghost use Rattle.std.specs.Prelude.{◌≡◌, ◌≤◌, ◌<◌, max, get_or};
+ghost use Rattle.std.specs.Prelude.{◌≡◌, ◌≤◌, ◌<◌};
 ghost use Rattle.call_graph.specs.Marks.{Slots, always};
 ghost use Rattle.call_graph.specs.Words.{Scan};
 ghost use Rattle.call_depth.specs.Called.{calls_key, row_under, callee_by, callee_in, slots_in};
 
+use crate::Profile;
 use ebpf::{CALL_IMM, Insn, get_insn};
 use program::row_ascending;
 
@@ -14,25 +15,7 @@ pub(crate) const MARK: u32 = 0x4000_0000;
 
 pub(crate) const BOTH: u32 = 0xc000_0000;
 
-pub(crate) fn wide(x: u32) -> usize
-    ensures { result ≡ x }
-{
-    x as usize
-}
-
-fn larger(a: u32, b: u32) -> u32
-    ensures { result ≡ max a b }
-{
-    if a < b { b } else { a }
-}
-
-// The word of a row, 0 where there is no such row.
-fn word_at(work: &[u32], r: usize) -> u32
-    ensures { result ≡ get_or work.now r 0 }
-{
-    if r < work.len() { work[r] } else { 0 }
-}
-
+#[tactic(auto, unfolding(crate::specs::Called::calls_key))]
 fn calls_key(version2: bool, insn: Insn) -> bool
     ensures { result ≡ calls_key version2 insn }
 {
@@ -46,52 +29,8 @@ fn row_under(keys: &[u32], key: u32) -> usize
     row_ascending(keys, keys.len(), key).unwrap_or(keys.len())
 }
 
-fn callee_by(keys: &[u32], version2: bool, slot: Option<Insn>) -> usize
-    ensures { result ≡ callee_by keys.now version2 slot }
-{
-    match slot {
-        Some(insn) if calls_key(version2, insn) => row_under(keys, insn.imm),
-        _ => keys.len(),
-    }
-}
-
-// The row that a slot calls. Most slots are no call, which the opcode says.
-fn callee_of(text: &[u8], keys: &[u32], version2: bool, s: usize) -> usize
-    requires { s < slots_in text.now }
-    ensures { result ≡ callee_in text.now keys.now version2 s }
-{
-    if text[8 * s] != CALL_IMM {
-        return keys.len();
-    }
-    callee_by(keys, version2, get_insn(text, s))
-}
-
-// 0 where a slot calls a row that is not settled, else 1 and the largest depth of those called.
-pub(crate) fn depth_over(
-    work: &[u32],
-    text: &[u8],
-    keys: &[u32],
-    version2: bool,
-    from: usize,
-    end: usize,
-) -> u32
-    requires { end ≤ slots_in text.now }
-    ensures { Scan (callee_in text.now keys.now version2) work.now from end result }
-{
-    let mut most = 0;
-    let mut s = from;
-    while s < end {
-        let d = word_at(work, callee_of(text, keys, version2, s));
-        if FLAG <= d {
-            return 0;
-        }
-        most = larger(most, d);
-        s += 1;
-    }
-    most + 1
-}
-
 // Marks a row that is neither settled nor marked: 1 where it is newly marked, else 0.
+#[tactic(auto, using(call_graph::proofs::Marking::row_past, call_graph::proofs::Marking::row_kept))]
 fn mark_row(work: &mut [u32], r: usize) -> usize
     ensures { Slots (always r) 0 1 1 work.old work.new result }
 {
@@ -109,23 +48,56 @@ fn mark_row(work: &mut [u32], r: usize) -> usize
     1
 }
 
-// Marks what some slots call: how many rows are newly marked.
-pub(crate) fn mark_slots(
-    work: &mut [u32],
-    text: &[u8],
-    keys: &[u32],
-    version2: bool,
-    from: usize,
-    end: usize,
-) -> usize
-    requires { end ≤ slots_in text.now }
-    ensures { Slots (callee_in text.now keys.now version2) from end end work.old work.new result }
-{
-    let mut more = 0;
-    let mut s = from;
-    while s < end {
-        more += mark_row(work, callee_of(text, keys, version2, s));
-        s += 1;
+impl Profile<'_> {
+    #[tactic(auto, using(ebpf::specs::Choice::choices))]
+    fn callee_by(self, slot: Option<Insn>) -> usize
+        ensures { result ≡ callee_by self.entry.keys.now self.entry.version2 slot }
+    {
+        match slot {
+            Some(insn) if calls_key(self.version2, insn) => row_under(self.keys, insn.imm),
+            _ => self.keys.len(),
+        }
     }
-    more
+
+    // The row that a slot calls. Most slots are no call, which the opcode says.
+    #[tactic(auto, using(crate::proofs::Entries::no_call), unfolding(crate::specs::Called::callee_in))]
+    fn callee_of(self, s: usize) -> usize
+        requires { s < slots_in self.text.now }
+        ensures { result ≡ callee_in self.entry.text.now self.entry.keys.now self.entry.version2 s }
+    {
+        if self.text[8 * s] != CALL_IMM {
+            return self.keys.len();
+        }
+        self.callee_by(get_insn(self.text, s))
+    }
+
+    // 0 where a slot calls a row that is not settled, else 1 and the largest depth of those called.
+    #[tactic(auto, using(call_graph::proofs::Scans::over_start, call_graph::proofs::Scans::over_next, call_graph::proofs::Scans::scan_stop, call_graph::proofs::Scans::scan_end))]
+    pub(crate) fn depth_over(self, work: &[u32], from: usize, end: usize) -> u32
+        requires { end ≤ slots_in self.text.now }
+        ensures { Scan (callee_in self.entry.text.now self.entry.keys.now self.entry.version2) work.now from end result }
+    {
+        let mut most = 0;
+        for s in from..end {
+            let d = work.get(self.callee_of(s)).copied().unwrap_or(0);
+            if FLAG <= d {
+                return 0;
+            }
+            most = most.max(d);
+        }
+        most + 1
+    }
+
+    // Marks what some slots call: how many rows are newly marked.
+    #[tactic(auto, using(call_graph::proofs::Marking::slots_start, call_graph::proofs::Marking::slots_next, call_graph::proofs::Marking::slots_end))]
+    pub(crate) fn mark_slots(self, work: &mut [u32], from: usize, end: usize) -> usize
+        requires { end ≤ slots_in self.text.now }
+        ensures { Slots (callee_in self.entry.text.now self.entry.keys.now self.entry.version2) from end end work.old work.new result }
+    {
+        let mut more = 0;
+        for s in from..end {
+            more += mark_row(work, self.callee_of(s));
+        }
+        more
+    }
 }

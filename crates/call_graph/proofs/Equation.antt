@@ -6,14 +6,13 @@ use mathlib.Core.Bool.{Bool, true, false, ◌&&◌, ◌||◌}
 use mathlib.Core.Logic.{◌⊎◌, inl, inr, ⊎_elim}
 use native.Mathlib.Omega.{arith}
 use lib.Dec.{ltb, eqb}
+use Rattle.std.specs.Prelude.{Ok, Err}
 use Rattle.ebpf.specs.Choice.{◌if◌else◌}
 use borrow.Author.Tests.{ltb-true, lt-ltb, le-ltb, eqb-true, eq-eqb}
 use Rattle.call_graph.specs.Ways.{Way, Reaches, Calling, Longest, Smallest}
-use Rattle.call_graph.specs.Profile.{Profile, CallsFunction, Answers}
+use Rattle.call_graph.specs.Profile.{Profile, Depth, recursive, CallsFunction, Answers}
 use Rattle.call_graph.specs.Marks.{RowCalls}
 use Rattle.call_graph.specs.Answer.{most, some, least_of, chain_from, some_callee, reached_within, comes_back, depth_of}
-use Rattle.call_graph.specs.declared.Depth.{Depth}
-use Rattle.call_graph.specs.declared.Depth.TheVariants.{Deep, Recursive}
 use Rattle.program.proofs.Cases.{by_test, by_lt}
 use Rattle.call_graph.proofs.Ways.{join, round, no_return}
 use Rattle.call_graph.proofs.Loops.{project, lift}
@@ -22,18 +21,19 @@ use Rattle.call_graph.proofs.Scans.{max_or}
 
 -- one answer at most
 pub unique : (P : Profile) (e : ℕ) (a b : Depth) → Answers P e a → Answers P e b → a ≡ b
-unique P e (Deep c) (Deep d) x y =
+unique P e (Ok c) (Ok d) x y =
     let p = x.chain in
     let q = y.chain in
     let h : p.0 < d = y.longest p.0 p.2.0 p.2.1 in
     let g : q.0 < c = x.longest q.0 q.2.0 q.2.1 in
-    ap Deep (omega (arith, p.1, q.1))
-unique P e (Deep c) (Recursive i) x y = absurd (no_return (CallsFunction P) e c i x y.reached y.again)
-unique P e (Recursive i) (Deep d) x y = absurd (no_return (CallsFunction P) e d i y x.reached x.again)
-unique P e (Recursive i) (Recursive j) x y =
-    let h : i ≤ j = x.smallest j y.reached y.again in
-    let g : j ≤ i = y.smallest i x.reached x.again in
-    ap Recursive (omega arith)
+    ap Ok (omega (arith, p.1, q.1))
+unique P e (Ok c) (Err s) x y = absurd (no_return (CallsFunction P) e c s.index x y.reached y.again)
+unique P e (Err r) (Ok d) x y = absurd (no_return (CallsFunction P) e d r.index y x.reached x.again)
+unique P e (Err r) (Err s) x y =
+    let h : r.index ≤ s.index = x.smallest s.index y.reached y.again in
+    let g : s.index ≤ r.index = y.smallest r.index x.reached x.again in
+    let i : r.index ≡ s.index = omega arith in
+    ap recursive i
 
 -- tests
 and_both : (a b : Bool) → (a && b) ≡ true → (a ≡ true) × (b ≡ true)
@@ -220,27 +220,36 @@ module _ (P : Profile) where
       let a = within_met P.rows m.0 (P.index r) m.2 in
       (within_met P.rows i (P.index r) b.0, (a.0, (m.0, m.1, a.1)))
 
-  least_is : (e i : ℕ) → e < P.rows → ((r : ℕ) → P.index r < 0x1_0000_0000) → Smallest (CallsFunction P) (P.index e) i → least_of (comes_back P (P.index e)) P.index P.rows ≡ i
+  least_is : (e i : ℕ) → e < P.rows → i < 0x1_0000_0000 → Smallest (CallsFunction P) (P.index e) i → least_of (comes_back P (P.index e)) P.index P.rows ≡ i
   least_is e i h f s =
       let g = lift P s.again.0 i i s.again.1 in
       let a : comes_back P (P.index e) g.0 ≡ true = comes_back_lem e g.0 h g.1 (rw g.2 s.reached) (rw g.2 s.again) in
       let b : least_of (comes_back P (P.index e)) P.index P.rows ≤ P.index g.0 = least_at (comes_back P (P.index e)) P.index P.rows g.0 g.1 a in
       let low : i ≤ least_of (comes_back P (P.index e)) P.index P.rows = ⊎_elim
-      (λ z. absurd (omega (arith, z, b, f g.0)))
+      (λ z. absurd (omega (arith, z, b, f, g.2)))
       (λ z. let m = comes_back_met (P.index e) z.0 z.2 in let q : i ≤ P.index z.0 = s.smallest (P.index z.0) m.0 m.1 in omega (arith, z.3, q))
       (least_met (comes_back P (P.index e)) P.index P.rows) in
       omega (arith, b, low, g.2)
 
   -- the computed answer
-  pub answer_is : (e : ℕ) (a : Depth) → e < P.rows → ((r : ℕ) → P.index r < 0x1_0000_0000) → Answers P (P.index e) a → a ≡ depth_of P (P.index e)
+  pub chain_is : (e d : ℕ) → e < P.rows → Longest (CallsFunction P) (P.index e) d → Ok d ≡ depth_of P (P.index e)
   unfolding depth_of ◌if◌else◌
-  answer_is e (Deep d) h f l =
+  chain_is e d h l =
       let few : d ≤ P.rows = longest_few e d h l in
       let c : chain_from P (suc P.rows) (P.index e) ≡ d = chain_longest P.rows (P.index e) d (omega arith) l in
       rw (c, le-ltb P.rows d few) refl
-  answer_is e (Recursive i) h f s =
+
+  pub recursive_is : (e i : ℕ) → e < P.rows → i < 0x1_0000_0000 → Smallest (CallsFunction P) (P.index e) i → recursive i ≡ depth_of P (P.index e)
+  unfolding depth_of ◌if◌else◌
+  recursive_is e i h f s =
       let c : P.rows < chain_from P (suc P.rows) (P.index e) = loops_full (P.index e) i P.rows s.reached s.again in
       rw (lt-ltb P.rows (chain_from P (suc P.rows) (P.index e)) c, least_is e i h f s) refl
+
+  pub answer_is : (e : ℕ) (a : Depth) → e < P.rows → ((r : ℕ) → P.index r < 0x1_0000_0000) → Answers P (P.index e) a → a ≡ depth_of P (P.index e)
+  answer_is e (Ok d) h f l = chain_is e d h l
+  answer_is e (Err r) h f s =
+      let g = lift P s.again.0 r.index r.index s.again.1 in
+      recursive_is e r.index h (omega (arith, f g.0, g.2)) s
 
   -- and what it means
   chain_is_longest : (i : ℕ) → chain_from P (suc P.rows) i ≤ P.rows → Longest (CallsFunction P) i (chain_from P (suc P.rows) i)
@@ -281,6 +290,6 @@ module _ (P : Profile) where
   pub answer_means : (e : ℕ) → e < P.rows → ((r : ℕ) → P.index r < 0x1_0000_0000) → Answers P (P.index e) (depth_of P (P.index e))
   unfolding depth_of ◌if◌else◌
   answer_means e h f = by_lt P.rows (chain_from P (suc P.rows) (P.index e))
-      (λ b. Answers P (P.index e) (Recursive (least_of (comes_back P (P.index e)) P.index P.rows) if b else Deep (chain_from P (suc P.rows) (P.index e))))
+      (λ b. Answers P (P.index e) (recursive (least_of (comes_back P (P.index e)) P.index P.rows) if b else Ok (chain_from P (suc P.rows) (P.index e))))
       (least_is_smallest e h f)
       (chain_is_longest (P.index e))

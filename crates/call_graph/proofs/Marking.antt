@@ -14,7 +14,7 @@ use borrow.Author.Tests.{ltb-true, ltb-false, le-leb, lt-leb}
 use Rattle.call_graph.specs.Ways.{Calling}
 use Rattle.call_graph.specs.Profile.{Profile}
 use Rattle.call_graph.specs.Words.{FLAG}
-use Rattle.call_graph.specs.Marks.{MARK, BOTH, marked_in, RowCalls, Shaped, Grown, Marking, Slots, always, Closed, Followed, MarksSound, Round, Circled, Spread, Begun, end_in, Spot, Spotted}
+use Rattle.call_graph.specs.Marks.{MARK, BOTH, marked_in, RowCalls, Shaped, Grown, Marking, Slots, always, Closed, CallsMarked, Followed, MarksSound, Round, Circled, Spread, Begun, end_in, Spot, Spotted}
 use Rattle.ebpf.specs.Choice.{◌if◌else◌}
 use Rattle.call_graph.proofs.Scans.{below_or}
 use Rattle.call_graph.proofs.Settling.{at_set, count_le, count_set}
@@ -140,7 +140,7 @@ module _ (P : Profile) (slots : ℕ) (w : List ℕ) (z : Shaped P slots w) where
   pub called_row : (r q : ℕ) → FLAG ≤ get_or w q 0 → (t : ℕ) × (P.index r ≤ t) × (t < P.end (P.index r)) × (P.callee t ≡ q) → RowCalls P r q
   called_row r q f c = (c.0, c.1, c.2, c.3, omega (arith, inside w q f, z.long))
 
-  pub followed : (r : ℕ) (u : List ℕ) (k : ℕ) → Slots P.callee (P.index r) (P.end (P.index r)) (P.end (P.index r)) w u k → BOTH ≤ get_or w r 0 → Followed P r w u k
+  pub followed : (r : ℕ) (u : List ℕ) (k : ℕ) → CallsMarked P r w u k → BOTH ≤ get_or w r 0 → Followed P r w u k
   followed r u k s b = record {
     marks = marking_from _ _ w u k (λ q f c. (b, called_row r q f c)) s.marks;
     closed = λ e _. s.closed;
@@ -183,7 +183,7 @@ round_next P slots b r w u v k d z l x y = record {
 }
 
 pub round_last : (P : Profile) (slots b : ℕ) (w u v : List ℕ) (k d : ℕ) → Begun P slots b w → Round P b P.rows w u k
-    → Slots P.callee (P.index b) (P.end (P.index b)) (P.end (P.index b)) u v d → Circled P b w v (k + d)
+    → CallsMarked P b u v d → Circled P b w v (k + d)
 round_last P slots b w u v k d z x y = record {
   round = record {
     marks = marking_then _ _ _ w u v k d (λ q _ c. c)
@@ -203,21 +203,21 @@ round_done P b w u v k g x e = record {
 
 -- a row's slots, as the code reads them
 module _ (P : Profile) (slots : ℕ) (w : List ℕ) (z : Shaped P slots w) (r : ℕ) (l : r < P.rows) (f : FLAG ≤ get_or w r 0)
-    (from x end : ℕ) (a : from ≡ P.index r) (b : x ≡ end_in (get_or w r 0)) (c : end ≡ x) where
+    (end : ℕ) (b : end ≡ end_in (get_or w r 0)) where
   the_end : end ≡ P.end (P.index r)
-  the_end = c ∙ b ∙ end_in_lem P slots w z r l f
+  the_end = b ∙ end_in_lem P slots w z r l f
 
   pub slots_within : end ≤ slots
   slots_within = omega (arith, the_end, z.sized.within (P.index r))
 
-  pub slots_of : (u : List ℕ) (k : ℕ) → Slots P.callee from end end w u k → Slots P.callee (P.index r) (P.end (P.index r)) (P.end (P.index r)) w u k
-  slots_of u k s = rw (a, the_end) at s
+  pub slots_of : (u : List ℕ) (k : ℕ) → Slots P.callee (P.index r) end end w u k → CallsMarked P r w u k
+  slots_of u k s = rw the_end at s
 
 -- a row's slots mark what it calls
 pub spot_none : (P : Profile) (r : ℕ) (w : List ℕ) → get_or w r 0 < FLAG → Spot P r w w
 spot_none P r w l = record { grown = grown_same _ w; closed = λ f. absurd (omega arith) }
 
-pub spot_some : (P : Profile) (r : ℕ) (w u : List ℕ) (k : ℕ) → Slots P.callee (P.index r) (P.end (P.index r)) (P.end (P.index r)) w u k → Spot P r w u
+pub spot_some : (P : Profile) (r : ℕ) (w u : List ℕ) (k : ℕ) → CallsMarked P r w u k → Spot P r w u
 spot_some P r w u k s = record { grown = (marking_from _ _ w u k (λ q _ _. tt) s.marks).grown; closed = λ _. s.closed }
 
 pub spotted_start : (P : Profile) (w : List ℕ) → Spotted P 0 w w

@@ -1,9 +1,7 @@
 -- The answer as a computed function, by fuel. What it means is `Answers` (`answer_is` in proofs/Equation.antt).
-use Rattle.std.specs.Prelude.{ℕ, zero, suc, ◌-◌, max, min, ◌≡◌, refl, Bool, false, ◌&&◌, ◌||◌, [], ◌∷◌, ltb, eqb}
+use Rattle.std.specs.Prelude.{ℕ, zero, suc, ◌-◌, max, min, ◌≡◌, refl, Bool, false, ◌&&◌, ◌||◌, [], ◌∷◌, ltb, eqb, Ok}
 use Rattle.ebpf.specs.Choice.{◌if◌else◌}
-use Rattle.call_graph.specs.Profile.{Profile, profile}
-use Rattle.call_graph.specs.declared.Depth.{Depth}
-use Rattle.call_graph.specs.declared.Depth.TheVariants.{Deep, Recursive}
+use Rattle.call_graph.specs.Profile.{Profile, Depth, recursive, profile}
 
 -- the largest of f at the n numbers from s on
 abbrev pub most : (ℕ → ℕ) → ℕ → ℕ → ℕ
@@ -41,23 +39,23 @@ comes_back P e r = reached_within P P.rows e (P.index r) && some_callee P (P.ind
 -- where a chain has more functions than there are rows, one of them comes back
 unfoldable pub depth_of : Profile → ℕ → Depth
 depth_of P e =
-    Recursive (least_of (comes_back P e) P.index P.rows) if ltb P.rows (chain_from P (suc P.rows) e) else
-    Deep (chain_from P (suc P.rows) e)
+    recursive (least_of (comes_back P e) P.index P.rows) if ltb P.rows (chain_from P (suc P.rows) e) else
+    Ok (chain_from P (suc P.rows) e)
 
 -- a lone entry; one that calls the second function, twice; one that calls itself; rows in any order
-lone : depth_of (profile (0 ∷ []) (9 ∷ 9 ∷ [])) 0 ≡ Deep 1
+lone : depth_of (profile (0 ∷ []) (9 ∷ 9 ∷ [])) 0 ≡ Ok 1
 unfolding depth_of ◌if◌else◌
 lone = refl
 
-pair : depth_of (profile (2 ∷ 0 ∷ []) (0 ∷ 0 ∷ 9 ∷ [])) 0 ≡ Deep 2
+pair : depth_of (profile (2 ∷ 0 ∷ []) (0 ∷ 0 ∷ 9 ∷ [])) 0 ≡ Ok 2
 unfolding depth_of ◌if◌else◌
 pair = refl
 
-itself : depth_of (profile (0 ∷ []) (9 ∷ 0 ∷ [])) 0 ≡ Recursive 0
+itself : depth_of (profile (0 ∷ []) (9 ∷ 0 ∷ [])) 0 ≡ recursive 0
 unfolding depth_of ◌if◌else◌
 itself = refl
 
 -- 0 calls 1, 1 calls 3 and 3 calls 1: the smallest is 1
-ring : depth_of (profile (3 ∷ 0 ∷ 1 ∷ []) (2 ∷ 9 ∷ 0 ∷ 2 ∷ [])) 0 ≡ Recursive 1
+ring : depth_of (profile (3 ∷ 0 ∷ 1 ∷ []) (2 ∷ 9 ∷ 0 ∷ 2 ∷ [])) 0 ≡ recursive 1
 unfolding depth_of ◌if◌else◌
 ring = refl

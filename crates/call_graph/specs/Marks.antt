@@ -58,6 +58,10 @@ always q t = q
 abbrev pub Closed : Profile → List ℕ → ℕ → Type 0
 Closed P w r = (t : ℕ) → P.index r ≤ t → t < P.end (P.index r) → FLAG ≤ get_or w (P.callee t) 0 → BOTH ≤ get_or w (P.callee t) 0
 
+-- what row r calls is marked
+abbrev pub CallsMarked : Profile → ℕ → List ℕ → List ℕ → ℕ → Type 0
+CallsMarked P r w w' k = Slots P.callee (P.index r) (P.end (P.index r)) (P.end (P.index r)) w w' k
+
 -- row r, if it is marked, marks what it calls
 pub record Followed (P : Profile) (r : ℕ) (w w' : List ℕ) (k : ℕ) : Type 0 where
   pub marks : Marking (λ (q : ℕ). (BOTH ≤ get_or w r 0) × RowCalls P r q) w w' k

@@ -1,9 +1,8 @@
 -- What a loaded program calls. Its functions are the distinct indices of the table's rows.
-use Rattle.std.specs.Prelude.{ℕ, ◌≤◌, ◌<◌, ◌≡◌, ◌&&◌, List, [], ◌∷◌, length, get_or, ltb}
+use Rattle.std.specs.Prelude.{ℕ, ◌≤◌, ◌<◌, ◌≡◌, ◌&&◌, List, [], ◌∷◌, length, get_or, ltb, Result, Ok, Err}
 use Rattle.ebpf.specs.Choice.{◌if◌else◌}
 use Rattle.call_graph.specs.Ways.{Longest, Smallest}
-use Rattle.call_graph.specs.declared.Depth.{Depth}
-use Rattle.call_graph.specs.declared.Depth.TheVariants.{Deep, Recursive}
+use Rattle.call_graph.specs.declared.Recursive.{Recursive}
 
 pub record Profile : Type 0 where
   pub rows : ℕ
@@ -15,10 +14,17 @@ pub record Profile : Type 0 where
 abbrev pub CallsFunction : Profile → ℕ → ℕ → Type 0
 CallsFunction P i j = (s : ℕ) × (i ≤ s) × (s < P.end i) × (P.callee s < P.rows) × (P.index (P.callee s) ≡ j)
 
+-- the longest chain of calls, in functions; or the smallest index of a function that is reached and reaches itself
+abbrev pub Depth : Type 0
+Depth = Result ℕ Recursive
+
+abbrev pub recursive : ℕ → Depth
+recursive i = Err (record { index = i })
+
 -- the answer's meaning
 abbrev pub Answers : Profile → ℕ → Depth → Type 0
-Answers P e (Deep d) = Longest (CallsFunction P) e d
-Answers P e (Recursive i) = Smallest (CallsFunction P) e i
+Answers P e (Ok d) = Longest (CallsFunction P) e d
+Answers P e (Err r) = Smallest (CallsFunction P) e r.index
 
 -- the smallest of the starts above i, or `end`
 abbrev pub next_above : ℕ → ℕ → List ℕ → ℕ

@@ -1,10 +1,9 @@
 #![tactic(auto)]
 // How deep calls go, in a profile of functions that call each other: the meaning and its laws.
 
-// The longest chain of calls, in functions; or the smallest index of a function that is reached and
-// reaches itself.
-#[derive(Clone, Copy)]
-pub enum Depth {
-    Deep(u32),
-    Recursive(u32),
+// Why there is no longest chain of calls: the smallest index of a function that is reached and reaches
+// itself.
+#[derive(Clone, Copy, PartialEq, Eq, Debug)]
+pub struct Recursive {
+    pub index: u32,
 }

@@ -1,0 +1,31 @@
+// Why there is no depth.
+ghost use Rattle.std.specs.Prelude.{◌≡◌};
+ghost use Rattle.call_depth.specs.declared.error.CallDepthError.TheVariants.{RecursiveCall, Refused};
+
+use call_graph::Recursive;
+use loader::ElfError;
+
+// 50, with the smallest index of a function that is reached and reaches itself; 51, with a chain past
+// the limit; or why the load or the question is refused.
+#[derive(Clone, Copy)]
+pub enum CallDepthError {
+    RecursiveCall(u32),
+    TooDeep(u32),
+    Refused(ElfError),
+}
+
+impl From<Recursive> for CallDepthError {
+    ghost from_gives = { λ e r. r ≡ RecursiveCall e.index };
+
+    fn from(e: Recursive) -> CallDepthError {
+        CallDepthError::RecursiveCall(e.index)
+    }
+}
+
+impl From<ElfError> for CallDepthError {
+    ghost from_gives = { λ e r. r ≡ Refused e };
+
+    fn from(e: ElfError) -> CallDepthError {
+        CallDepthError::Refused(e)
+    }
+}
