@@ -11,10 +11,10 @@ use Rattle.loader.specs.declared.deeds.Outputs.{Outputs}
 use Rattle.loader.specs.declared.deeds.Inputs.{Inputs}
 use Rattle.loader.specs.declared.error.ElfError.{ElfError}
 use Rattle.loader.specs.Calls.{slot_count, slot_trace}
-use Rattle.loader.specs.Functions.{Keyed, row_for}
+use Rattle.loader.specs.Functions.{row_for}
 use Rattle.loader.specs.Trace.{Trace, done, stop, register, each, Settled, refused, settle}
 use Rattle.loader.specs.Deeds.{Held}
-use Rattle.loader.specs.InnerContracts.{InFile, Begins, PartAsks, Sound, Near, held_of, SettlesAs}
+use Rattle.loader.specs.InnerContracts.{Begins, PartAsks, Sound, Near, held_of, SettlesAs}
 
 -- an image whose bytes from q on are still the file's
 abbrev pub ahead : ℕ → List ℕ → List ℕ → List ℕ

@@ -5,7 +5,6 @@ use Rattle.program.specs.declared.Registered.TheVariants.{Inserted, Repeat}
 use Rattle.std.specs.Prelude.{ℕ, ◌+◌, ◌-◌, ◌*◌, ◌≤◌, ◌^◌, ◌≡◌, List, Bool, true, false, length, Ok, Err, Result}
 use Rattle.loader.specs.declared.validate.Job.{Job}
 use Rattle.program.specs.declared.Row.{Row}
-use Rattle.program.specs.Runs.{moves_of}
 use Rattle.program.specs.Table.{Slices, SameLens, SameColumns, columns_of, capacity, rows_of, Ready}
 use Rattle.loader.specs.declared.error.ElfError.TheVariants.{SymbolHashCollision, TableFull, ValueOutOfBounds}
 use Rattle.loader.specs.declared.deeds.Outputs.{Outputs}

@@ -25,7 +25,6 @@ use Rattle.loader.specs.Addresses.{sum_up_to, machine_addr, MM_PROGRAM_START, MM
 use Rattle.loader.specs.Sections.{section_at, name_of}
 use Rattle.loader.specs.ReadOnly.{read_only, end_of, grown, taken, taken_at, gather_step, nothing, gathered, from_start, borrowed, owned, placed, placing_by, placing, copied_to, copied_at, copy_step}
 use Rattle.elf_parser.specs.declared.error.ElfParserError.{ElfParserError}
-use Rattle.elf_parser.specs.Parts.{stands}
 use Rattle.elf_parser.specs.declared.parts.Place.{Place}
 
 -- ---- the copy keeps the length

@@ -18,7 +18,6 @@ use Rattle.loader.specs.declared.read_only.Extent.{Extent}
 use Rattle.loader.specs.Addresses.{sum_up_to, machine_addr, MM_PROGRAM_START, MM_STACK_START}
 use Rattle.loader.specs.Sections.{section_at, name_of, dot_text, dot_rodata, dot_data_rel_ro, dot_eh_frame}
 use Rattle.elf_parser.specs.declared.error.ElfParserError.{ElfParserError}
-use Rattle.elf_parser.specs.Parts.{stands}
 use Rattle.elf_parser.specs.declared.parts.Place.{Place}
 
 -- .text, .rodata, .data.rel.ro, .eh_frame

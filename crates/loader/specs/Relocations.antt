@@ -11,7 +11,6 @@ use Rattle.elf_parser.specs.declared.types.Elf64Sym.{Elf64Sym}
 use Rattle.elf_parser.specs.declared.layout.Layout.{Layout}
 use Rattle.elf_parser.specs.Records.{program_header_of, dynamic_relocation_of, dynamic_rela_of, dynamic_symbol_of}
 use Rattle.elf_parser.specs.Names.{dynamic_symbol_name}
-use Rattle.elf_parser.specs.Types.{file_header}
 use Rattle.elf_parser.specs.Parse.{parsed}
 use Rattle.elf_parser.specs.Sound.{sound}
 use Rattle.program.specs.declared.FunctionName.{FunctionName}

@@ -20,7 +20,6 @@ use Rattle.loader.specs.Sections.{section_at, survey}
 use Rattle.loader.specs.Addresses.{sum_up_to, machine_addr, MM_STACK_START}
 use Rattle.loader.specs.ReadOnly.{placing}
 use Rattle.elf_parser.specs.declared.error.ElfParserError.{ElfParserError}
-use Rattle.elf_parser.specs.Parts.{stands}
 use Rattle.elf_parser.specs.declared.parts.Place.{Place}
 
 -- 40 and 41

@@ -24,7 +24,6 @@ use Rattle.loader.specs.Relocations.{relocation_at, used_before, used_header, pl
 use Rattle.loader.specs.RelocationExamples.{layout, job, image, zeros, asked}
 use Rattle.elf_parser.specs.declared.error.ElfParserError.{ElfParserError}
 use Rattle.elf_parser.specs.Errors.{Check}
-use Rattle.elf_parser.specs.Parts.{stands}
 use Rattle.elf_parser.specs.declared.parts.Place.{Place}
 
 -- ---- an answer in numbers: a refusal by `report_of`, else 0 and what the example speaks of

@@ -68,7 +68,6 @@ fn entry_of(deed: Deed) -> Entry
 }
 
 // Four bytes, the lowest first.
-#[tactic(auto, using(ebpf::specs::Choice::choices), unfolding(crate::specs::Bytes::put))]
 pub(crate) fn store_u32(image: &mut [u8], at: usize, v: u32)
     requires { at + 4 ≤ length image.old }
     ensures { image.new ≡ put 4 image.old at v }

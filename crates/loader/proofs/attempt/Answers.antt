@@ -1,18 +1,13 @@
 -- `loader::attempt` meets its contract: the checks, the slices cleared but for the image's front, the parts, the answer.
 -- Assumes nothing.
-use Prim.Native.Nat.{ℕ, ◌-◌, ◌≤◌}
-use mathlib.Core.List.{List, ◌++◌}
-use mathlib.Core.Path.{◌≡◌, refl, sym, subst, ◌∙◌, ap}
-use lib.ListN.{length, take, drop}
+use Prim.Native.Nat.{◌-◌, ◌≤◌}
+use mathlib.Core.Path.{◌≡◌, sym, ◌∙◌}
+use lib.ListN.{length, take}
 use borrow.Rule.Slice.PartMut.{put_mid}
-use borrow.Author.Rules.{rules}
-use Rattle.std.specs.Prelude.{Result, Ok, Err}
 use Rattle.std.proofs.lemmas.Result.{err_from_is_err_and}
-use Rattle.program.specs.Table.{Slices, SameLens, slices, columns_of, capacity}
-use Rattle.loader.specs.declared.error.ElfError.{ElfError}
-use Rattle.loader.specs.declared.answer.Accepted.{Accepted}
-use Rattle.loader.specs.InnerContracts.{InFile, held_of}
-use Rattle.loader.specs.Load.{all_count, answer_for, load_of, Tried}
+use Rattle.program.specs.Table.{Slices, SameLens, slices}
+use Rattle.loader.specs.InnerContracts.{InFile}
+use Rattle.loader.specs.Load.{all_count}
 use Rattle.loader.proofs.Loading.{behind_fits, behind_front, behind_rest, load_stops, job_in_file, file_fits, empty, tried}
 use Rattle.loader.proofs.attempt.Goals.{After-clear_all}
 use Rattle.loader.proofs.attempt.Goals as goal

@@ -1,20 +1,20 @@
 -- `loader::calls::register_calls` meets its contract. The loop's invariant: the slots from number i on are still to be copied; with the
 -- rows and moves held now they settle to what all settle to.
 -- Assumes nothing.
-use mathlib.Core.Path.{◌≡◌, refl, sym, subst, ◌∙◌}
+use mathlib.Core.Path.{◌≡◌, sym, subst, ◌∙◌}
 use mathlib.Core.List.{List}
 use Prim.Native.Nat.{ℕ, ◌+◌, ◌-◌, ◌*◌, ◌<◌, ◌≤◌, min}
 use native.Mathlib.Omega.{arith}
 use lib.ListN.{length, drop, length-replicate}
 use lib.Seq.{paste}
 use Rattle.program.specs.Table.{columns_of}
-use Rattle.std.specs.Prelude.{Result, Ok, Err}
+use Rattle.std.specs.Prelude.{Result, Ok}
 use Rattle.std.proofs.lemmas.Result.{err_from_is_err_and}
 use Rattle.loader.specs.declared.error.ElfError.{ElfError}
-use Rattle.loader.specs.Deeds.{Held, holding}
+use Rattle.loader.specs.Deeds.{holding}
 use Rattle.loader.specs.Calls.{slot_count, slot_trace, calls_trace}
 use Rattle.loader.specs.CallLoop.{ahead, StillHeld, Leads}
-use Rattle.loader.specs.InnerContracts.{BeginsIn, Settles, held_of}
+use Rattle.loader.specs.InnerContracts.{Settles, held_of}
 use Rattle.loader.proofs.Ahead.{ahead_more, ahead_all, ahead_length}
 use Rattle.loader.proofs.Targeting.{none_held}
 use Rattle.loader.proofs.Going.{keeps_all, keeps_on, going_start, going_done, all_begin, all_lead, in_begins_run, in_run, in_run_stop}

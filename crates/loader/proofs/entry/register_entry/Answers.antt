@@ -5,10 +5,9 @@ use mathlib.Core.List.{List}
 use Prim.Native.Nat.{ℕ}
 use Rattle.std.specs.Prelude.{Result, Ok}
 use Rattle.std.proofs.lemmas.Result.{err_from_is_err_and}
-use Rattle.program.specs.Table.{Slices, columns_of}
+use Rattle.program.specs.Table.{columns_of}
 use Rattle.loader.specs.declared.deeds.Deed.{Deed}
 use Rattle.loader.specs.declared.error.ElfError.{ElfError}
-use Rattle.loader.specs.Trace.{Trace}
 use Rattle.loader.specs.Deeds.{DeedFits, deed_trace}
 use Rattle.loader.specs.Entry.{entry_deed, forget_trace, entry_fits}
 use Rattle.loader.specs.InnerContracts.{Settles, held_of}

@@ -2,17 +2,14 @@
 -- held now, settle to what all settle to.
 -- Assumes nothing.
 use mathlib.Core.Path.{◌≡◌, subst, sym, ◌∙◌}
-use mathlib.Core.List.{List}
-use Prim.Native.Nat.{ℕ, ◌<◌}
 use Rattle.program.specs.Table.{columns_of}
 use Rattle.std.specs.Prelude.{Result, Ok}
 use Rattle.std.proofs.lemmas.Result.{err_from_is_err_and}
 use Rattle.loader.specs.declared.error.ElfError.{ElfError}
 use Rattle.loader.specs.Labels.{label_symbols, label_trace}
-use Rattle.loader.specs.Trace.{Trace}
 use Rattle.loader.specs.InnerContracts.{SettlesTo, held_of}
 use Rattle.loader.proofs.Performing.{refuses}
-use Rattle.loader.proofs.Turns.{symbols_fit, label_settles, deed_fits, more_labels, no_more_labels}
+use Rattle.loader.proofs.Turns.{label_settles, deed_fits, more_labels, no_more_labels}
 use Rattle.loader.proofs.Going.{keeps_all, keeps_on, over_start, over_begins, over_stop, over_on, over_done}
 use Rattle.loader.proofs.labelling.register_labels.Goals.{After-perform}
 use Rattle.loader.proofs.labelling.register_labels.Goals as goal

@@ -2,8 +2,6 @@
 -- moves held now, settle to what all settle to; and the header is the one used last.
 -- Assumes nothing.
 use mathlib.Core.Path.{◌≡◌, subst, ◌∙◌, sym}
-use mathlib.Core.List.{List}
-use Prim.Native.Nat.{ℕ}
 use Rattle.program.specs.Table.{columns_of}
 use Rattle.std.specs.Prelude.{Result, Ok}
 use Rattle.std.proofs.lemmas.Result.{err_from_is_err_and}
@@ -11,7 +9,7 @@ use Rattle.loader.specs.declared.error.ElfError.{ElfError}
 use Rattle.loader.specs.Relocations.{relocation_trace, relocation_count}
 use Rattle.loader.specs.InnerContracts.{SettlesTo, held_of}
 use Rattle.loader.proofs.Performing.{refuses}
-use Rattle.loader.proofs.Turns.{relocations_fit, counts_fit, none_before, header_next, relocation_settles, relocation_fits}
+use Rattle.loader.proofs.Turns.{none_before, header_next, relocation_settles, relocation_fits}
 use Rattle.loader.proofs.Going.{keeps_all, keeps_on, over_start, over_begins, over_stop, over_on, over_done}
 use Rattle.loader.proofs.relocating.apply_relocations.Goals.{After-perform}
 use Rattle.loader.proofs.relocating.apply_relocations.Goals as goal
