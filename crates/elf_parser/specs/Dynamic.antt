@@ -264,6 +264,15 @@ pub record LinkedInside (len : ℕ) (d : Linked) : Type 0 where
   pub relas : d.relas.offset + 24 * d.relas.count ≤ len
   pub symbols : d.symbols.offset + 24 * d.symbols.count ≤ len
 
+linking_inside : (len : ℕ) (a b c : Result Entries ElfParserError) (hash : ℕ) (d : Linked) → InFile len 16 a → InFile len 24 b → InFile len 24 c
+    → and_then a (λ e. and_then b (λ r. and_then c (λ x. Ok (record { relocations = e; relas = r; symbols = x; hash_table = hash })))) ≡ Ok d → LinkedInside len d
+linking_inside len (Err r) b c hash d h k l e = absurd (apart r d e)
+linking_inside len (Ok x) (Err r) c hash d h k l e = absurd (apart r d e)
+linking_inside len (Ok x) (Ok y) (Err r) hash d h k l e = absurd (apart r d e)
+linking_inside len (Ok x) (Ok y) (Ok w) hash d h k l e =
+    let p : record { relocations = x; relas = y; symbols = w; hash_table = hash } ≡ d = ok_is _ _ e in
+    rw (← p) (record { relocations = h x refl; relas = k y refl; symbols = l w refl })
+
 pub linked_inside : (s : List ℕ) (t : Tables) (d : Linked) → dynamic_of s t ≡ Ok d → LinkedInside (length s) d
 linked_inside s t d e =
     let a = went (dynamic_table s t) (λ e. linked_by s t (dynamic_values s e.count e.offset)) d e in
@@ -271,22 +280,12 @@ linked_inside s t d e =
   where
     by : (v : List ℕ) → linked_by s t v ≡ Ok d → LinkedInside (length s) d
     by v e =
-        let b = went (relocations_of s t 16 (get_or v DT_REL 0) (get_or v DT_RELSZ 0) (get_or v DT_RELENT 0)) (λ e.
-        and_then (relocations_of s t 24 (get_or v DT_RELA 0) (get_or v DT_RELASZ 0) (get_or v DT_RELAENT 0)) (λ a.
-        and_then (symbols_of s t (get_or v DT_SYMTAB 0)) (λ x.
-        Ok (record { relocations = e; relas = a; symbols = x; hash_table = get_or v DT_HASH 0 })))) d e in
-        let c = went (relocations_of s t 24 (get_or v DT_RELA 0) (get_or v DT_RELASZ 0) (get_or v DT_RELAENT 0)) (λ a.
-        and_then (symbols_of s t (get_or v DT_SYMTAB 0)) (λ x.
-        Ok (record { relocations = b.value; relas = a; symbols = x; hash_table = get_or v DT_HASH 0 }))) d b.second in
-        let x = went (symbols_of s t (get_or v DT_SYMTAB 0)) (λ x.
-        Ok (record { relocations = b.value; relas = c.value; symbols = x; hash_table = get_or v DT_HASH 0 })) d c.second in
-        let p = ok_is _ _ x.second in
-        rw (← p)
-        (record {
-          relocations = relocations_in_file s _ _ _ _ _ _ b.first;
-          relas = relocations_in_file s _ _ _ _ _ _ c.first;
-          symbols = symbols_in_file s _ _ _ x.first;
-        })
+        linking_inside (length s)
+        (relocations_of s t 16 (get_or v DT_REL 0) (get_or v DT_RELSZ 0) (get_or v DT_RELENT 0))
+        (relocations_of s t 24 (get_or v DT_RELA 0) (get_or v DT_RELASZ 0) (get_or v DT_RELAENT 0))
+        (symbols_of s t (get_or v DT_SYMTAB 0))
+        (get_or v DT_HASH 0) d
+        (relocations_in_file s t 16 _ _ _) (relocations_in_file s t 24 _ _ _) (symbols_in_file s t _) e
 
 -- ---- the loops of the code
 
