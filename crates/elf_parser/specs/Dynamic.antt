@@ -1,12 +1,12 @@
 -- The dynamic table: where it stands, its 35 values by tag, and what they lead to.
 use Prim.Native.Nat.{ℕ, zero, suc, ◌+◌, ◌-◌, ◌*◌, ◌≤◌, ◌<◌}
-use Rattle.std.proofs.Common.{mul-zero}
+use Rattle.std.proofs.Common.{mul-zero, mul-suc}
 use native.Mathlib.Omega.{arith}
 use Rattle.std.specs.Prelude.{Bool, not, List, length, get_or, set, replicate, ltb, eqb, Option, Some, None, option_map, Result, Ok, Err}
 use Rattle.std.proofs.Math.Bool.{true, false}
-use Rattle.std.proofs.Math.Path.{◌≡◌}
+use Rattle.std.proofs.Math.Path.{◌≡◌, refl, sym}
 use Rattle.std.proofs.Common.{eq-eqb, ne_eqb}
-use Rattle.ebpf.specs.Choice.{◌if◌else◌, past_word}
+use Rattle.ebpf.specs.Choice.{◌if◌else◌, yes, no_go, past_word}
 use Rattle.elf_parser.specs.declared.error.ElfParserError.{ElfParserError}
 use Rattle.elf_parser.specs.declared.error.ElfParserError.TheVariants.{OutOfBounds, InvalidDynamicSectionTable}
 use Rattle.elf_parser.specs.declared.dynamic.Tables.{Tables}
@@ -146,6 +146,57 @@ abbrev pub dynamic_of : List ℕ → Tables → Result Linked ElfParserError
 dynamic_of s t = and_then (dynamic_table s t) (λ e. linked_by s t (dynamic_values s e.count e.offset))
 
 -- ---- laws
+
+-- the search for a record: the first of those that are left, and the others
+module _ {A : Type 0} (passes : A → Bool) (read : ℕ → A) (width : ℕ) where
+  pub first_here : (n at : ℕ) → 0 < n → passes (read at) ≡ true → first_with passes read width n at ≡ Some (read at)
+  unfolding first_with
+  first_here zero at h e = absurd (omega arith)
+  first_here (suc n) at h e = sym (yes _ _ _ e)
+
+  pub first_next : (n at : ℕ) → 0 < n → passes (read at) ≡ false → first_with passes read width n at ≡ first_with passes read width (n - 1) (at + width)
+  unfolding first_with
+  first_next zero at h e = absurd (omega arith)
+  first_next (suc n) at h e = let k : suc n - 1 ≡ n = omega arith in rw k (sym (no_go _ _ _ _ e refl))
+
+  pub first_end : (n at : ℕ) → n ≤ 0 → first_with passes read width n at ≡ None
+  unfolding first_with
+  first_end zero at h = refl
+  first_end (suc n) at h = absurd (omega arith)
+
+  -- a record that is found is one of those that were looked at
+  pub record LookedAt (n at : ℕ) (x : A) : Type 0 where
+    pub place : ℕ
+    pub found : read place ≡ x
+    pub within : place + width ≤ at + width * n
+
+  pub first_within : (n at : ℕ) (x : A) → first_with passes read width n at ≡ Some x → LookedAt n at x
+  unfolding first_with ◌if◌else◌
+  first_within zero at x e = absurd (let z : ◌≡◌ {A = ℕ} 0 1 = cc in omega arith)
+  first_within (suc n) at x e = by (passes (read at)) (first_within n (at + width) x) e
+    where
+      by : (b : Bool) → (first_with passes read width n (at + width) ≡ Some x → LookedAt n (at + width) x)
+          → (Some (read at) if b else first_with passes read width n (at + width)) ≡ Some x → LookedAt (suc n) at x
+      by true later e = record { place = at; found = cc; within = rw mul-suc (omega arith) }
+      by false later e = let v = later e in record { place = v.place; found = v.found; within = rw mul-suc (omega (arith, v.within)) }
+
+-- the values: the first of the entries that are left, and the others
+module _ (s : List ℕ) where
+  pub values_next : (n at : ℕ) (values : List ℕ) → 0 < n → ((dynamic s at).d_tag ≡ DT_NULL → ⊥) → values_from s n at values ≡ values_from s (n - 1) (at + 16) (with_tag values (dynamic s at).d_tag (dynamic s at).d_val)
+  unfolding values_from
+  values_next zero at values h e = absurd (omega arith)
+  values_next (suc n) at values h e = let k : suc n - 1 ≡ n = omega arith in rw k (sym (no_go _ _ _ _ (ne_eqb _ _ e) refl))
+
+  pub values_stop : (n at : ℕ) (values : List ℕ) → (dynamic s at).d_tag ≡ DT_NULL → values_from s n at values ≡ values
+  unfolding values_from
+  values_stop zero at values e = refl
+  values_stop (suc n) at values e = sym (yes _ _ _ (eq-eqb _ _ e))
+
+  pub values_end : (n at : ℕ) (values : List ℕ) → n ≤ 0 → values_from s n at values ≡ values
+  unfolding values_from
+  values_end zero at values h = refl
+  values_end (suc n) at values h = absurd (omega arith)
+
 -- entries that are given lie in the file
 module _ (len width : ℕ) where
   none_in_file : InFile len width (Ok no_entries)
@@ -213,6 +264,15 @@ pub record LinkedInside (len : ℕ) (d : Linked) : Type 0 where
   pub relas : d.relas.offset + 24 * d.relas.count ≤ len
   pub symbols : d.symbols.offset + 24 * d.symbols.count ≤ len
 
+linking_inside : (len : ℕ) (a b c : Result Entries ElfParserError) (hash : ℕ) (d : Linked) → InFile len 16 a → InFile len 24 b → InFile len 24 c
+    → and_then a (λ e. and_then b (λ r. and_then c (λ x. Ok (record { relocations = e; relas = r; symbols = x; hash_table = hash })))) ≡ Ok d → LinkedInside len d
+linking_inside len (Err r) b c hash d h k l e = absurd (apart r d e)
+linking_inside len (Ok x) (Err r) c hash d h k l e = absurd (apart r d e)
+linking_inside len (Ok x) (Ok y) (Err r) hash d h k l e = absurd (apart r d e)
+linking_inside len (Ok x) (Ok y) (Ok w) hash d h k l e =
+    let p : record { relocations = x; relas = y; symbols = w; hash_table = hash } ≡ d = ok_is _ _ e in
+    rw (← p) (record { relocations = h x refl; relas = k y refl; symbols = l w refl })
+
 pub linked_inside : (s : List ℕ) (t : Tables) (d : Linked) → dynamic_of s t ≡ Ok d → LinkedInside (length s) d
 linked_inside s t d e =
     let a = went (dynamic_table s t) (λ e. linked_by s t (dynamic_values s e.count e.offset)) d e in
@@ -220,22 +280,12 @@ linked_inside s t d e =
   where
     by : (v : List ℕ) → linked_by s t v ≡ Ok d → LinkedInside (length s) d
     by v e =
-        let b = went (relocations_of s t 16 (get_or v DT_REL 0) (get_or v DT_RELSZ 0) (get_or v DT_RELENT 0)) (λ e.
-        and_then (relocations_of s t 24 (get_or v DT_RELA 0) (get_or v DT_RELASZ 0) (get_or v DT_RELAENT 0)) (λ a.
-        and_then (symbols_of s t (get_or v DT_SYMTAB 0)) (λ x.
-        Ok (record { relocations = e; relas = a; symbols = x; hash_table = get_or v DT_HASH 0 })))) d e in
-        let c = went (relocations_of s t 24 (get_or v DT_RELA 0) (get_or v DT_RELASZ 0) (get_or v DT_RELAENT 0)) (λ a.
-        and_then (symbols_of s t (get_or v DT_SYMTAB 0)) (λ x.
-        Ok (record { relocations = b.value; relas = a; symbols = x; hash_table = get_or v DT_HASH 0 }))) d b.second in
-        let x = went (symbols_of s t (get_or v DT_SYMTAB 0)) (λ x.
-        Ok (record { relocations = b.value; relas = c.value; symbols = x; hash_table = get_or v DT_HASH 0 })) d c.second in
-        let p = ok_is _ _ x.second in
-        rw (← p)
-        (record {
-          relocations = relocations_in_file s _ _ _ _ _ _ b.first;
-          relas = relocations_in_file s _ _ _ _ _ _ c.first;
-          symbols = symbols_in_file s _ _ _ x.first;
-        })
+        linking_inside (length s)
+        (relocations_of s t 16 (get_or v DT_REL 0) (get_or v DT_RELSZ 0) (get_or v DT_RELENT 0))
+        (relocations_of s t 24 (get_or v DT_RELA 0) (get_or v DT_RELASZ 0) (get_or v DT_RELAENT 0))
+        (symbols_of s t (get_or v DT_SYMTAB 0))
+        (get_or v DT_HASH 0) d
+        (relocations_in_file s t 16 _ _ _) (relocations_in_file s t 24 _ _ _) (symbols_in_file s t _) e
 
 -- ---- the loops of the code
 
@@ -276,14 +326,14 @@ module _ (s : List ℕ) (count from : ℕ) where
   pub values_all : dynamic_values s count from ≡ values_at 0 (replicate 35 0)
   values_all = let a : count - 0 ≡ count = omega arith in let b : from + 16 * 0 ≡ from = omega arith in rw (a, b)
 
-  pub values_next : (i : ℕ) (values : List ℕ) (d : Elf64Dyn) → i < count → d ≡ dynamic s (from + 16 * i) → (d.d_tag ≡ DT_NULL → ⊥) → values_at i values ≡ values_at (i + 1) (with_tag values d.d_tag d.d_val)
+  pub values_at_next : (i : ℕ) (values : List ℕ) (d : Elf64Dyn) → i < count → d ≡ dynamic s (from + 16 * i) → (d.d_tag ≡ DT_NULL → ⊥) → values_at i values ≡ values_at (i + 1) (with_tag values d.d_tag d.d_val)
   unfolding ◌if◌else◌
-  values_next i values d h e n = rw (values_is i values h, ← e, ne_eqb _ _ n)
+  values_at_next i values d h e n = rw (values_is i values h, ← e, ne_eqb _ _ n)
 
-  pub values_stop : (i : ℕ) (values : List ℕ) (d : Elf64Dyn) → i < count → d ≡ dynamic s (from + 16 * i) → d.d_tag ≡ DT_NULL → values_at i values ≡ values
+  pub values_at_stop : (i : ℕ) (values : List ℕ) (d : Elf64Dyn) → i < count → d ≡ dynamic s (from + 16 * i) → d.d_tag ≡ DT_NULL → values_at i values ≡ values
   unfolding ◌if◌else◌
-  values_stop i values d h e n = rw (values_is i values h, ← e, eq-eqb _ _ n)
+  values_at_stop i values d h e n = rw (values_is i values h, ← e, eq-eqb _ _ n)
 
-  pub values_end : (i : ℕ) (values : List ℕ) → count ≤ i → values_at i values ≡ values
+  pub values_at_end : (i : ℕ) (values : List ℕ) → count ≤ i → values_at i values ≡ values
   unfolding values_from
-  values_end i values h = let a : count - i ≡ 0 = omega arith in rw a
+  values_at_end i values h = let a : count - i ≡ 0 = omega arith in rw a

@@ -2,7 +2,7 @@
 use Prim.Native.Nat.{ℕ, zero, suc, ◌+◌, ◌-◌, ◌*◌, ◌≤◌, ◌<◌}
 use native.Mathlib.Omega.{arith}
 use Rattle.std.proofs.Common.{mul-suc, mul-zero, add-one, ap, sym}
-use Rattle.std.specs.Prelude.{◌≡◌, Result, Ok, Err}
+use Rattle.std.specs.Prelude.{◌≡◌, refl, Result, Ok, Err}
 use Rattle.elf_parser.specs.Errors.{and_then}
 
 -- of count entries from number i on, one and the others
@@ -12,11 +12,32 @@ less_one count i h = omega arith
 pub one_further : (from w i : ℕ) → from + w * (i + 1) ≡ from + w * i + w
 one_further from w i = rw (add-one, mul-suc) (omega arith)
 
+-- one entry of those that are left, whatever their width
+pub one_of : (w n : ℕ) → 0 < n → w * n ≡ w + w * (n - 1)
+one_of w zero h = absurd (omega arith)
+one_of w (suc n) h = let k : suc n - 1 ≡ n = omega arith in rw (k, mul-suc) (omega arith)
+
 module _ {A E : Type 0} (step : ℕ → A → Result A E) (w : ℕ) where
   -- n entries of w bytes each, from `at` on, with the state x
   unfoldable pub over : ℕ → ℕ → A → Result A E
   over zero at x = Ok x
   over (suc n) at x = and_then (step at x) (over n (at + w))
+
+  -- of those that are left, the first and the others
+  pub over_next : (n at : ℕ) (x y : A) → 0 < n → step at x ≡ Ok y → over n at x ≡ over (n - 1) (at + w) y
+  unfolding over
+  over_next zero at x y h e = absurd (omega arith)
+  over_next (suc n) at x y h e = let k : suc n - 1 ≡ n = omega arith in rw (e, k)
+
+  pub over_stop : (n at : ℕ) (x : A) (r : E) → 0 < n → step at x ≡ Err r → over n at x ≡ Err r
+  unfolding over
+  over_stop zero at x r h e = absurd (omega arith)
+  over_stop (suc n) at x r h e = rw e
+
+  pub over_end : (n at : ℕ) (x : A) → n ≤ 0 → over n at x ≡ Ok x
+  unfolding over
+  over_end zero at x h = refl
+  over_end (suc n) at x h = absurd (omega arith)
 
   module _ (count from : ℕ) where
     -- those from number i on

@@ -1,7 +1,8 @@
 -- The parse: every check in the order of the Rust, and the layout that it leaves.
-use Rattle.std.specs.Prelude.{ℕ, ◌+◌, ◌*◌, ◌≤◌, ◌<◌, ◌≡◌, not, List, length, eqb, Some, Result, Ok, Err}
-use Rattle.std.proofs.Common.{arith}
-use Rattle.ebpf.specs.Choice.{◌if◌else◌}
+use Rattle.std.specs.Prelude.{ℕ, ◌+◌, ◌*◌, ◌≤◌, ◌<◌, ◌≡◌, refl, not, List, length, eqb, Some, Result, Ok, Err}
+use Rattle.std.proofs.Common.{sym, arith}
+use Rattle.ebpf.specs.Choice.{◌if◌else◌, yes, no_go, eq_not, ne_not}
+use Rattle.ebpf.specs.LittleEndian.{le}
 use Rattle.elf_parser.specs.declared.error.ElfParserError.{ElfParserError}
 use Rattle.elf_parser.specs.declared.error.ElfParserError.TheVariants.{InvalidSectionHeader, NoSectionNameStringTable}
 use Rattle.elf_parser.specs.declared.types.Elf64Ehdr.{Elf64Ehdr}
@@ -81,6 +82,14 @@ unfolding file_check file_header
 room s e =
     let t = tables_within _ _ _ _ _ (pass_first _ _ (pass_rest _ _ e)) in
     record { ph = t.0; sh = t.1; names = header_sections s (pass_first _ _ e) }
+
+pub first_refused : (s : List ℕ) (shoff : ℕ) → (le 4 s (shoff + 4) ≡ 0 → ⊥) → first_check (section_header s shoff) ≡ Err InvalidSectionHeader
+unfolding first_check section_header
+first_refused s shoff h = sym (yes _ _ _ (ne_not _ _ h))
+
+pub first_passes : (s : List ℕ) (shoff : ℕ) → le 4 s (shoff + 4) ≡ 0 → first_check (section_header s shoff) ≡ Ok tt
+unfolding first_check section_header
+first_passes s shoff h = sym (no_go _ _ _ _ (eq_not _ _ h) refl)
 
 pub some_section : (s : List ℕ) → header_check s ≡ Ok tt → 0 < (file_header s).e_shnum
 unfolding file_header

@@ -157,10 +157,13 @@ module _ (len : ℕ) (h : Elf64Shdr) (p : Place) (e : file_range len h ≡ Ok p)
 pub range_lies : (len : ℕ) (h : Elf64Shdr) (p : Place) → h.sh_offset + h.sh_size ≤ len → file_range len h ≡ Ok p → h.sh_offset + p.length ≤ len
 range_lies len h p lies e = range_cases len h p e (λ q. h.sh_offset + q.length ≤ len) (omega (arith, lies)) (λ _. lies)
 
+range_in : (len : ℕ) (h : Elf64Shdr) (p : Place) → file_range len h ≡ Ok p → p.start + p.length ≤ len
+range_in len h p e = range_cases len h p e (λ r. r.start + r.length ≤ len) (omega arith) (λ w. w)
+
 -- and they lie in the file
 pub range_within : (s : List ℕ) (l : Layout) (index : ℕ) (p : Place) → file_range_of s l index ≡ Ok p → p.start + p.length ≤ length s
 range_within s l index p e = go (section_header_of s l index) e
   where
     go : (h : Result Elf64Shdr ElfParserError) → and_then h (file_range (length s)) ≡ Ok p → p.start + p.length ≤ length s
-    go (Ok h) q = range_cases (length s) h p q (λ r. r.start + r.length ≤ length s) (omega arith) (λ w. w)
+    go (Ok h) q = range_in (length s) h p q
     go (Err r) q = absurd (apart _ _ q)

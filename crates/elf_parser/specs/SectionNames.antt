@@ -1,9 +1,12 @@
 -- The sections that are found by their names.
-use Rattle.std.specs.Prelude.{ℕ, ◌≡◌, refl, Bool, true, false, ◌&&◌, eqb, nat_eq, Option, Some, None, Result, Ok, Err}
+use Rattle.std.specs.Prelude.{ℕ, ◌+◌, ◌<◌, ◌≡◌, refl, Bool, true, false, ◌&&◌, length, get_or, eqb, nat_eq, Option, Some, None, Result, Ok, Err}
 use Rattle.std.specs.Cmp.Lexicographic.{pointwise}
+use Rattle.std.proofs.Math.Numerals.{add-one}
 use Rattle.std.proofs.Common.{ap}
 use mathlib.Core.List.{List, [], ◌∷◌}
-use borrow.Author.Tests.{eqb-true}
+use Rattle.std.proofs.Math.ListN.{drop}
+use Rattle.std.proofs.Math.Seq.{drop-cons, drop-length}
+use borrow.Author.Tests.{eq-eqb, ne_eqb, eqb-true}
 use Rattle.ebpf.specs.Choice.{◌if◌else◌, and_left, and_right}
 use Rattle.elf_parser.specs.declared.error.ElfParserError.{ElfParserError}
 use Rattle.elf_parser.specs.declared.error.ElfParserError.TheVariants.{InvalidSectionHeader}
@@ -13,7 +16,8 @@ use Rattle.elf_parser.specs.declared.section_names.Role.TheVariants.{SymbolTable
 use Rattle.elf_parser.specs.declared.section_names.Named.{Named}
 use Rattle.elf_parser.specs.Errors.{and_then}
 use Rattle.elf_parser.specs.Loops.{over}
-use Rattle.elf_parser.specs.Parts.{bytes_at}
+use Rattle.elf_parser.specs.declared.parts.Place.{Place}
+use Rattle.elf_parser.specs.Parts.{bytes_at, part_of}
 use Rattle.elf_parser.specs.Strings.{string_in}
 use Rattle.elf_parser.specs.Types.{section_header}
 
@@ -80,6 +84,31 @@ same_equal (x ∷ xs) (y ∷ ys) e =
     let t : xs ≡ ys = same_equal xs ys (and_right (eqb x y) (same_bytes xs ys) e) in
     rw (h, t)
 
+pub same_short : (a b : List ℕ) → (length a ≡ length b → ⊥) → same_bytes a b ≡ false
+same_short a b h = go (same_bytes a b) refl
+  where
+    go : (t : Bool) → same_bytes a b ≡ t → t ≡ false
+    go true e = absurd (h (ap length (same_equal a b e)))
+    go false e = refl
+
+-- from number i on
+module _ (a b : List ℕ) where
+  pub same_end : (i : ℕ) → i ≡ length a → i ≡ length b → same_bytes (drop i a) (drop i b) ≡ true
+  unfolding same_bytes
+  same_end i p q =
+      let u : drop i a ≡ [] = rw p (drop-length a) in
+      let v : drop i b ≡ [] = rw q (drop-length b) in
+      rw (u, v)
+
+  module _ (i : ℕ) (p : i < length a) (q : i < length b) where
+    pub same_next : get_or a i 0 ≡ get_or b i 0 → same_bytes (drop i a) (drop i b) ≡ same_bytes (drop (i + 1) a) (drop (i + 1) b)
+    unfolding same_bytes
+    same_next e = rw (drop-cons a i 0 p, drop-cons b i 0 q, add-one, eq-eqb _ _ e)
+
+    pub same_stop : (get_or a i 0 ≡ get_or b i 0 → ⊥) → same_bytes (drop i a) (drop i b) ≡ false
+    unfolding same_bytes
+    same_stop e = rw (drop-cons a i 0 p, drop-cons b i 0 q, ne_eqb _ _ e)
+
 -- the test of the library
 pub same_tested : (a b : List ℕ) → pointwise nat_eq a b ≡ same_bytes a b
 unfolding same_bytes
@@ -87,3 +116,8 @@ same_tested [] [] = refl
 same_tested [] (y ∷ ys) = refl
 same_tested (x ∷ xs) [] = refl
 same_tested (x ∷ xs) (y ∷ ys) = ap (λ t. eqb x y && t) (same_tested xs ys)
+
+-- a name that was found, whatever its place
+pub named_at : (s : List ℕ) (r : Result Place ElfParserError) (p : Place) (at : ℕ) (n : Named) → r ≡ Ok p
+    → named_step (role_of (part_of s r)) at n ≡ and_then r (λ q. named_step (role_of (bytes_at s q.start q.length)) at n)
+named_at s r p at n e = rw e

@@ -14,7 +14,7 @@ use Rattle.elf_parser.specs.declared.section_headers.Ranges.{Ranges}
 use Rattle.elf_parser.specs.declared.section_names.Named.{Named}
 use Rattle.elf_parser.specs.declared.dynamic.Linked.{Linked}
 use Rattle.elf_parser.specs.declared.layout.Layout.{Layout}
-use Rattle.elf_parser.specs.Errors.{Check, ◌then◌, apart, went, ok_is, pass_first, pass_rest}
+use Rattle.elf_parser.specs.Errors.{Check, and_then, ◌then◌, apart, went, ok_is, pass_first, pass_rest}
 use Rattle.elf_parser.specs.Loops.{over}
 use Rattle.elf_parser.specs.Types.{file_header, program_header, section_header, PT_LOAD, SHT_STRTAB, SHT_NOBITS}
 use Rattle.elf_parser.specs.FileHeader.{header_check, tables_check}
@@ -86,6 +86,10 @@ parse_steps s l e =
 pub record Given (p : Result Place ElfParserError) : Type 0 where
   pub place : Place
   pub given : p ≡ Ok place
+
+turn_named : (s : List ℕ) (r : Result Place ElfParserError) (at : ℕ) (a b : Named)
+    → and_then r (λ p. named_step (role_of (bytes_at s p.start p.length)) at a) ≡ Ok b → Given r
+turn_named s r at a b e = let v = went r (λ p. named_step (role_of (bytes_at s p.start p.length)) at a) b e in record { place = v.value; given = v.first }
 
 went_checks : (t : Result ℕ ElfParserError) → check_of t ≡ Ok tt → (y : ℕ) × (t ≡ Ok y)
 went_checks t e = let v = went t (λ x. Ok tt) tt e in (v.value, v.first)
@@ -176,12 +180,10 @@ pub record Sound (s : List ℕ) (l : Layout) : Type 0 where
   pub relas : l.dynamic_relas.offset + 24 * l.dynamic_relas.count ≤ length s
   pub symbols : l.dynamic_symbols.offset + 24 * l.dynamic_symbols.count ≤ length s
 
-pub sound : (s : List ℕ) (l : Layout) → parsed s ≡ Ok l → Sound s l
-sound s l e = subst (Sound s) (sym x.layout) sound_whole
+-- of the layout as the steps give it
+sound_steps : (s : List ℕ) (l : Layout) (x : Steps s l) (k : Layout) → k ≡ layout_of (file_header s) ((file_header s).e_shoff + (file_header s).e_shstrndx * 64) x.found x.linked → Sound s k
+sound_steps s l x k e = subst (Sound s) (sym e) sound_whole
   where
-    x : Steps s l
-    x = parse_steps s l e
-
     h : Elf64Ehdr
     h = file_header s
 
@@ -203,8 +205,7 @@ sound s l e = subst (Sound s) (sym x.layout) sound_whole
     name_at : (i : ℕ) → i < h.e_shnum → Given (string_in s (section_header s names) (section_header s (h.e_shoff + 64 * i)).sh_name 16)
     name_at i r =
         let v = each_went (λ at n. name_step s (section_header s names) (section_header s at) at n) 64 h.e_shnum h.e_shoff none_named x.found x.names i r in
-        let p = went (string_in s (section_header s names) (section_header s (h.e_shoff + 64 * i)).sh_name 16) (λ p. named_step (role_of (bytes_at s p.start p.length)) (h.e_shoff + 64 * i) v.from) v.to v.turn in
-        record { place = p.value; given = p.first }
+        turn_named s (string_in s (section_header s names) (section_header s (h.e_shoff + 64 * i)).sh_name 16) (h.e_shoff + 64 * i) v.from v.to v.turn
 
     sound_whole : Sound s (layout_of h names x.found x.linked)
     sound_whole =
@@ -223,3 +224,6 @@ sound s l e = subst (Sound s) (sym x.layout) sound_whole
           symbols = linked_in.symbols;
           contents = λ i r. let v = each_went (λ p low. section_step (length s) (ranges_of h) (section_header s p) low) 64 h.e_shnum h.e_shoff 0 sections.0 sections.1 i r in step_within s (ranges_of h) _ _ _ v.turn;
         }
+
+pub sound : (s : List ℕ) (l : Layout) → parsed s ≡ Ok l → Sound s l
+sound s l e = let x = parse_steps s l e in sound_steps s l x l x.layout

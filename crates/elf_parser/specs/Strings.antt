@@ -1,6 +1,6 @@
 -- Names of a string table.
 use Prim.Native.Nat.{ℕ, zero, suc, ◌+◌, ◌-◌, ◌≤◌, ◌<◌, ◌^◌, min}
-use Rattle.std.proofs.Common.{sym, ◌∙◌, arith, add-one, one-add, length-drop, leb-false, ltb-true, ltb-false}
+use Rattle.std.proofs.Common.{sym, ◌∙◌, arith, add-one, one-add, length-drop, eq-eqb, ne_eqb, leb-false, ltb-true, ltb-false}
 use Rattle.std.specs.Prelude.{◌≡◌, ◌==◌, position, slice_range, ◌∷◌, cond, Bool, true, false, not, List, length, get_or, take, drop, ltb, eqb, Some, None, Result, Ok, Err}
 use Rattle.std.proofs.Math.Path.{refl}
 use Rattle.std.proofs.lemmas.List.{length-take-le}
@@ -54,6 +54,21 @@ string_in s h offset most =
     (λ x. terminated (ltb (h.sh_offset + h.sh_size) (h.sh_offset + offset + most)) (search_end h.sh_offset h.sh_size offset most - (h.sh_offset + offset)) s (h.sh_offset + offset))
 
 -- ---- laws
+
+module _ (s : List ℕ) (at : ℕ) where
+  pub zero_here : (n : ℕ) → 0 < n → get_or s at 0 ≡ 0 → before_zero n s at ≡ 0
+  unfolding before_zero ◌if◌else◌
+  zero_here zero h e = refl
+  zero_here (suc n) h e = simp (eq-eqb _ _ e)
+
+  pub zero_later : (n m : ℕ) → n ≡ suc m → (get_or s at 0 ≡ 0 → ⊥) → before_zero n s at ≡ suc (before_zero m s (at + 1))
+  unfolding before_zero ◌if◌else◌
+  zero_later n m e h = rw e (simp (ne_eqb _ _ h))
+
+  pub zero_none : (n : ℕ) → n ≤ 0 → before_zero n s at ≡ 0
+  unfolding before_zero
+  zero_none zero h = refl
+  zero_none (suc n) h = absurd (omega arith)
 
 before_most : (n at : ℕ) (s : List ℕ) → before_zero n s at ≤ n
 unfolding before_zero ◌if◌else◌

@@ -104,7 +104,7 @@ fn set_tag(values: &mut [u64; DT_NUM], d: Elf64Dyn)
 }
 
 // The values of a table's entries, up to the first DT_NULL.
-#[tactic(auto, using(crate::specs::Dynamic::values_stop, crate::specs::Dynamic::values_next, crate::specs::Dynamic::values_end))]
+#[tactic(auto, using(crate::specs::Dynamic::values_at_stop, crate::specs::Dynamic::values_at_next, crate::specs::Dynamic::values_at_end))]
 fn dynamic_values(file: &[u8], table: Entries) -> [u64; DT_NUM]
     requires { table.offset + 16 * table.count ≤ length file.now }
     ensures { result ≡ dynamic_values file.now table.count table.offset }

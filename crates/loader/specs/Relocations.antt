@@ -11,8 +11,10 @@ use Rattle.elf_parser.specs.declared.types.Elf64Sym.{Elf64Sym}
 use Rattle.elf_parser.specs.declared.layout.Layout.{Layout}
 use Rattle.elf_parser.specs.Records.{program_header_of, dynamic_relocation_of, dynamic_rela_of, dynamic_symbol_of}
 use Rattle.elf_parser.specs.Names.{dynamic_symbol_name}
-use Rattle.elf_parser.specs.Parse.{parsed}
-use Rattle.elf_parser.specs.Sound.{sound}
+use Rattle.elf_parser.specs.Types.{file_header}
+use Rattle.elf_parser.specs.Dynamic.{linked_inside}
+use Rattle.elf_parser.specs.Parse.{tables_of, layout_of, parsed}
+use Rattle.elf_parser.specs.Sound.{Steps, parse_steps}
 use Rattle.program.specs.declared.FunctionName.{FunctionName}
 use Rattle.program.specs.Search.{is_among}
 use Rattle.loader.specs.declared.relocations.UsedHeader.{UsedHeader}
@@ -357,5 +359,12 @@ plan_fits s im builtins j (Some r) info addend = at_fits s im builtins j r info 
 plan_fits s im builtins j None info addend = tt
 
 -- a parsed file has few relocations
+steps_few : (s : List ℕ) (l : Layout) (x : Steps s l) (k : Layout)
+    → k ≡ layout_of (file_header s) ((file_header s).e_shoff + (file_header s).e_shstrndx * 64) x.found x.linked
+    → (16 * k.dynamic_relocations.count ≤ length s) × (24 * k.dynamic_relas.count ≤ length s)
+steps_few s l x k e =
+    let inside = linked_inside s (tables_of (file_header s)) x.linked x.links in
+    rw e (omega (arith, inside.relocations), omega (arith, inside.relas))
+
 pub few_relocations : (s : List ℕ) (l : Layout) → parsed s ≡ Ok l → (16 * l.dynamic_relocations.count ≤ length s) × (24 * l.dynamic_relas.count ≤ length s)
-few_relocations s l e = let x = sound s l e in (omega (arith, x.relocations), omega (arith, x.relas))
+few_relocations s l e = let x = parse_steps s l e in steps_few s l x l x.layout

@@ -2,12 +2,14 @@
 -- law for each return, whatever the slices hold. Assumes nothing.
 use mathlib.Core.Path.{◌≡◌, refl, sym, ap, ◌∙◌}
 use mathlib.Core.Bool.{Bool, true, false}
-use mathlib.Core.List.{List, map}
+use mathlib.Core.List.{List, [], ◌∷◌, map}
 use Prim.Native.Nat.{ℕ, ◌+◌, ◌-◌, ◌≤◌, ◌<◌, min}
 use native.Mathlib.Omega.{arith}
 use lib.ListN.{length, take, get_or}
 use lib.Dec.{ltb, leb, eqb}
 use borrow.Author.Tests.{lt-ltb, le-ltb, le-leb, lt-leb, eq-eqb, ne_eqb}
+use types.Run.{OneOf}
+use denote.Enum.Declared.{tag_of}
 use Rattle.ebpf.specs.Choice.{◌if◌else◌}
 use Rattle.std.specs.Prelude.{Option, Some, None, Ok, Err}
 use Rattle.program.specs.declared.Registered.{Registered}
@@ -18,6 +20,7 @@ use Rattle.program.specs.declared.Row.{Row}
 use Rattle.program.specs.Search.{binary_search, index_of}
 use Rattle.program.specs.Rows.{RegisterResult, rank}
 use Rattle.program.specs.Table.{Slices, capacity, Within, row_at, rows_of, ranks_of, Opening, closed_row, counted, place_in, holds, register_at, registered_at, register_in, registered_by, unregister_at, unregistered_at, unregister_in, unregistered_in, RegistersBy, Unregisters, lookup_in, number_at, row_ascending_in}
+use Rattle.program.specs.contracts.Registered.{the_type}
 use Rattle.program.proofs.Cases.{by_lt, by_le, by_eq, zero_one}
 use Rattle.program.proofs.Searches.{search_le}
 use Rattle.program.proofs.Laying.{within_room, zero_row, length_rows, ranks_rows, row_at_lem}
@@ -192,6 +195,10 @@ by_registered_at P opening t n at row same other full more =
     (λ h. by_le (capacity t) n (λ (b : Bool). P (t if b else opening at n row t) (Err Full if b else Ok (Inserted (n - at)))) (full h) (more h))
 
 -- ---- what a registration leaves, by its answer
+
+-- the other answers, as the code tells them: a refusal, or the number of the variant
+pub not_inserted : (a : RegisterResult) → ((b : Registered) → a ≡ Ok b → OneOf (1 ∷ []) (tag_of the_type b)) → (m : ℕ) → a ≡ Ok (Inserted m) → ⊥
+not_inserted a o m e = let z = o (Inserted m) e in omega arith
 
 module _ (opening : Opening) (t : Slices) (used : ℕ) (row : Row) where
   -- no insertion: the slices as they came
