@@ -21,8 +21,8 @@ pub use layout::{Layout, parse};
 pub use names::{dynamic_symbol_name, section_name, symbol_name};
 pub use parts::{Place, bytes_at, part_of, past};
 pub use records::{
-    Entries, NO_ENTRIES, dynamic_rela, dynamic_relocation, dynamic_symbol, entry, file_range, program_header,
-    section_contents, section_header, section_place, symbol_table,
+    Entries, NO_ENTRIES, dynamic_rela, dynamic_relocation, dynamic_symbol, entry, file_range,
+    program_header, section_contents, section_header, section_place, symbol_table,
 };
 pub use strings::get_string_in_section;
 pub use types::file_header;

@@ -5,12 +5,11 @@ ghost use Rattle.std.specs.Prelude.{◌≡◌, ◌+◌, ◌%◌, ◌<◌, length
 ghost use Rattle.hash_table.specs.Hash.{sum_with, high_bits, without_high, hash_with, elf_hash};
 ghost use Rattle.hash_table.specs.Find.{table_at, hash_table_of, Usable, number_at, bucket_at, chain_at, name_at, carries_at, carries, link_at, walked, find_symbol};
 
-use std::ops::ControlFlow;
-
 use ebpf::little_endian::read;
 use elf_parser::{
     ElfParserError, Layout, Place, bytes_at, dynamic_symbol, dynamic_symbol_name, file_offset, past,
 };
+use std::ops::ControlFlow;
 
 // (h << 4) + byte, modulo 2^32.
 fn sum_with(h: u32, byte: u8) -> u32
@@ -166,12 +165,7 @@ fn carries_at(
 }
 
 // Whether a symbol carries the name, which is refused where its own cannot be read.
-fn carries_name(
-    file: &[u8],
-    layout: Layout,
-    name: &[u8],
-    index: u32,
-) -> Result<bool, BadHashTable>
+fn carries_name(file: &[u8], layout: Layout, name: &[u8], index: u32) -> Result<bool, BadHashTable>
     ensures { result ≡ carries file.now layout name.now index }
 {
     carries_at(file, name_at(file, layout, index), name)
