@@ -135,14 +135,12 @@ fn next_call(file: &[u8], start: usize, from: usize, count: usize) -> usize
     requires { (from ≤ count) × (start + 8 * count ≤ length file.now) × (length file.now ≤ 2 ^ 24) }
     ensures { result ≡ next_call file.now start (count - from) from }
 {
-    let mut at = pass_eights(file, start, from, count);
-    while at < count {
+    for at in pass_eights(file, start, from, count)..count {
         if file[start + 8 * at] == CALL_IMM {
             return at;
         }
-        at += 1;
     }
-    at
+    count
 }
 
 // How many targets of calls are remembered, and how many slots are copied at a time.
@@ -239,6 +237,7 @@ fn register_slots(
     let file = inputs.file;
     let start = inputs.job.start;
     let mut i = next_call(file, start, from, to);
+    // Kept: a turn goes on at the next call, and not at the next slot.
     while i < to {
         call_step(out, seen, inputs, i)?;
         i = next_call(file, start, i + 1, to);
@@ -268,6 +267,7 @@ pub(crate) fn register_calls(out: &mut Outputs<'_, '_>, inputs: &Inputs<'_>) -> 
     let mut seen = [0u32; SEEN];
     copy_bytes(out.image, file, 0, 0, start);
     let mut i = 0;
+    // Kept: a turn goes on where its run ends, which is worked out once.
     while i < count {
         let to = run_end(i, count);
         let at = start + 8 * i;

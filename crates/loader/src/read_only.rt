@@ -319,9 +319,7 @@ pub(crate) fn copy_sections(
 )
     ensures { ro.new ≡ copied_from image.now file.now layout lowest count 0 ro.old }
 {
-    let mut i: u32 = 0;
-    while i < count {
+    for i in 0..count {
         copy_section(ro, image, file, layout, lowest, i);
-        i += 1;
     }
 }

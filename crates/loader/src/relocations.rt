@@ -126,13 +126,11 @@ fn does_contain(used: Option<UsedHeader>, a: u64) -> bool
 fn first_header(file: &[u8], layout: Layout, count: u32, a: u64) -> Option<UsedHeader>
     ensures { result ≡ first_from file.now layout a count 0 }
 {
-    let mut i: u32 = 0;
-    while i < count {
+    for i in 0..count {
         let h = header_at(file, layout, i);
         if does_contain(h, a) {
             return h;
         }
-        i += 1;
     }
     None
 }

@@ -63,16 +63,10 @@ fn check_sizes(len: u64, image: u64, ro: u64) -> Result<(), ElfError>
 fn is_ascending(s: &[u32]) -> bool
     ensures { result ≡ ascends s.now }
 {
-    let n = s.len();
-    if n == 0 {
-        return true;
-    }
-    let mut i = 1;
-    while i < n {
+    for i in 1..s.len() {
         if s[i] <= s[i - 1] {
             return false;
         }
-        i += 1;
     }
     true
 }

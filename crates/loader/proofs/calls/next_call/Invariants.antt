@@ -8,6 +8,3 @@ use Rattle.loader.proofs.calls.next_call.Given as goal
 abbrev pub invariant-loop-at : goal.invariant-loop-at
 invariant-loop-at l =
     (l.from ≤ l.at) × (l.at ≤ l.count) × (next_call l.file l.start (l.count - l.at) l.at ≡ next_call l.file l.start (l.count - l.from) l.from)
-
-abbrev pub decreases-loop-at : goal.decreases-loop-at
-decreases-loop-at l = l.count - l.at

@@ -12,12 +12,6 @@ loop-i-init c =
     let e : c.args.count - 0 ≡ c.args.count = omega arith in
     (omega arith, refl, rw e refl)
 
-pub overflow_add-i : goal.overflow_add-i
-overflow_add-i c = omega arith
-
-pub loop-i-smaller : goal.loop-i-smaller
-loop-i-smaller c = omega arith
-
 pub loop-i-preserved : goal.loop-i-preserved
 loop-i-preserved c =
     let e : c.args.count - (c.loop-i.i + 1) ≡ (c.args.count - c.loop-i.i) - 1 = omega arith in

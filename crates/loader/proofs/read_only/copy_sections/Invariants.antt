@@ -10,6 +10,3 @@ use Rattle.loader.proofs.read_only.copy_sections.Given as goal
 abbrev pub invariant-loop-i : goal.invariant-loop-i
 invariant-loop-i l =
     (l.i ≤ l.count) × (length l.ro ≡ length l.initial.ro) × (copied_from l.image l.file l.layout l.lowest l.count 0 l.initial.ro ≡ copied_from l.image l.file l.layout l.lowest (l.count - l.i) l.i l.ro)
-
-abbrev pub decreases-loop-i : goal.decreases-loop-i
-decreases-loop-i l = l.count - l.i

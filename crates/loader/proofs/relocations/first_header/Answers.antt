@@ -13,12 +13,6 @@ pub returns-then-does_contain : goal.returns-then-does_contain
 returns-then-does_contain c =
     rw c.loop-i.invariant.1 (c.header_at-h.ensures ∙ sym (first_here c.args.file.now c.args.layout c.args.a c.loop-i.i (c.args.count - c.loop-i.i) (omega arith) (rw (← c.header_at-h.ensures) (sym c.does_contain.ensures ∙ c.if-does_contain.true))))
 
-pub overflow_add-i : goal.overflow_add-i
-overflow_add-i c = omega arith
-
-pub loop-i-smaller : goal.loop-i-smaller
-loop-i-smaller c = omega arith
-
 pub loop-i-preserved : goal.loop-i-preserved
 loop-i-preserved c =
     (omega arith, c.loop-i.invariant.1 ∙ first_later c.args.file.now c.args.layout c.args.a c.loop-i.i (c.args.count - c.loop-i.i) (c.args.count - (c.loop-i.i + 1)) (omega arith) (rw (← c.header_at-h.ensures) (sym c.does_contain.ensures ∙ c.if-does_contain.false)))

@@ -8,6 +8,3 @@ use Rattle.loader.proofs.relocations.first_header.Given as goal
 abbrev pub invariant-loop-i : goal.invariant-loop-i
 invariant-loop-i l =
     (l.i ≤ l.count) × (first_from l.file l.layout l.a l.count 0 ≡ first_from l.file l.layout l.a (l.count - l.i) l.i)
-
-abbrev pub decreases-loop-i : goal.decreases-loop-i
-decreases-loop-i l = l.count - l.i

@@ -1,22 +1,19 @@
 -- `loader::validate::is_ascending` meets its contract. The loop's invariant: what is left decides.
 -- Assumes nothing.
-use mathlib.Core.Path.{◌≡◌, refl, sym, ◌∙◌}
+use mathlib.Core.Path.{◌≡◌, sym, ◌∙◌}
 use native.Mathlib.Omega.{arith}
+use native.Mathlib.Decide.{ℕ_discrete}
 use Prim.Native.Nat.{ℕ, ◌+◌, ◌-◌, ◌≤◌}
 use mathlib.Core.List.{List}
+use mathlib.Core.Bool.{true}
 use lib.ListN.{length}
+use Rattle.loader.specs.Validate.{ascends}
 use Rattle.loader.proofs.Ascents.{ascends_none, ascends_next, ascends_stop, ascends_end}
 use borrow.Author.Rules.{rules, scaled_Fits}
 use Rattle.loader.proofs.validate.is_ascending.Goals as goal
 
 more : (s : List ℕ) → (length s ≡ 0 → ⊥) → 1 ≤ length s
 more s h = omega arith
-
-pub returns-then-n-eq0 : goal.returns-then-n-eq0
-returns-then-n-eq0 c = sym (ascends_none _ c.if-n-eq0.true)
-
-pub loop-i-init : goal.loop-i-init
-loop-i-init c = (omega arith, omega (arith, more c.args.s.now c.if-n-eq0.false), refl)
 
 pub offset_bounds-s-i : goal.offset_bounds-s-i
 offset_bounds-s-i c = search rules
@@ -35,19 +32,16 @@ bounds-s-i-in-loop-i c = omega arith
 
 pub returns-then-s-i : goal.returns-then-s-i
 returns-then-s-i c =
-    sym (c.loop-i.invariant.2 ∙ ascends_stop c.args.s.now c.loop-i.i c.loop-i.invariant.0 (omega arith) c.if-s-i.true)
-
-pub overflow_add-i : goal.overflow_add-i
-overflow_add-i c = omega arith
-
-pub loop-i-smaller : goal.loop-i-smaller
-loop-i-smaller c = omega arith
+    sym (c.loop-i.invariant.1 ∙ ascends_stop c.args.s.now c.loop-i.i c.loop-i.invariant.0 (omega arith) c.if-s-i.true)
 
 pub loop-i-preserved : goal.loop-i-preserved
 loop-i-preserved c =
     let k : c.loop-i.i + 1 - 1 ≡ c.loop-i.i = omega arith in
-    (omega arith, omega arith, rw k (c.loop-i.invariant.2 ∙ ascends_next c.args.s.now c.loop-i.i c.loop-i.invariant.0 (omega arith) c.if-s-i.false))
+    (omega arith, rw k (c.loop-i.invariant.1 ∙ ascends_next c.args.s.now c.loop-i.i c.loop-i.invariant.0 (omega arith) c.if-s-i.false))
 
 pub returns : goal.returns
-returns c =
-    sym (c.loop-i.invariant.2 ∙ ascends_end c.args.s.now c.loop-i.i c.loop-i.invariant.0 (omega (arith, c.loop-i.invariant.1)))
+returns c = go (ℕ_discrete (length c.args.s.now) 0)
+  where
+    go : Dec (length c.args.s.now ≡ 0) → true ≡ ascends c.args.s.now
+    go (yes none) = sym (ascends_none _ none)
+    go (no some) = sym (c.loop-i.invariant.1 ∙ ascends_end c.args.s.now c.loop-i.i c.loop-i.invariant.0 (omega (arith, more c.args.s.now some)))

@@ -2,12 +2,9 @@
 -- Assumes nothing.
 use mathlib.Core.Path.{◌≡◌}
 use Prim.Native.Nat.{◌-◌, ◌≤◌}
-use lib.ListN.{length, drop}
+use lib.ListN.{drop}
 use Rattle.loader.specs.Validate.{ascends}
 use Rattle.loader.proofs.validate.is_ascending.Given as goal
 
 abbrev pub invariant-loop-i : goal.invariant-loop-i
-invariant-loop-i l = (1 ≤ l.i) × (l.i ≤ length l.s) × (ascends l.s ≡ ascends (drop (l.i - 1) l.s))
-
-abbrev pub decreases-loop-i : goal.decreases-loop-i
-decreases-loop-i l = length l.s - l.i
+invariant-loop-i l = (1 ≤ l.i) × (ascends l.s ≡ ascends (drop (l.i - 1) l.s))
