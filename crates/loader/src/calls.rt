@@ -48,6 +48,8 @@ pub fn is_local_call(version2: bool, insn: Insn) -> bool
     (insn.opc == CALL_IMM) & ((insn.imm != 0xffff_ffff) & !near)
 }
 
+// Inlined, as what it answers would go through memory otherwise.
+#[inline(always)]
 #[tactic(auto, using(ebpf::specs::Choice::choices), unfolding(crate::specs::Calls::call_of))]
 fn call_of(count: u64, version2: bool, i: u64, insn: Insn) -> Result<Option<u32>, ElfError>
     requires { (i < 2 ^ 24) × (count ≤ 2 ^ 24) }
@@ -59,7 +61,8 @@ fn call_of(count: u64, version2: bool, i: u64, insn: Insn) -> Result<Option<u32>
     Ok(None)
 }
 
-// What slot number `i` of a text calls, if it calls another slot.
+// What slot number `i` of a text calls, if it calls another slot. Inlined for the same reason.
+#[inline(always)]
 #[tactic(auto, using(crate::proofs::Slots::whole_slot), unfolding(crate::specs::Calls::call_at))]
 fn call_at(text: &[u8], version2: bool, i: usize) -> Result<Option<u32>, ElfError>
     requires { length text.now ≤ 2 ^ 24 }
@@ -179,11 +182,12 @@ fn register_target(
     ensures targets { Targets (row_for inputs.now.builtins.now inputs.now.job OfIndex index) out.old out.new result }
     ensures alike { StillAlike (target_row inputs.now.job) out.new result }
 {
-    let job = inputs.job;
-    if is_taken(inputs.builtins, job.version2, job.check_collision, key) {
+    let version2 = inputs.job.version2;
+    let check_collision = inputs.job.check_collision;
+    if is_taken(inputs.builtins, version2, check_collision, key) {
         return Err(ElfError::SymbolHashCollision { key });
     }
-    let name = kept_name(job.labels, FunctionName::OfIndex);
+    let name = kept_name(inputs.job.labels, FunctionName::OfIndex);
     out.enter_alike(Row {
         key,
         index,
@@ -205,13 +209,13 @@ fn call_step(
     ensures settles { SettlesTo (slot_trace inputs.now.file.now inputs.now.builtins.now inputs.now.job i out.old.image.now) 1 out.old out.new result }
     ensures held { StillHeld inputs.now seen.new out.new result }
 {
-    let job = inputs.job;
-    let start = job.start;
-    let end = start + job.length;
-    let Some(index) = call_at(&inputs.file[start..end], job.version2, i)? else {
+    let version2 = inputs.job.version2;
+    let start = inputs.job.start;
+    let end = start + inputs.job.length;
+    let Some(index) = call_at(&inputs.file[start..end], version2, i)? else {
         return Ok(());
     };
-    let key = legacy_key(inputs.table, job.version2, FunctionName::OfIndex, index);
+    let key = legacy_key(inputs.table, version2, FunctionName::OfIndex, index);
     store_u32(out.image, start + 8 * i + 4, key);
     if is_seen(seen, index) {
         return Ok(());
