@@ -50,7 +50,8 @@ fn all_parts(out: &mut Outputs<'_, '_>, inputs: &Inputs<'_>) -> Result<(), ElfEr
 {
     calls_and_relocations(out, inputs)?;
     labels_and_entry(out, inputs)?;
-    inputs.job.placing?;
+    let placing = inputs.job.placing;
+    placing?;
     Ok(())
 }
 

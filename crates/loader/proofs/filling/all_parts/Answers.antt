@@ -55,15 +55,15 @@ returns-in_err-labels_and_entry-clause-settles c =
     let p = err_from_is_err_and c.from_residual-in_err-labels_and_entry.result c.from_residual-in_err-labels_and_entry.ensures.1 in
     rw (p.1, p.2) (job_refused i.file.now i.builtins.now i.job i.file.now c.args.out.now c.calls_and_relocations.new.out (writing_count i.job) (naming_count i.file.now i.job) c.labels_and_entry.new.out _ c.calls_and_relocations.ensures.keeps (wrote q (Ok tt) c.in_ok-calls_and_relocations.was) (named r _ c.in_err-labels_and_entry.was))
 
-pub returns-in_err-inputs-clause-settles : goal.returns-in_err-inputs-clause-settles
-returns-in_err-inputs-clause-settles c =
+pub returns-in_err-placing-clause-settles : goal.returns-in_err-placing-clause-settles
+returns-in_err-placing-clause-settles c =
     let i = c.args.inputs.now in
-    let r = (goal.at.returns-in_err-inputs-clause-settles c).After-labels_and_entry in
-    let q = (goal.at.returns-in_err-inputs-clause-settles c).After-calls_and_relocations in
+    let r = (goal.at.returns-in_err-placing-clause-settles c).After-labels_and_entry in
+    let q = (goal.at.returns-in_err-placing-clause-settles c).After-calls_and_relocations in
     let o₂ = c.labels_and_entry.new.out in
-    let p = err_from_is_err_and c.from_residual-in_err-inputs.result c.from_residual-in_err-inputs.ensures.1 in
+    let p = err_from_is_err_and c.from_residual-in_err-placing.result c.from_residual-in_err-placing.ensures.1 in
     rw (p.1, p.2) (job_unplaced i.file.now i.builtins.now i.job i.file.now c.args.out.now c.calls_and_relocations.new.out (writing_count i.job) (naming_count i.file.now i.job) o₂ _ c.calls_and_relocations.ensures.keeps (wrote q (Ok tt) c.in_ok-calls_and_relocations.was) (named r (Ok tt) c.in_ok-labels_and_entry.was)
-    c.in_err-inputs.was)
+    c.in_err-placing.was)
 
 pub returns-clause-settles : goal.returns-clause-settles
 returns-clause-settles c =
@@ -72,4 +72,4 @@ returns-clause-settles c =
     let q = (goal.at.returns-clause-settles c).After-calls_and_relocations in
     let o₂ = c.labels_and_entry.new.out in
     job_all i.file.now i.builtins.now i.job i.file.now c.args.out.now c.calls_and_relocations.new.out (writing_count i.job) (naming_count i.file.now i.job) o₂ (Ok tt) (Ok tt) c.calls_and_relocations.ensures.keeps (wrote q (Ok tt) c.in_ok-calls_and_relocations.was) (named r (Ok tt) c.in_ok-labels_and_entry.was)
-    (placed_held i.job.placing _ o₂.registry.now.used o₂.moves c.in_ok-inputs.was)
+    (placed_held i.job.placing _ o₂.registry.now.used o₂.moves c.in_ok-placing.was)
