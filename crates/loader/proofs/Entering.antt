@@ -4,8 +4,6 @@ use mathlib.Core.Path.{◌≡◌, refl, sym, ap, subst, ◌∙◌}
 use mathlib.Core.List.{List}
 use Prim.Native.Nat.{ℕ, ◌+◌, ◌≤◌, ◌<◌, ◌^◌}
 use native.Mathlib.Omega.{arith}
-use mir.Syntax.{w64}
-use mir.Val.{Fits}
 use lib.ListN.{length}
 use Rattle.program.specs.declared.RegisterError.TheVariants.{Collision, Full}
 use Rattle.program.specs.declared.Registered.TheVariants.{Inserted, Repeat}
@@ -32,9 +30,6 @@ use Rattle.loader.specs.InnerContracts.{entered_as, entered_by, moved_by, held_o
 -- one row more, whatever the image
 abbrev pub EntersIn : Row → Slices → Slices → ℕ → ℕ → Result Held ElfError → Type 0
 EntersIn row t t' used moves a = (im : List ℕ) → Settles (trace.register row (done im)) im t t' 1 used moves a
-
-pub moves_fit : (a : RegisterResult) (n moves : ℕ) → a ≡ Ok (Inserted n) → moves + moves_of a < 2 ^ 64 → Fits w64 (moves + n)
-moves_fit a n moves e h = record { fits = rw e at h }
 
 -- the answer, with the rows and moves that the outputs hold then
 pub entered_held : (a : RegisterResult) (used moves key rows : ℕ) (o : Outputs) → o.registry.now.used ≡ used_after used a → o.moves ≡ moves + moves_of a → held_of (entered_as a key rows) o ≡ entered_by a used moves key rows

@@ -3,10 +3,7 @@
 use mathlib.Core.Path.{◌≡◌, refl, sym, ap, subst, ◌∙◌}
 use mathlib.Core.Bool.{Bool}
 use mathlib.Core.List.{List}
-use Prim.Native.Nat.{ℕ, ◌+◌, ◌≤◌, ◌<◌, ◌^◌}
-use mir.Syntax.{w32, w64}
-use mir.Val.{Fits}
-use native.Mathlib.Omega.{arith}
+use Prim.Native.Nat.{ℕ, ◌+◌, ◌≤◌, ◌<◌}
 use lib.ListN.{length}
 use Rattle.std.specs.Prelude.{Option, None, Result}
 use Rattle.elf_parser.specs.declared.records.Entries.{Entries}
@@ -19,25 +16,9 @@ use Rattle.loader.specs.declared.validate.Job.{Job}
 use Rattle.loader.specs.Deeds.{Held}
 use Rattle.loader.specs.declared.error.ElfError.{ElfError}
 use Rattle.loader.specs.Deeds.{DeedFits, deed_trace}
-use Rattle.loader.specs.Relocations.{relocation_at, relocation_count, used_header, used_before, place_of, plan_of, relocation_deed, relocation_trace, used_next, plan_fits}
-use Rattle.loader.specs.Labels.{label_symbols, label_deed, label_trace, label_fits, few_symbols}
-use Rattle.loader.specs.InnerContracts.{InFile, Settles}
-
--- numbers of relocations and symbols have 32 bits
-few_fit : (n len : ℕ) → n ≤ len → len ≤ 2 ^ 24 → Fits w32 n
-few_fit n len h l = record { fits = omega arith }
-
-pub turn_fits : (i count held : ℕ) → i < count → held + count ≤ 2 ^ 26 → Fits w32 (i + 1)
-turn_fits i count held l h = record { fits = omega arith }
-
-pub relocations_fit : (file : List ℕ) (j : Job) → InFile file j → Fits w32 (relocation_count j)
-relocations_fit file j inside = few_fit (relocation_count j) (length file) (omega (arith, inside.relocations, inside.relas)) inside.short
-
-pub counts_fit : (file : List ℕ) (j : Job) → InFile file j → Fits w64 (relocation_count j)
-counts_fit file j inside = record { fits = omega (arith, inside.relocations, inside.relas, inside.short) }
-
-pub symbols_fit : (file : List ℕ) (j : Job) (symbols : Entries) → InFile file j → symbols ≡ label_symbols file j → Fits w32 symbols.count
-symbols_fit file j symbols inside e = rw e (few_fit (label_symbols file j).count (length file) (omega (arith, few_symbols file j)) inside.short)
+use Rattle.loader.specs.Relocations.{relocation_at, used_header, used_before, place_of, plan_of, relocation_deed, relocation_trace, used_next, plan_fits}
+use Rattle.loader.specs.Labels.{label_symbols, label_deed, label_trace, label_fits}
+use Rattle.loader.specs.InnerContracts.{Settles}
 
 -- ---- relocations
 

@@ -8,7 +8,7 @@ use Prim.Native.Nat.{ℕ, zero, suc, ◌+◌, ◌-◌, ◌*◌, ◌/◌, ◌^◌
 use native.Mathlib.Nat.{le_of_suc-le-suc, not-suc-le-zero, lt_trans, add-zero, mul-one, mul-zero}
 use native.Mathlib.Omega.{arith}
 use native.Mathlib.Numerals.{add-one}
-use lib.ListN.{length, get_or, take, drop, drop_of_length-le}
+use lib.ListN.{length, get_or, take, drop}
 use lib.Seq.{length-take-le, take-length, get_or-take, drop-cons}
 use lib.Dec.{ltb, leb, eqb}
 use borrow.Author.Tests.{lt-ltb, le-ltb, le-leb, lt-leb, eq-eqb, ne_eqb, eqb-false}
@@ -283,6 +283,3 @@ join_eight false false false false false true g h = refl
 join_eight false false false false false false true h = refl
 join_eight false false false false false false false true = refl
 join_eight false false false false false false false false = refl
-
-pub index_none : (ks : List ℕ) (n k i : ℕ) → n ≤ length ks → n ≤ i → index_of k (drop i (take n ks)) ≡ 0
-index_none ks n k i within l = rw (drop_of_length-le (take n ks) {i = i} (rw (length-take-le n ks within) l))

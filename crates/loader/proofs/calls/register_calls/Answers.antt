@@ -14,7 +14,7 @@ use Rattle.loader.specs.declared.error.ElfError.{ElfError}
 use Rattle.loader.specs.Deeds.{holding}
 use Rattle.loader.specs.Calls.{slot_count, slot_trace, calls_trace}
 use Rattle.loader.specs.CallLoop.{ahead, StillHeld, Leads}
-use Rattle.loader.specs.InnerContracts.{Settles, held_of}
+use Rattle.loader.specs.InnerContracts.{Keeps, Settles, held_of}
 use Rattle.loader.proofs.Ahead.{ahead_more, ahead_all, ahead_length}
 use Rattle.loader.proofs.Targeting.{none_held}
 use Rattle.loader.proofs.Going.{keeps_all, keeps_on, going_start, going_done, all_begin, all_lead, in_begins_run, in_run, in_run_stop}
@@ -116,10 +116,17 @@ loop-i-preserved c =
     let o = c.loop-i.out in
     let o' = c.register_slots.new.out in
     let bounds = ran (goal.at.loop-i-preserved c).After-run_end-to in
+    let kept : Keeps o o' = record {
+      image_is = c.register_slots.ensures.keeps.image_is;
+      image_as = c.register_slots.ensures.keeps.image_as ∙ c.copy_bytes-in-loop-i.auto.to;
+      registry_is = c.register_slots.ensures.keeps.registry_is;
+      table_is = c.register_slots.ensures.keeps.table_is;
+      table_as = c.register_slots.ensures.keeps.table_as;
+    } in
     let was : length o.image.now ≡ length i.file.now = c.loop-i.invariant.0.image_as ∙ c.copy_bytes.auto.to ∙ c.requires.2 in
     let len : length o'.image.now ≡ length i.file.now = c.register_slots.ensures.keeps.image_as ∙ c.copy_bytes-in-loop-i.auto.to ∙ was in
     let same : length (ahead (i.job.start + 8 * c.run_end-to.result) o'.image.now i.file.now) ≡ length (ahead (i.job.start + 8 * c.loop-i.i) o.image.now i.file.now) = ahead_length o'.image.now i.file.now (i.job.start + 8 * c.run_end-to.result) len ∙ len ∙ sym (ahead_length o.image.now i.file.now (i.job.start + 8 * c.loop-i.i) was ∙ was) in (
-      record { image_is = c.register_slots.ensures.keeps.image_is ∙ c.loop-i.invariant.0.image_is; image_as = c.register_slots.ensures.keeps.image_as ∙ c.copy_bytes-in-loop-i.auto.to ∙ c.loop-i.invariant.0.image_as; registry_is = c.register_slots.ensures.keeps.registry_is ∙ c.loop-i.invariant.0.registry_is; table_is = (keeps_on _ o o' c.loop-i.invariant.0 (record { image_is = c.register_slots.ensures.keeps.image_is; image_as = c.register_slots.ensures.keeps.image_as ∙ c.copy_bytes-in-loop-i.auto.to; registry_is = c.register_slots.ensures.keeps.registry_is; table_is = c.register_slots.ensures.keeps.table_is; table_as = c.register_slots.ensures.keeps.table_as })).table_is; table_as = (keeps_on _ o o' c.loop-i.invariant.0 (record { image_is = c.register_slots.ensures.keeps.image_is; image_as = c.register_slots.ensures.keeps.image_as ∙ c.copy_bytes-in-loop-i.auto.to; registry_is = c.register_slots.ensures.keeps.registry_is; table_is = c.register_slots.ensures.keeps.table_is; table_as = c.register_slots.ensures.keeps.table_as })).table_as },
+      keeps_on _ o o' c.loop-i.invariant.0 kept,
       in_run (slot_trace i.file.now i.builtins.now i.job) (slot_count i.job) 0 (slot_count i.job) (omega arith) i.file.now (ahead (i.job.start + 8 * c.loop-i.i) o.image.now i.file.now) (columns_of o₀.registry.now) (columns_of o.registry.now) o₀.registry.now.used o₀.moves o.registry.now.used o.moves c.loop-i.i (all_begin (slot_count i.job) (columns_of o₀.registry.now) o₀.registry.now.used o₀.moves c.requires.3.0) c.loop-i.invariant.1 c.run_end-to.result (omega (arith, bounds.0)) bounds.1 (ahead (i.job.start + 8 * c.run_end-to.result) o'.image.now i.file.now) (columns_of o'.registry.now) o'.registry.now.used o'.moves c.register_slots.ensures.keeps.table_as same
           (ran_all (goal.at.loop-i-preserved c).After-register_slots (Ok tt) c.in_ok-register_slots.was),
       subst (StillHeld i c.register_slots.new.seen o') c.in_ok-register_slots.was c.register_slots.ensures.held,
