@@ -9,7 +9,7 @@ use crate::records::Entries;
 use crate::types::{Elf64Shdr, nth_record};
 
 // Where the two header tables stand.
-#[derive(Clone, Copy)]
+#[derive(Clone, Copy, PartialEq, Eq, Debug)]
 pub struct Ranges {
     pub phoff: u64,
     pub phend: u64,

@@ -10,7 +10,7 @@ use crate::strings::get_string_in_section;
 use crate::types::{Elf64Shdr, nth_record};
 
 // Which of the names that the reader knows a section has.
-#[derive(Clone, Copy)]
+#[derive(Clone, Copy, PartialEq, Eq, Debug)]
 pub enum Role {
     SymbolTable,
     SymbolNames,
@@ -18,7 +18,7 @@ pub enum Role {
 }
 
 // Where the headers of those sections stand in the file.
-#[derive(Clone, Copy)]
+#[derive(Clone, Copy, PartialEq, Eq, Debug)]
 pub struct Named {
     pub symtab: Option<u64>,
     pub strtab: Option<u64>,

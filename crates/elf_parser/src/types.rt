@@ -7,7 +7,7 @@ ghost use Rattle.elf_parser.specs.Fields.{program_header_part, section_header_pa
 use crate::records::Entries;
 use ebpf::little_endian::read;
 
-#[derive(Clone, Copy)]
+#[derive(Clone, Copy, PartialEq, Eq, Debug)]
 pub struct Elf64Ehdr {
     pub ei_osabi: u8,
     pub e_type: u16,
@@ -21,7 +21,7 @@ pub struct Elf64Ehdr {
     pub e_shstrndx: u16,
 }
 
-#[derive(Clone, Copy)]
+#[derive(Clone, Copy, PartialEq, Eq, Debug)]
 pub struct Elf64Phdr {
     pub p_type: u32,
     pub p_offset: u64,
@@ -30,7 +30,7 @@ pub struct Elf64Phdr {
     pub p_memsz: u64,
 }
 
-#[derive(Clone, Copy)]
+#[derive(Clone, Copy, PartialEq, Eq, Debug)]
 pub struct Elf64Shdr {
     pub sh_name: u32,
     pub sh_type: u32,
@@ -40,21 +40,21 @@ pub struct Elf64Shdr {
     pub sh_size: u64,
 }
 
-#[derive(Clone, Copy)]
+#[derive(Clone, Copy, PartialEq, Eq, Debug)]
 pub struct Elf64Sym {
     pub st_name: u32,
     pub st_info: u8,
     pub st_value: u64,
 }
 
-#[derive(Clone, Copy)]
+#[derive(Clone, Copy, PartialEq, Eq, Debug)]
 pub struct Elf64Rel {
     pub r_offset: u64,
     pub r_info: u64,
 }
 
 // The addend is signed: its bits as an unsigned number, negative from 2^63 on.
-#[derive(Clone, Copy)]
+#[derive(Clone, Copy, PartialEq, Eq, Debug)]
 pub struct Elf64Rela {
     pub r_offset: u64,
     pub r_info: u64,
@@ -62,7 +62,7 @@ pub struct Elf64Rela {
 }
 
 // An entry of the dynamic table: its tag and its value.
-#[derive(Clone, Copy)]
+#[derive(Clone, Copy, PartialEq, Eq, Debug)]
 pub struct Elf64Dyn {
     pub d_tag: u64,
     pub d_val: u64,

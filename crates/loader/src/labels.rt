@@ -11,7 +11,7 @@ use crate::functions::{row_for, symbol_function};
 use crate::relocations::in_addresses;
 use crate::validate::Job;
 use elf_parser::types::Elf64Sym;
-use elf_parser::{Entries, NO_ENTRIES, Place, bytes_at, entry, symbol_name, symbol_table};
+use elf_parser::{Elf64, Entries, NO_ENTRIES, Place, bytes_at, entry};
 use program::{Row, SymbolHashCollision};
 
 pub(crate) fn label_row(row: Result<Row, SymbolHashCollision>) -> Result<Deed, ElfError>
@@ -51,7 +51,11 @@ fn named_label(
     requires { InFile file.now job × Keyed table.now }
     ensures { result ≡ named_label file.now builtins.now job index st_name (symbol_name file.now job.layout st_name) }
 {
-    match symbol_name(file, job.layout, st_name) {
+    let elf = Elf64 {
+        file,
+        layout: job.layout,
+    };
+    match elf.symbol_name(st_name) {
         Ok(place) => label_as(bytes_at(file, place), builtins, table, job, index, place),
         Err(_) => Err(ElfError::UnknownSymbol { number: st_name }),
     }
@@ -108,7 +112,11 @@ pub(crate) fn label_symbols(file: &[u8], job: Job) -> Entries
     if !job.labels {
         return NO_ENTRIES;
     }
-    match symbol_table(file, job.layout) {
+    let elf = Elf64 {
+        file,
+        layout: job.layout,
+    };
+    match elf.symbol_table() {
         Ok(symbols) => symbols,
         Err(_) => NO_ENTRIES,
     }

@@ -5,6 +5,7 @@ ghost use Rattle.loader.specs.InnerContracts.{PartAsks, Keeps, SettlesTo};
 use crate::deeds::{Inputs, Outputs};
 use crate::error::ElfError;
 use crate::relocations::{plan_relocation, relocation_at, used_header};
+use elf_parser::Elf64;
 
 // Every relocation in turn, up to the first refusal. `header` is the program header used last.
 pub(crate) fn apply_relocations(
@@ -21,13 +22,16 @@ pub(crate) fn apply_relocations(
         table,
         job,
     } = *inputs;
-    let layout = job.layout;
+    let elf = Elf64 {
+        file,
+        layout: job.layout,
+    };
     let version2 = job.version2;
-    let count = (layout.dynamic_relocations.count + layout.dynamic_relas.count) as u32;
+    let count = (elf.layout.dynamic_relocations.count + elf.layout.dynamic_relas.count) as u32;
     let mut header = None;
     for i in 0..count {
-        let r = relocation_at(file, layout, i);
-        header = used_header(file, layout, version2, header, r.r_offset);
+        let r = relocation_at(&elf, i);
+        header = used_header(&elf, version2, header, r.r_offset);
         let deed = plan_relocation(
             file,
             out.image(),

@@ -17,10 +17,7 @@ use crate::validate::Job;
 use ebpf::little_endian::read;
 use ebpf::{MM_PROGRAM_START, hash_symbol_name};
 use elf_parser::types::Elf64Sym;
-use elf_parser::{
-    Layout, Place, bytes_at, dynamic_rela, dynamic_relocation, dynamic_symbol, dynamic_symbol_name,
-    past, program_header,
-};
+use elf_parser::{Elf64, Layout, Place, bytes_at, past};
 use program::{FunctionName, Row, SymbolHashCollision, is_builtin};
 
 const R_BPF_64_64: u32 = 1;
@@ -39,10 +36,10 @@ pub struct Relocation {
 }
 
 // The relocation number `index` of the older table; a blank one where there is none.
-fn plain_relocation(file: &[u8], layout: Layout, index: u32) -> Relocation
-    ensures { result ≡ relocation_or (dynamic_relocation_of file.now layout index) }
+fn plain_relocation(elf: &Elf64<'_>, index: u32) -> Relocation
+    ensures { result ≡ relocation_or (dynamic_relocation_of elf.now.file.now elf.now.layout index) }
 {
-    match dynamic_relocation(file, layout, index) {
+    match elf.dynamic_relocation(index) {
         Ok(r) => Relocation {
             r_offset: r.r_offset,
             r_info: r.r_info,
@@ -58,10 +55,10 @@ fn plain_relocation(file: &[u8], layout: Layout, index: u32) -> Relocation
 
 // The relocation number `index` of the table whose relocations bring an addend; a blank one where there
 // is none.
-fn addend_relocation(file: &[u8], layout: Layout, index: u32) -> Relocation
-    ensures { result ≡ rela_or (dynamic_rela_of file.now layout index) }
+fn addend_relocation(elf: &Elf64<'_>, index: u32) -> Relocation
+    ensures { result ≡ rela_or (dynamic_rela_of elf.now.file.now elf.now.layout index) }
 {
-    match dynamic_rela(file, layout, index) {
+    match elf.dynamic_rela(index) {
         Ok(r) => Relocation {
             r_offset: r.r_offset,
             r_info: r.r_info,
@@ -77,16 +74,16 @@ fn addend_relocation(file: &[u8], layout: Layout, index: u32) -> Relocation
 
 // The relocation number `index` of both tables, the older one first.
 #[tactic(auto, using(ebpf::specs::Choice::choices), unfolding(crate::specs::Relocations::relocation_at))]
-pub fn relocation_at(file: &[u8], layout: Layout, index: u32) -> Relocation
-    ensures { result ≡ relocation_at file.now layout index }
+pub fn relocation_at(elf: &Elf64<'_>, index: u32) -> Relocation
+    ensures { result ≡ relocation_at elf.now.file.now elf.now.layout index }
 {
-    let relocations = layout.dynamic_relocations;
+    let relocations = elf.layout.dynamic_relocations;
     let older = relocations.count;
     let number = index as u64;
     if number < older {
-        return plain_relocation(file, layout, index);
+        return plain_relocation(elf, index);
     }
-    addend_relocation(file, layout, (number - older) as u32)
+    addend_relocation(elf, (number - older) as u32)
 }
 
 // A program header, as far as version 2 maps by it: the addresses from `p_vaddr` up to `end` stand
@@ -100,10 +97,10 @@ pub struct UsedHeader {
 
 // The program header number `index`.
 #[tactic(auto, unfolding(crate::specs::Relocations::header_at))]
-fn header_at(file: &[u8], layout: Layout, index: u32) -> Option<UsedHeader>
-    ensures { result ≡ header_at file.now layout index }
+fn header_at(elf: &Elf64<'_>, index: u32) -> Option<UsedHeader>
+    ensures { result ≡ header_at elf.now.file.now elf.now.layout index }
 {
-    match program_header(file, layout, index) {
+    match elf.program_header(index) {
         Ok(h) => Some(UsedHeader {
             p_vaddr: h.p_vaddr,
             end: h.p_vaddr.saturating_add(h.p_memsz),
@@ -123,11 +120,11 @@ fn does_contain(used: Option<UsedHeader>, a: u64) -> bool
 }
 
 // The first program header that contains an address.
-fn first_header(file: &[u8], layout: Layout, count: u32, a: u64) -> Option<UsedHeader>
-    ensures { result ≡ first_from file.now layout a count 0 }
+fn first_header(elf: &Elf64<'_>, count: u32, a: u64) -> Option<UsedHeader>
+    ensures { result ≡ first_from elf.now.file.now elf.now.layout a count 0 }
 {
     for i in 0..count {
-        let h = header_at(file, layout, i);
+        let h = header_at(elf, i);
         if does_contain(h, a) {
             return h;
         }
@@ -139,13 +136,12 @@ fn first_header(file: &[u8], layout: Layout, count: u32, a: u64) -> Option<UsedH
 // 1 maps nothing.
 #[tactic(auto, using(ebpf::specs::Choice::choices), unfolding(crate::specs::Relocations::used_header))]
 pub fn used_header(
-    file: &[u8],
-    layout: Layout,
+    elf: &Elf64<'_>,
     version2: bool,
     used: Option<UsedHeader>,
     r_offset: u64,
 ) -> Option<UsedHeader>
-    ensures { result ≡ used_header file.now layout version2 used r_offset }
+    ensures { result ≡ used_header elf.now.file.now elf.now.layout version2 used r_offset }
 {
     if !version2 {
         return used;
@@ -153,9 +149,9 @@ pub fn used_header(
     if does_contain(used, r_offset) {
         return used;
     }
-    let headers = layout.program_headers;
+    let headers = elf.layout.program_headers;
     let count = headers.count.min(0xffff_ffff) as u32;
-    first_header(file, layout, count, r_offset)
+    first_header(elf, count, r_offset)
 }
 
 // The place in the file that a relocation means, if it means one.
@@ -257,7 +253,8 @@ fn symbol_deed(
 ) -> Result<Deed, ElfError>
     ensures { result ≡ symbol_deed len split at addend number (dynamic_symbol_of file.now layout number) }
 {
-    match dynamic_symbol(file, layout, number) {
+    let elf = Elf64 { file, layout };
+    match elf.dynamic_symbol(number) {
         Ok(y) => address_deed(
             len,
             split,
@@ -491,7 +488,11 @@ fn named_call(
     ensures { result ≡ named_call file.now builtins.now job len r y (dynamic_symbol_name file.now job.layout y.st_name) }
 {
     let number = y.st_name;
-    match dynamic_symbol_name(file, job.layout, number) {
+    let elf = Elf64 {
+        file,
+        layout: job.layout,
+    };
+    match elf.dynamic_symbol_name(number) {
         Ok(place) => {
             let part = bytes_at(file, place);
             call_by_name(part, builtins, table, job, len, r, y, place)
@@ -514,7 +515,11 @@ fn plan_64_32(
     requires { InFile file.now job × Keyed table.now }
     ensures { result ≡ plan6432 file.now builtins.now job len r number }
 {
-    match dynamic_symbol(file, job.layout, number) {
+    let elf = Elf64 {
+        file,
+        layout: job.layout,
+    };
+    match elf.dynamic_symbol(number) {
         Ok(y) => named_call(file, builtins, table, job, len, r, y),
         Err(_) => Err(ElfError::UnknownSymbol { number }),
     }
