@@ -28,6 +28,8 @@ fn name_by(
     get_string_in_section(file, record_at(file, at as usize), offset, most)
 }
 
+// Kept: three of one shape, since each kind of name has its own table, limit and refusal; what they share is
+// `name_by`.
 impl Elf64<'_> {
     pub fn section_name(&self, sh_name: u32) -> Result<Place, ElfParserError>
         ensures { result ≡ section_name self.now.file.now self.now.layout sh_name }

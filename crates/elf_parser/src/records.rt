@@ -167,6 +167,7 @@ impl<'a> Elf64<'a> {
     }
 
     // Where the bytes of section `index` stand in the file.
+    // Kept: two lines that `section_place` has too, with another check; a function over the check would have more.
     pub fn file_range(&self, index: u32) -> Result<Place, ElfParserError>
         ensures { result ≡ file_range_of self.now.file.now self.now.layout index }
     {
