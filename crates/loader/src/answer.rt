@@ -12,7 +12,7 @@ use crate::validate::Job;
 // whether the read-only bytes were copied, their offset from the program's start, where they start
 // in the image (0 where they were copied) and how many they are; the text's address, and its place
 // in the file.
-#[derive(Clone, Copy)]
+#[derive(Clone, Copy, PartialEq, Eq, Debug)]
 pub struct Accepted {
     pub version: u32,
     pub entry: u32,
