@@ -1,15 +1,14 @@
 // What a relocation asks for: the place that it means, the bytes that it writes there, and the function
 // that it registers. Reads only; the caller registers and writes.
-ghost use Rattle.std.specs.Prelude.{◌≡◌, false, ◌&&◌, ◌≤◌, ◌<◌, ◌^◌, leb, ltb};
+ghost use Rattle.std.specs.Prelude.{◌≡◌, Bool, true, false, ◌&&◌, ◌≤◌, ◌<◌, ◌^◌, leb, ltb};
 ghost use Rattle.ebpf.specs.LittleEndian.{join};
-ghost use Rattle.elf_parser.specs.Records.{dynamic_symbol_of, dynamic_relocation_of, dynamic_rela_of};
+ghost use Rattle.elf_parser.specs.Records.{dynamic_relocation_of, dynamic_rela_of};
 ghost use Rattle.elf_parser.specs.Names.{dynamic_symbol_name};
 ghost use Rattle.loader.specs.Addresses.{sum_up_to};
 ghost use Rattle.loader.specs.Functions.{Keyed};
 ghost use Rattle.loader.specs.InnerContracts.{InFile};
-ghost use Rattle.loader.specs.Relocations.{relocation_or, rela_or, relocation_at, header_at, contains, first_from, used_header, place_of, within, program_address, immediate_at, halves_deed, word_deed, address_deed, symbol_deed, plan6464, relative_text, relative_value, is_negative, plan_relative, register_deed, function_call, builtin_call, call_by_name, named_call, plan6432, plan_at, plan_of};
+ghost use Rattle.loader.specs.Relocations.{relocation_or, rela_or, relocation_at, header_at, contains, first_from, used_header, place_of, within, program_address, immediate_at, halves_deed, word_deed, symbol_address, plan6464, relative_text, relative_value, is_negative, plan_relative, register_deed, function_call, builtin_call, call_by_name, named_call, plan6432, plan_at, plan_of};
 
-use crate::addresses::pick;
 use crate::deeds::{Deed, Inputs};
 use crate::error::ElfError;
 use crate::functions::{row_for, symbol_function};
@@ -233,40 +232,6 @@ fn word_deed(len: u64, at: u64, value: u64) -> Result<Deed, ElfError>
     })
 }
 
-// Type 1 at a place: an instruction's two halves, or eight bytes.
-#[tactic(auto, using(ebpf::specs::Choice::choices), unfolding(crate::specs::Relocations::address_deed))]
-fn address_deed(len: u64, split: bool, at: u64, value: u64) -> Result<Deed, ElfError>
-    ensures { result ≡ address_deed len split at value }
-{
-    if split {
-        return halves_deed(len, at, at.saturating_add(8), value);
-    }
-    word_deed(len, at, value)
-}
-
-// Type 1 once its addend is known.
-fn symbol_deed(
-    file: &[u8],
-    layout: Layout,
-    len: u64,
-    split: bool,
-    at: u64,
-    addend: u64,
-    number: u32,
-) -> Result<Deed, ElfError>
-    ensures { result ≡ symbol_deed len split at addend number (dynamic_symbol_of file.now layout number) }
-{
-    match dynamic_symbol(file, layout, number) {
-        Ok(y) => address_deed(
-            len,
-            split,
-            at,
-            program_address(y.st_value.saturating_add(addend)),
-        ),
-        Err(_) => Err(ElfError::UnknownSymbol { number }),
-    }
-}
-
 // Whether a relocation brings an addend that is negative.
 fn is_negative(addend: Option<u64>) -> bool
     ensures { result ≡ is_negative addend }
@@ -278,32 +243,58 @@ fn is_negative(addend: Option<u64>) -> bool
 }
 
 // Type 1: the address of a symbol, plus the addend or the four bytes that are there.
-#[tactic(auto, using(ebpf::specs::Choice::choices), unfolding(crate::specs::Relocations::plan6464))]
-fn plan_64_64(
+#[tactic(auto, using(ebpf::specs::Choice::choices), unfolding(crate::specs::Relocations::symbol_address))]
+fn symbol_address(
     file: &[u8],
     image: &[u8],
     layout: Layout,
-    split: bool,
+    at: u64,
+    number: u32,
+    addend: Option<u64>,
+) -> Result<u64, ElfError>
+    ensures { result ≡ symbol_address file.now image.now layout at number addend }
+{
+    if past(image.len() as u64, at, 4) {
+        return Err(ElfError::ValueOutOfBounds);
+    }
+    let addend = addend.unwrap_or(read::<u32>(image, at as usize) as u64);
+    match dynamic_symbol(file, layout, number) {
+        Ok(y) => Ok(program_address(y.st_value.saturating_add(addend))),
+        Err(_) => Err(ElfError::UnknownSymbol { number }),
+    }
+}
+
+// Type 1 in the text, and in version 1: an instruction's two halves.
+#[tactic(auto, using(crate::proofs::Addressed::halves_written))]
+fn halves_64_64(
+    file: &[u8],
+    image: &[u8],
+    layout: Layout,
     r: u64,
     number: u32,
     addend: Option<u64>,
 ) -> Result<Deed, ElfError>
-    ensures { result ≡ plan6464 file.now image.now layout split r number addend }
+    ensures { result ≡ plan6464 file.now image.now layout true r number addend }
 {
-    let len = image.len() as u64;
-    let at = pick(split, immediate_at(r), r);
-    if past(len, at, 4) {
-        return Err(ElfError::ValueOutOfBounds);
-    }
-    symbol_deed(
-        file,
-        layout,
-        len,
-        split,
-        at,
-        addend.unwrap_or(read::<u32>(image, at as usize) as u64),
-        number,
-    )
+    let at = immediate_at(r);
+    let address = symbol_address(file, image, layout, at, number, addend)?;
+    halves_deed(image.len() as u64, at, at.saturating_add(8), address)
+}
+
+// Type 1 elsewhere: eight bytes.
+#[tactic(auto, using(crate::proofs::Addressed::word_written))]
+fn word_64_64(
+    file: &[u8],
+    image: &[u8],
+    layout: Layout,
+    r: u64,
+    number: u32,
+    addend: Option<u64>,
+) -> Result<Deed, ElfError>
+    ensures { result ≡ plan6464 file.now image.now layout false r number addend }
+{
+    let address = symbol_address(file, image, layout, r, number, addend)?;
+    word_deed(image.len() as u64, r, address)
 }
 
 // Type 8 in the text: an instruction's two halves.
@@ -346,31 +337,36 @@ fn join_halves(low: u32, high: u32) -> u64
     low as u64 + high as u64 * 0x1_0000_0000
 }
 
-// Type 8: an address that no symbol has, the addend or the bytes that are there.
+// Type 8 in the text: the addend, or the address whose halves are there.
 #[tactic(auto, using(ebpf::specs::Choice::choices), unfolding(crate::specs::Relocations::plan_relative))]
-fn plan_relative(
+fn relative_in_text(image: &[u8], r: u64, addend: Option<u64>) -> Result<Deed, ElfError>
+    ensures { (version2 : Bool) → result ≡ plan_relative image.now version2 true r addend }
+{
+    let len = image.len() as u64;
+    let low = immediate_at(r);
+    let high = immediate_at(r.saturating_add(8));
+    let address = join_halves(read(image, low as usize), read(image, high as usize));
+    relative_text(len, low, high, addend.unwrap_or(address))
+}
+
+// Type 8 outside the text: the addend, or the bytes that are there.
+#[tactic(auto, using(ebpf::specs::Choice::choices), unfolding(crate::specs::Relocations::plan_relative))]
+fn relative_elsewhere(
     image: &[u8],
     version2: bool,
-    in_text: bool,
     r: u64,
     addend: Option<u64>,
 ) -> Result<Deed, ElfError>
     requires { is_negative addend ≡ false }
-    ensures { result ≡ plan_relative image.now version2 in_text r addend }
+    ensures { result ≡ plan_relative image.now version2 false r addend }
 {
-    let len = image.len() as u64;
     let low = immediate_at(r);
-    if in_text {
-        let high = immediate_at(r.saturating_add(8));
-        let address = join_halves(read(image, low as usize), read(image, high as usize));
-        return relative_text(len, low, high, addend.unwrap_or(address));
-    }
     let value = relative_value(
         version2,
         addend.unwrap_or(read::<u32>(image, low as usize) as u64),
         addend.unwrap_or(read::<u64>(image, r as usize)),
     );
-    word_deed(len, r, value)
+    word_deed(image.len() as u64, r, value)
 }
 
 // Whether an address is one of the text's.
@@ -521,10 +517,16 @@ fn plan_at(
     if r_type == R_BPF_64_64 {
         let file = inputs.file;
         let layout = inputs.job.layout;
-        return plan_64_64(file, image, layout, in_text | !version2, r, r_sym, addend);
+        if in_text | !version2 {
+            return halves_64_64(file, image, layout, r, r_sym, addend);
+        }
+        return word_64_64(file, image, layout, r, r_sym, addend);
     }
     if r_type == R_BPF_64_RELATIVE {
-        return plan_relative(image, version2, in_text, r, addend);
+        if in_text {
+            return relative_in_text(image, r, addend);
+        }
+        return relative_elsewhere(image, version2, r, addend);
     }
     if r_type == R_BPF_64_32 {
         return plan_64_32(inputs, image.len() as u64, r, r_sym);
