@@ -10,6 +10,7 @@ ghost use Rattle.loader.specs.InnerContracts.{entered_as, moved_by, finished_by,
 
 use crate::error::ElfError;
 use crate::validate::Job;
+use elf_parser::Elf64;
 use program::{FunctionRegistry, RegisterError, Registered, Row};
 
 #[derive(Clone, Copy)]
@@ -52,6 +53,19 @@ pub struct Inputs<'a> {
     pub builtins: &'a [u32],
     pub table: &'a [u32],
     pub job: Job,
+}
+
+impl<'a> Inputs<'a> {
+    // The file with its layout.
+    #[inline(always)]
+    pub(crate) fn elf(&self) -> Elf64<'a>
+        ensures { result ≡ record { file = self.now.file; layout = self.now.job.layout } }
+    {
+        Elf64 {
+            file: self.file,
+            layout: self.job.layout,
+        }
+    }
 }
 
 fn entry_of(deed: Deed) -> Entry

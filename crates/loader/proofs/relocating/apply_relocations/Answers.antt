@@ -25,7 +25,7 @@ returns-in_err-deed-clause-settles c =
     let o = c.loop-i.out in
     let p = err_from_is_err_and c.from_residual.result c.from_residual.ensures.1 in
     rw (p.1, p.2) (over_stop (relocation_trace i.file.now i.builtins.now i.job) (relocation_count i.job) c.args.out.now o c.loop-i.i c.requires.3 c.loop-i.invariant.1 c.loop-i-test.true o _
-    (relocation_settles i.file.now i.builtins.now i.job c.loop-i.i c.loop-i.header c.used_header-header.result c.relocation_at-r.result c.loop-i.invariant.2 c.relocation_at-r.ensures c.used_header-header.ensures o.image.now o.image.now (columns_of o.registry.now) (columns_of o.registry.now) o.registry.now.used o.moves _ (sym c.in_err-deed.was ∙ rw c.image.ensures at c.plan_relocation.ensures) (refuses _ o.image.now o.image.now (columns_of o.registry.now) (columns_of o.registry.now) 1 o.registry.now.used o.moves)))
+    (relocation_settles i.file.now i.builtins.now i.job c.loop-i.i c.loop-i.header c.used_header-header.result c.relocation_at-r.result c.loop-i.invariant.2 (rw c.elf-elf.ensures at c.relocation_at-r.ensures) (rw c.elf-elf.ensures at c.used_header-header.ensures) o.image.now o.image.now (columns_of o.registry.now) (columns_of o.registry.now) o.registry.now.used o.moves _ (sym c.in_err-deed.was ∙ rw c.image.ensures at c.plan_relocation.ensures) (refuses _ o.image.now o.image.now (columns_of o.registry.now) (columns_of o.registry.now) 1 o.registry.now.used o.moves)))
 
 pub perform-requires : goal.perform-requires
 perform-requires c =
@@ -41,7 +41,7 @@ turned r a e =
     let o = r.loop-i.out in
     let o' = r.perform.new.self in
     subst (λ (b : Result (Unit {0}) ElfError). SettlesTo (relocation_trace i.file.now i.builtins.now i.job r.loop-i.i o.image.now) 1 o o' b) e
-    (relocation_settles i.file.now i.builtins.now i.job r.loop-i.i r.loop-i.header r.used_header-header.result r.relocation_at-r.result r.loop-i.invariant.2 r.relocation_at-r.ensures r.used_header-header.ensures o.image.now o'.image.now (columns_of o.registry.now) (columns_of o'.registry.now) o.registry.now.used o.moves (held_of r.perform.result o') (sym r.in_ok-deed.was ∙ rw r.image.ensures at r.plan_relocation.ensures) r.perform.ensures.settles)
+    (relocation_settles i.file.now i.builtins.now i.job r.loop-i.i r.loop-i.header r.used_header-header.result r.relocation_at-r.result r.loop-i.invariant.2 (rw r.elf-elf.ensures at r.relocation_at-r.ensures) (rw r.elf-elf.ensures at r.used_header-header.ensures) o.image.now o'.image.now (columns_of o.registry.now) (columns_of o'.registry.now) o.registry.now.used o.moves (held_of r.perform.result o') (sym r.in_ok-deed.was ∙ rw r.image.ensures at r.plan_relocation.ensures) r.perform.ensures.settles)
 
 pub returns-in_err-perform-clause-settles : goal.returns-in_err-perform-clause-settles
 returns-in_err-perform-clause-settles c =
@@ -56,7 +56,7 @@ loop-i-preserved c =
       keeps_on c.args.out.now c.loop-i.out c.perform.new.self c.loop-i.invariant.0 c.perform.ensures.keeps,
       over_on (relocation_trace i.file.now i.builtins.now i.job) (relocation_count i.job) c.args.out.now c.loop-i.out c.loop-i.i c.requires.3 c.loop-i.invariant.1 c.loop-i-test.true c.perform.new.self c.perform.ensures.keeps
           (turned (goal.at.loop-i-preserved c).After-perform (Ok tt) c.in_ok-perform.was),
-      header_next i.file.now i.builtins.now i.job c.loop-i.i c.loop-i.header c.used_header-header.result c.relocation_at-r.result c.loop-i.invariant.2 c.relocation_at-r.ensures c.used_header-header.ensures,
+      header_next i.file.now i.builtins.now i.job c.loop-i.i c.loop-i.header c.used_header-header.result c.relocation_at-r.result c.loop-i.invariant.2 (rw c.elf-elf.ensures at c.relocation_at-r.ensures) (rw c.elf-elf.ensures at c.used_header-header.ensures),
     )
 
 pub returns-clause-settles : goal.returns-clause-settles
