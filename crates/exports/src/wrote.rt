@@ -1,12 +1,12 @@
 // Who wrote a byte, in words; and the words of a load's answer, which the questions take.
 ghost use Rattle.std.specs.Prelude.{◌≡◌};
-ghost use Rattle.exports.specs.Wrote.{kind_of, number_in, wrote_answer, refusal_in, refused_in, who_wrote_answer, filled_answer, Numbers, accepted_wrote, load_wrote_answer};
+ghost use Rattle.exports.specs.Wrote.{kind_of, number_in, wrote_answer, refusal_in, refused_in, text_told, who_wrote_answer, filled_answer, Numbers, accepted_wrote, load_wrote_answer};
 
 use crate::answers::{Answer, answer_with, reported, word_in};
 use crate::loading::loaded_with;
 use elf_parser::ElfParserError;
 use loader::{Accepted, ElfError, clear_words, report_of};
-use writers::{Writer, who_wrote_all_by, who_wrote_by};
+use writers::{LoadedText, Writer, who_wrote_all_by, who_wrote_by};
 
 fn kind_of(w: Writer) -> u64
     ensures { result ≡ kind_of w }
@@ -52,6 +52,17 @@ fn refused_in(loaded: &[u64]) -> Answer
     answer_with(refusal_in(loaded), &words)
 }
 
+// What they say of the text.
+fn text_told(loaded: &[u64]) -> LoadedText
+    ensures { result ≡ text_told loaded.now }
+{
+    LoadedText {
+        version2: word_in(loaded, 4) == 2,
+        start: word_in(loaded, 13) as usize,
+        length: word_in(loaded, 14) as usize,
+    }
+}
+
 // Who wrote a byte, by the words of a load's answer.
 #[tactic(auto, using(ebpf::specs::Choice::choices), unfolding(crate::specs::Wrote::who_wrote_answer))]
 pub(crate) fn who_wrote_answer(file: &[u8], loaded: &[u64], offset: u64) -> Answer
@@ -60,10 +71,7 @@ pub(crate) fn who_wrote_answer(file: &[u8], loaded: &[u64], offset: u64) -> Answ
     if refusal_in(loaded) != 0 {
         return refused_in(loaded);
     }
-    let version2 = word_in(loaded, 4) == 2;
-    let start = word_in(loaded, 13) as usize;
-    let length = word_in(loaded, 14) as usize;
-    wrote_answer(who_wrote_by(file, version2, start, length, offset))
+    wrote_answer(who_wrote_by(file, text_told(loaded), offset))
 }
 
 fn filled_answer(filled: Result<(), ElfError>) -> Answer
@@ -83,10 +91,7 @@ pub(crate) fn numbers_answer(numbers: &mut [u32], file: &[u8], loaded: &[u64]) -
         clear_words(numbers);
         return refused_in(loaded);
     }
-    let version2 = word_in(loaded, 4) == 2;
-    let start = word_in(loaded, 13) as usize;
-    let length = word_in(loaded, 14) as usize;
-    filled_answer(who_wrote_all_by(numbers, file, version2, start, length))
+    filled_answer(who_wrote_all_by(numbers, file, text_told(loaded)))
 }
 
 // The answer of an accepted load, with who wrote the byte behind it. An offset past the file's end
