@@ -8,23 +8,23 @@ use elf_parser::ElfParserError;
 use loader::{Accepted, ElfError, clear_words, report_of};
 use writers::{LoadedText, Writer, who_wrote_all_by, who_wrote_by};
 
-fn kind_of(w: Writer) -> u64
-    ensures { result ≡ kind_of w }
-{
-    match w {
-        Writer::File => 0,
-        Writer::Call(_) => 1,
-        Writer::Relocation(_) => 2,
-    }
+// Who wrote a byte, in words: the kind of the writer, and the number of the slot or of the relocation.
+#[derive(Clone, Copy, PartialEq, Eq, Debug)]
+pub struct WriterWords {
+    pub kind: u64,
+    pub number: u64,
 }
 
-fn number_in(w: Writer) -> u64
-    ensures { result ≡ number_in w }
-{
-    match w {
-        Writer::File => 0,
-        Writer::Call(i) => i as u64,
-        Writer::Relocation(k) => k as u64,
+impl From<Writer> for WriterWords {
+    ghost from_gives = { λ w r. r ≡ record { kind = kind_of w; number = number_in w } };
+
+    fn from(w: Writer) -> WriterWords {
+        let (kind, number) = match w {
+            Writer::File => (0, 0),
+            Writer::Call(i) => (1, i as u64),
+            Writer::Relocation(k) => (2, k as u64),
+        };
+        WriterWords { kind, number }
     }
 }
 
@@ -32,7 +32,10 @@ fn wrote_answer(wrote: Result<Writer, ElfError>) -> Answer
     ensures { result ≡ wrote_answer wrote }
 {
     match wrote {
-        Ok(w) => answer_with(0, &[0, 0, 0, kind_of(w), number_in(w)]),
+        Ok(w) => {
+            let WriterWords { kind, number } = WriterWords::from(w);
+            answer_with(0, &[0, 0, 0, kind, number])
+        }
         Err(e) => reported(report_of(e)),
     }
 }
@@ -100,7 +103,10 @@ fn accepted_wrote(a: Accepted, wrote: Result<Writer, ElfError>) -> Answer
     ensures { result ≡ accepted_wrote a wrote }
 {
     match wrote {
-        Ok(w) => loaded_with(0, a, kind_of(w), number_in(w)),
+        Ok(w) => {
+            let WriterWords { kind, number } = WriterWords::from(w);
+            loaded_with(0, a, kind, number)
+        }
         Err(ElfError::FailedToParse(ElfParserError::NoSuchIndex)) => loaded_with(45, a, 0, 0),
         Err(e) => reported(report_of(e)),
     }
