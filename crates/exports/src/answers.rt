@@ -7,7 +7,8 @@ use hash_table::BadHashTable;
 use program::Row;
 
 // A number, 0 where nothing was refused, and what goes with it.
-#[derive(Clone, Copy)]
+// Kept: the words in an array of its own, since memory is fixed and there is no heap.
+#[derive(Clone, Copy, PartialEq, Eq, Debug)]
 pub struct Answer {
     pub number: u32,
     pub words: [u64; 23],
