@@ -12,7 +12,7 @@ use exports::{
     sbpf_dynamic_symbol_name, sbpf_find_symbol, sbpf_load, sbpf_load_who_wrote, sbpf_section_name,
     sbpf_section_place, sbpf_symbol_name, sbpf_who_wrote, sbpf_who_wrote_all,
 };
-use input::read_full;
+use input::{read_full, until_none};
 use lines::{FILE, ROWS, print_answer, print_load, print_writer};
 use program::FunctionTable;
 use std::io;
@@ -219,10 +219,5 @@ fn next_record(rt: &impl Print, input: &mut impl Read) -> io::Result<bool> {
 
 fn main(rt: HostRuntime) -> io::Result<()> {
     let mut input = rt.stdin();
-    for _ in 0..MOST {
-        if !next_record(&rt, &mut input)? {
-            break;
-        }
-    }
-    Ok(())
+    until_none(MOST, || next_record(&rt, &mut input))
 }
