@@ -217,6 +217,7 @@ fn next_record(rt: &impl Print, input: &mut impl Read) -> io::Result<bool> {
     Ok(right)
 }
 
+// Kept: each program has a main of its own, with its bound and its record.
 fn main(rt: HostRuntime) -> io::Result<()> {
     let mut input = rt.stdin();
     until_none(MOST, || next_record(&rt, &mut input))
