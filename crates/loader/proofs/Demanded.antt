@@ -8,7 +8,7 @@ use Rattle.std.specs.Prelude.{Option, Result, Ok, Err}
 use Rattle.ebpf.specs.LittleEndian.{le}
 use Rattle.program.specs.declared.Row.{Row}
 use Rattle.program.specs.Rows.{find}
-use Rattle.program.specs.Table.{Slices, capacity, lay, lookup_in, Ready as IsTable}
+use Rattle.program.specs.Table.{Slices, Lent, Shared, capacity, lay, lookup_in, Ready as IsTable}
 use Rattle.program.proofs.Tables.{ready_lay, lookup_lay}
 use Rattle.loader.specs.declared.read_only.Placing.TheVariants.{Borrowed, Owned}
 use Rattle.loader.specs.declared.read_only.Placing.{Placing}
@@ -20,8 +20,8 @@ use Rattle.loader.specs.declared.validate.Job.{Job}
 use Rattle.loader.specs.Calls.{immediate}
 use Rattle.loader.specs.InnerContracts.{InFile}
 use Rattle.loader.specs.Demand.{Calls, Keys, Entry, Others, Bytes, IsNameKey, Finds, key_of, OnAccepted, reached_in, reached_early, Clash, distinct, Demand3}
-use Rattle.loader.specs.Load.{held_by, on_trace, on_prepared, load_of, Loaded}
-use Rattle.loader.specs.Loads.{OnUsed}
+use Rattle.loader.specs.Load.{held_by, on_trace, on_prepared, load_of, load_of_lent, Loaded}
+use Rattle.loader.specs.Loads.{OnUsed, Loads}
 use Rattle.loader.specs.Parts.{job_trace}
 use Rattle.loader.specs.Trace.{Settled, accepted, refused, settle}
 use Rattle.loader.specs.Validate.{prepared}
@@ -148,3 +148,13 @@ module _ (file builtins : List ℕ) (c : Config) (im ro : List ℕ) (t : Slices)
       collision = λ off. subst (λ (b : Result Accepted ElfError). ((key : ℕ) × (b ≡ Err (SymbolHashCollision key))) ↔ Clash (reached_early file builtins (capacity t) (prepared file builtins c (length im) (length ro)))) (sym did.answers) (collides file builtins c (length im) (length ro) (capacity t) off);
       full = λ off. subst (λ (b : Result Accepted ElfError). ((rows : ℕ) × (b ≡ Err (TableFull rows))) ↔ (capacity t < distinct (map (λ r. r.key) (reached_in file builtins (capacity t) (prepared file builtins c (length im) (length ro)))))) (sym did.answers) (fills file builtins c (length im) (length ro) (capacity t) off);
     }
+
+-- what a load leaves is all that it promises
+pub loads : (file builtins : Shared) (c : Config) (image ro : Lent) (t t' : Slices) (a : Result Accepted ElfError)
+    → Loaded (load_of_lent file builtins c image ro t) image.entry.now ro.entry.now t image.exit.now ro.exit.now t' a
+    → Loads file builtins c image ro t t' a
+loads file builtins c image ro t t' a l = record {
+  loaded = l;
+  keyed = demanded file.entry.now builtins.entry.now c image.entry.now ro.entry.now t image.exit.now ro.exit.now t' a l;
+  ascending = ascended file.entry.now builtins.entry.now c image.entry.now ro.entry.now t image.exit.now ro.exit.now t' a l;
+}

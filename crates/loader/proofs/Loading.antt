@@ -2,7 +2,7 @@
 -- zeros behind it, and the answer. Assumes nothing.
 use mathlib.Core.Path.{◌≡◌, refl, sym, ap, ◌∙◌, subst}
 use mathlib.Core.List.{List, [], ◌++◌, append-nil}
-use Prim.Native.Nat.{ℕ, ◌+◌, ◌-◌, ◌≤◌, ◌^◌}
+use Prim.Native.Nat.{ℕ, ◌+◌, ◌-◌, ◌≤◌, ◌^◌, zero-le}
 use native.Mathlib.Omega.{arith}
 use lib.ListN.{length, take, drop, replicate, length-replicate}
 use lib.Seq.{drop_at, drop-length, length-take-le}
@@ -11,7 +11,7 @@ use Rattle.program.specs.Table.{Slices, columns_of, capacity, lay, rows_of}
 use Rattle.program.proofs.Laying.{length_rows}
 use Rattle.std.specs.Prelude.{Result, Ok, Err}
 use Rattle.program.specs.Table.{SameLens}
-use Rattle.program.proofs.Tables.{capacity_same, lay_same, ready_none}
+use Rattle.program.proofs.Tables.{capacity_same, lay_same, same_lay, ready_none}
 use Rattle.loader.specs.declared.read_only.Placing.TheVariants.{Borrowed, Owned}
 use Rattle.loader.specs.declared.read_only.Placing.{Placing}
 use Rattle.loader.specs.declared.answer.Accepted.{Accepted}
@@ -156,8 +156,12 @@ module _ (n : ℕ) (im z : List ℕ) (fits : n ≤ length im) (clear : z ≡ rep
 
 -- ---- the attempt
 
-pub empty : (t t₁ : Slices) → t₁ ≡ lay t [] → SameLens t t₁ → t₁ ≡ lay t₁ []
-empty t t₁ laid lens = laid ∙ sym (lay_same t t₁ [] lens)
+-- cleared columns are as long as they were, and an empty table
+pub cleared_lens : (t t₁ : Slices) → t₁ ≡ lay t [] → SameLens t t₁
+cleared_lens t t₁ laid = rw laid (same_lay t [] zero-le)
+
+pub empty : (t t₁ : Slices) → t₁ ≡ lay t [] → t₁ ≡ lay t₁ []
+empty t t₁ laid = laid ∙ sym (lay_same t t₁ [] (cleared_lens t t₁ laid))
 
 rows_none : (t : Slices) → rows_of t 0 ≡ []
 unfolding rows_of
@@ -223,20 +227,16 @@ module _ (file builtins : List ℕ) (c : Config) (im ro : List ℕ) (t : Slices)
         pub tried : (n : ℕ) (b : Result Accepted ElfError) → (a : Result Held ElfError) × (b ≡ answer_for a j) × Settles (job_trace file builtins j file) q t₁ t₂ n 0 0 a × HeldBytes a ro₂ (placed_bytes file j.layout j.placing q ro₁) → Tried whole im ro t (q ++ rest) ro₂ t₂ b
         tried n b did = subst (Tried whole im ro t (q ++ rest) ro₂ t₂) (sym did.1) (tried_as n did.0 did.2 did.3)
 
--- ---- the end: an attempt that is held, and one that is refused and cleared
+-- ---- the end: an attempt that is refused, and cleared
 
-module _ (x : Loading) (im ro : List ℕ) (t : Slices) (im₁ ro₁ : List ℕ) (t₁ : Slices) (a : Result Accepted ElfError) (did : Tried x im ro t im₁ ro₁ t₁ a) where
-  pub load_held : (y : Accepted) → a ≡ Ok y → Loaded x im ro t im₁ ro₁ t₁ (Ok y)
-  load_held y e = subst (Tried x im ro t im₁ ro₁ t₁) e did
-
-  pub load_refused : (im₂ ro₂ : List ℕ) (t₂ : Slices) (r : ElfError) → a ≡ Err r
+module _ (x : Loading) (im ro : List ℕ) (t : Slices) (im₁ ro₁ : List ℕ) (t₁ : Slices) (im₂ ro₂ : List ℕ) (t₂ : Slices) where
+  pub load_refused : (r : ElfError) → x ≡ refuses r
       → length im₁ ≡ length im
       → length ro₁ ≡ length ro
       → SameLens t t₁
       → Cleared im₁ ro₁ t₁ im₂ ro₂ t₂
       → Loaded x im ro t im₂ ro₂ t₂ (Err r)
-  load_refused im₂ ro₂ t₂ r e li lr lens clear =
-      let w : x ≡ refuses r = subst (Tried x im ro t im₁ ro₁ t₁) e did in
+  load_refused r w li lr lens clear =
       record {
         answers = rw w refl;
         demand_1 = record {

@@ -4,7 +4,7 @@ use mathlib.Core.List.{List}
 use mathlib.Core.Path.{◌≡◌, sym, ap, subst, fun_ext, ◌∙◌}
 use Rattle.program.specs.declared.Row.{Row}
 use Rattle.std.specs.Prelude.{Option, Result, Ok, Err}
-use Rattle.program.specs.Table.{Slices, Lent, Shared, table_after, lookup_in, lookup_ascending_in, row_ascending_in, row_of_found, index_ascending_in, index_of_found, Ready as IsTable}
+use Rattle.program.specs.Table.{Slices, Lent, Shared, lookup_in, lookup_ascending_in, row_ascending_in, row_of_found, index_ascending_in, index_of_found, Ready as IsTable}
 use Rattle.program.proofs.Tables.{lookups_agree, row_agrees, index_agrees}
 use Rattle.loader.specs.declared.error.ElfError.{ElfError}
 use Rattle.loader.specs.declared.answer.Accepted.{Accepted}
@@ -15,29 +15,29 @@ use Rattle.loader.specs.Loads.{Loads, OnUsed}
 use Rattle.loader.specs.Validate.{prepared}
 
 -- THE LOOKUPS AGREE, for every key, on the table and the used rows that an accepted load leaves
-pub agree_after : (file builtins : Shared) (c : Config) (image ro keys indices kinds starts lengths : Lent) (x : Accepted)
-    → Loads file builtins c image ro keys indices kinds starts lengths (Ok x)
+pub agree_after : (file builtins : Shared) (c : Config) (image ro : Lent) (t t' : Slices) (x : Accepted)
+    → Loads file builtins c image ro t t' (Ok x)
     → (key : ℕ)
-    → lookup_ascending_in (table_after keys indices kinds starts lengths) x.used key ≡ lookup_in (table_after keys indices kinds starts lengths) x.used key
-agree_after file builtins c image ro keys indices kinds starts lengths x l key = lookups_agree (table_after keys indices kinds starts lengths) x.used l.ascending key
+    → lookup_ascending_in t' x.used key ≡ lookup_in t' x.used key
+agree_after file builtins c image ro t t' x l key = lookups_agree t' x.used l.ascending key
 
 -- and the number of the row alone, by the column of keys, is that of the same row
-pub row_after : (file builtins : Shared) (c : Config) (image ro keys indices kinds starts lengths : Lent) (x : Accepted)
-    → Loads file builtins c image ro keys indices kinds starts lengths (Ok x)
+pub row_after : (file builtins : Shared) (c : Config) (image ro : Lent) (t t' : Slices) (x : Accepted)
+    → Loads file builtins c image ro t t' (Ok x)
     → (key : ℕ)
-    → lookup_in (table_after keys indices kinds starts lengths) x.used key ≡ row_of_found (table_after keys indices kinds starts lengths) (row_ascending_in keys.exit.now x.used key)
-row_after file builtins c image ro keys indices kinds starts lengths x l key =
-    sym (agree_after file builtins c image ro keys indices kinds starts lengths x l key)
-    ∙ row_agrees (table_after keys indices kinds starts lengths) x.used l.ascending key
+    → lookup_in t' x.used key ≡ row_of_found t' (row_ascending_in t'.keys x.used key)
+row_after file builtins c image ro t t' x l key =
+    sym (agree_after file builtins c image ro t t' x l key)
+    ∙ row_agrees t' x.used l.ascending key
 
 -- and the index alone, by the columns of keys and indices, is that of the row
-pub index_after : (file builtins : Shared) (c : Config) (image ro keys indices kinds starts lengths : Lent) (x : Accepted)
-    → Loads file builtins c image ro keys indices kinds starts lengths (Ok x)
+pub index_after : (file builtins : Shared) (c : Config) (image ro : Lent) (t t' : Slices) (x : Accepted)
+    → Loads file builtins c image ro t t' (Ok x)
     → (key : ℕ)
-    → index_ascending_in keys.exit.now indices.exit.now x.used key ≡ index_of_found (lookup_in (table_after keys indices kinds starts lengths) x.used key)
-index_after file builtins c image ro keys indices kinds starts lengths x l key =
-    index_agrees (table_after keys indices kinds starts lengths) x.used l.ascending key
-    ∙ ap index_of_found (agree_after file builtins c image ro keys indices kinds starts lengths x l key)
+    → index_ascending_in t'.keys t'.indices x.used key ≡ index_of_found (lookup_in t' x.used key)
+index_after file builtins c image ro t t' x l key =
+    index_agrees t' x.used l.ascending key
+    ∙ ap index_of_found (agree_after file builtins c image ro t t' x l key)
 
 -- so a statement by one lookup is a statement by the other
 by_search : (t' : Slices) (P : Job → (ℕ → Option Row) → Type 0) (a : Result Accepted ElfError) (p : Result Job ElfError) → OnUsed a (IsTable t')

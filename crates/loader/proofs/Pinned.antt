@@ -45,7 +45,7 @@ use lib.ListN.{length, get_or, replicate}
 use Rattle.elf_parser.specs.declared.layout.Layout.{Layout}
 use Rattle.program.specs.declared.FunctionName.TheVariants.{OfIndex, Entrypoint}
 use Rattle.program.specs.declared.Row.{Row}
-use Rattle.program.specs.Table.{Slices, Lent, Shared, table_before, table_after, capacity, lay, rows_of, lookup_in, Ready as IsTable}
+use Rattle.program.specs.Table.{Slices, Lent, Shared, capacity, lay, rows_of, lookup_in, Ready as IsTable}
 use Rattle.program.proofs.Cases.{zero_one}
 use Rattle.loader.specs.declared.read_only.Placing.TheVariants.{Borrowed}
 use Rattle.loader.specs.declared.error.ElfError.{ElfError}
@@ -283,16 +283,10 @@ module _ (t : Slices) (im' : List ℕ) (t' : Slices) (a : Result Accepted ElfErr
 
 -- ---- `load`, field by field
 
-module _ (file builtins : Shared) (image ro keys indices kinds starts lengths : Lent) (a : Result Accepted ElfError)
+module _ (file builtins : Shared) (image ro : Lent) (t t' : Slices) (a : Result Accepted ElfError)
     (is : file.entry.now ≡ version_2) (none : builtins.entry.now ≡ []) (long : length image.entry.now ≡ 304) (wide : length ro.entry.now ≡ 304)
-    (rows : capacity (table_before keys indices kinds starts lengths) ≡ 4)
-    (l : Loads file builtins all_on image ro keys indices kinds starts lengths a) where
-  abbrev t : Slices
-  t = table_before keys indices kinds starts lengths
-
-  abbrev t' : Slices
-  t' = table_after keys indices kinds starts lengths
-
+    (rows : capacity t ≡ 4)
+    (l : Loads file builtins all_on image ro t t' a) where
   loaded : Loaded (holds answer_2 (put 4 version_2 68 2) (replicate 304 0) (first ∷ third ∷ [])) image.entry.now ro.entry.now t image.exit.now ro.exit.now t' a
   loaded = rw (is, none, long, wide, rows, computed.whole) at l.loaded
 
@@ -312,6 +306,6 @@ module _ (file builtins : Shared) (image ro keys indices kinds starts lengths : 
       calls_say t image.exit.now t' answer_2 (subst (λ (b : Result Accepted ElfError). Demand3 version_2 [] all_on 304 304 t image.exit.now t' b) loaded.answers d)
 
   -- the first key is below the second
-  pub ascending_says : get_or keys.exit.now 0 0 < get_or keys.exit.now 1 0
+  pub ascending_says : get_or t'.keys 0 0 < get_or t'.keys 1 0
   unfolding rows_of rank
   ascending_says = (subst (λ (b : Result Accepted ElfError). OnUsed b (IsTable t')) loaded.answers l.ascending).rising.0.0

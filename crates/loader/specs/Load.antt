@@ -3,7 +3,7 @@ use Rattle.std.specs.Prelude.{ℕ, ◌+◌, ◌-◌, ◌/◌, ◌≡◌, Bool, t
 use Rattle.std.specs.Borrow.{Bor, MutBor}
 use Rattle.ebpf.specs.Choice.{◌if◌else◌}
 use Rattle.program.specs.declared.Row.{Row}
-use Rattle.program.specs.Table.{Slices, Lent, Shared, table_of, table_before, table_after, capacity, lay}
+use Rattle.program.specs.Table.{Slices, Lent, Shared, capacity, lay}
 use Rattle.loader.specs.declared.read_only.Placing.TheVariants.{Borrowed, Owned}
 use Rattle.loader.specs.declared.read_only.Placing.{Placing}
 use Rattle.loader.specs.declared.error.ElfError.{ElfError}
@@ -150,28 +150,25 @@ abbrev pub Tried : Loading → List ℕ → List ℕ → Slices → List ℕ →
 Tried x im ro t im' ro' t' (Ok a) = Loaded x im ro t im' ro' t' (Ok a)
 Tried x im ro t im' ro' t' (Err r) = x ≡ refuses r
 
--- ---- over the lent slices of a function: image, read-only buffer, keys, indices, kinds, starts and lengths, in this order
+-- ---- over what a function is lent: image and read-only buffer, and what the table holds at the call, t, and on return, t'
 
-abbrev pub Clears : Lent → Lent → Lent → Lent → Lent → Lent → Lent → Type 0
-Clears image ro k i d s l = Cleared image.entry.now ro.entry.now (table_before k i d s l) image.exit.now ro.exit.now (table_after k i d s l)
+abbrev pub Clears : Lent → Lent → Slices → Slices → Type 0
+Clears image ro t t' = Cleared image.entry.now ro.entry.now t image.exit.now ro.exit.now t'
 
 -- the parts of a job in cleared slices: what they ask, and what they leave, with the answer that follows from their outcome h
-abbrev pub FillAsks : Bor (List ℕ) → Job → MutBor (List ℕ) → MutBor (List ℕ) → MutBor (List ℕ) → MutBor (List ℕ) → MutBor (List ℕ) → MutBor (List ℕ) → Type 0
-FillAsks file j image k i d s l =
-    InFile file.now j × (length image.now ≡ length file.now) × (table_of k i d s l ≡ lay (table_of k i d s l) [])
+abbrev pub FillAsks : Bor (List ℕ) → Job → MutBor (List ℕ) → Slices → Type 0
+FillAsks file j image t = InFile file.now j × (length image.now ≡ length file.now) × (t ≡ lay t [])
 
-abbrev pub Fills : Shared → Shared → Job → Lent → Lent → Lent → Lent → Lent → Lent → Lent → Result Accepted ElfError → Type 0
-Fills file builtins j image ro k i d s l a =
+abbrev pub Fills : Shared → Shared → Job → Lent → Lent → Slices → Slices → Result Accepted ElfError → Type 0
+Fills file builtins j image ro t t' a =
     (h : Result Held ElfError)
     × (a ≡ answer_for h j)
-    × Settles (job_trace file.entry.now builtins.entry.now j file.entry.now) image.exit.now (table_before k i d s l) (table_after k i d s l) (all_count file.entry.now j) 0 0 h
+    × Settles (job_trace file.entry.now builtins.entry.now j file.entry.now) image.exit.now t t' (all_count file.entry.now j) 0 0 h
     × HeldBytes h ro.exit.now (placed_bytes file.entry.now j.layout j.placing image.exit.now ro.entry.now)
 
 -- what comes of a load of these
-abbrev pub load_of_lent : Shared → Shared → Config → Lent → Lent → Lent → Lent → Lent → Lent → Lent → Loading
-load_of_lent file builtins c image ro k i d s l =
-    load_of file.entry.now builtins.entry.now c (length image.entry.now) (length ro.entry.now) (capacity (table_before k i d s l))
+abbrev pub load_of_lent : Shared → Shared → Config → Lent → Lent → Slices → Loading
+load_of_lent file builtins c image ro t = load_of file.entry.now builtins.entry.now c (length image.entry.now) (length ro.entry.now) (capacity t)
 
-abbrev pub Tries : Shared → Shared → Config → Lent → Lent → Lent → Lent → Lent → Lent → Lent → Result Accepted ElfError → Type 0
-Tries file builtins c image ro k i d s l a =
-    Tried (load_of_lent file builtins c image ro k i d s l) image.entry.now ro.entry.now (table_before k i d s l) image.exit.now ro.exit.now (table_after k i d s l) a
+abbrev pub Tries : Shared → Shared → Config → Lent → Lent → Slices → Slices → Result Accepted ElfError → Type 0
+Tries file builtins c image ro t t' a = Tried (load_of_lent file builtins c image ro t) image.entry.now ro.entry.now t image.exit.now ro.exit.now t' a

@@ -3,6 +3,7 @@ ghost use Rattle.std.specs.Prelude.{◌≡◌, ◌-◌, ◌≤◌, ◌^◌};
 ghost use Rattle.loader.specs.Load.{accepted_as, answer_by};
 
 use crate::addresses::pick;
+use crate::deeds::Outputs;
 use crate::error::ElfError;
 use crate::read_only::Placing;
 use crate::validate::Job;
@@ -11,7 +12,7 @@ use crate::validate::Job;
 // whether the read-only bytes were copied, their offset from the program's start, where they start
 // in the image (0 where they were copied) and how many they are; the text's address, and its place
 // in the file.
-#[derive(Clone, Copy)]
+#[derive(Clone, Copy, PartialEq, Eq, Debug)]
 pub struct Accepted {
     pub version: u32,
     pub entry: u32,
@@ -33,18 +34,17 @@ fn accepted_as(
     offset: u64,
     start: u64,
     n: u64,
-    used: usize,
-    moves: u64,
+    out: &Outputs<'_, '_>,
 ) -> Accepted
     requires { job.e_entry - job.sh_addr ≤ 2 ^ 24 }
-    ensures { result ≡ accepted_as job copied offset start n used moves }
+    ensures { result ≡ accepted_as job copied offset start n out.now.registry.now.used out.now.moves }
 {
     let entry = job.e_entry.saturating_sub(job.sh_addr) / 8;
     Accepted {
         version: pick(job.version2, 2, 1),
         entry: entry as u32,
-        used,
-        moves,
+        used: out.registry.used,
+        moves: out.moves,
         ro_copied: copied,
         ro_offset: offset,
         ro_start: start,
@@ -56,20 +56,20 @@ fn accepted_as(
 }
 
 // The answer of a file that passed the checks.
-pub(crate) fn answer_of(used: usize, moves: u64, job: Job) -> Result<Accepted, ElfError>
+pub(crate) fn answer_of(out: &Outputs<'_, '_>, job: Job) -> Result<Accepted, ElfError>
     requires { job.e_entry - job.sh_addr ≤ 2 ^ 24 }
-    ensures { result ≡ answer_by job job.placing used moves }
+    ensures { result ≡ answer_by job job.placing out.now.registry.now.used out.now.moves }
 {
     match job.placing? {
         Placing::Borrowed {
             offset,
             start,
             length,
-        } => Ok(accepted_as(job, false, offset, start, length, used, moves)),
+        } => Ok(accepted_as(job, false, offset, start, length, out)),
         Placing::Owned {
             offset,
             lowest: _,
             length,
-        } => Ok(accepted_as(job, true, offset, 0, length, used, moves)),
+        } => Ok(accepted_as(job, true, offset, 0, length, out)),
     }
 }

@@ -1,7 +1,9 @@
 // The lent slices cleared, and the parts of a load one after another.
 ghost use Rattle.std.specs.Prelude.{◌≡◌, length, replicate};
+ghost use Rattle.program.specs.Table.{SameColumns, SameLens, columns_of};
 ghost use Rattle.loader.specs.Parts.{job_trace};
 ghost use Rattle.loader.specs.Load.{all_count, placed_bytes, Clears, FillAsks, Fills};
+ghost use Rattle.loader.specs.Loads.{OnUsed};
 ghost use Rattle.loader.specs.InnerContracts.{InFile, Starts, FirstAsks, Keeps, SettlesTo};
 
 use crate::answer::{Accepted, answer_of};
@@ -21,25 +23,20 @@ pub fn clear_words(s: &mut [u32])
     s.fill(0);
 }
 
-// Every lent byte and number zero.
-pub(crate) fn clear_all(
-    image: &mut [u8],
-    ro: &mut [u8],
-    keys: &mut [u32],
-    indices: &mut [u32],
-    kinds: &mut [u32],
-    starts: &mut [u32],
-    lengths: &mut [u32],
-)
-    ensures { Clears image ro keys indices kinds starts lengths }
+// Every lent byte and number zero, and no row used.
+pub(crate) fn clear_all(image: &mut [u8], ro: &mut [u8], registry: &mut FunctionRegistry<'_>)
+    ensures same { SameColumns registry.old registry.new }
+    ensures clears { Clears image ro (columns_of registry.old) (columns_of registry.new) }
+    ensures used { registry.new.used ≡ 0 }
 {
     image.fill(0);
     ro.fill(0);
-    clear_words(keys);
-    clear_words(indices);
-    clear_words(kinds);
-    clear_words(starts);
-    clear_words(lengths);
+    clear_words(registry.keys);
+    clear_words(registry.indices);
+    clear_words(registry.kinds);
+    clear_words(registry.starts);
+    clear_words(registry.lengths);
+    registry.used = 0;
 }
 
 // All parts of a load. The placing of the read-only sections refuses after everything else.
@@ -112,32 +109,24 @@ fn copy_placed(
 pub(crate) fn fill_all(
     image: &mut [u8],
     ro: &mut [u8],
-    keys: &mut [u32],
-    indices: &mut [u32],
-    kinds: &mut [u32],
-    starts: &mut [u32],
-    lengths: &mut [u32],
+    registry: &mut FunctionRegistry<'_>,
     file: &[u8],
     builtins: &[u32],
     job: Job,
 ) -> Result<Accepted, ElfError>
-    requires { FillAsks file job image keys indices kinds starts lengths }
-    ensures { Fills file builtins job image ro keys indices kinds starts lengths result }
+    requires asks { FillAsks file job image (columns_of registry.old) }
+    requires empty { registry.old.used ≡ 0 }
+    ensures same { SameColumns registry.old registry.new }
+    ensures lens { SameLens (columns_of registry.old) (columns_of registry.new) }
+    ensures fills { Fills file builtins job image ro (columns_of registry.old) (columns_of registry.new) result }
+    ensures used { OnUsed result (λ used. registry.new.used ≡ used) }
 {
-    let mut registry = FunctionRegistry {
-        keys,
-        indices,
-        kinds,
-        starts,
-        lengths,
-        used: 0,
-    };
     let mut out = Outputs {
         image,
-        registry: &mut registry,
+        registry,
         moves: 0,
     };
     keyed_parts(&mut out, file, builtins, job)?;
     copy_placed(ro, out.image(), file, job.layout, job.placing);
-    answer_of(out.registry.used, out.moves, job)
+    answer_of(&out, job)
 }

@@ -9,7 +9,7 @@ use ebpf::MM_PROGRAM_START;
 use elf_parser::past;
 
 // A place in the lent bytes.
-#[derive(Clone, Copy)]
+#[derive(Clone, Copy, PartialEq, Eq, Debug)]
 pub struct PartPlace {
     pub start: u64,
     pub length: u64,

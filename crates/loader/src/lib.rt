@@ -1,9 +1,12 @@
 #![tactic(auto)]
 // Loading a profile: the port of src/elf.rs.
+ghost use Rattle.std.specs.Prelude.{◌≡◌};
+ghost use Rattle.program.specs.Table.{SameColumns, SameLens, columns_of};
 ghost use Rattle.loader.specs.Load.{Tries};
-ghost use Rattle.loader.specs.Loads.{Loads};
+ghost use Rattle.loader.specs.Loads.{Loads, OnUsed, used_of};
 
 use filling::{clear_all, fill_all};
+use program::FunctionRegistry;
 use validate::prepare;
 
 mod addresses;
@@ -41,64 +44,42 @@ pub use validate::Config;
 fn attempt(
     image: &mut [u8],
     ro_section: &mut [u8],
-    keys: &mut [u32],
-    indices: &mut [u32],
-    kinds: &mut [u32],
-    starts: &mut [u32],
-    lengths: &mut [u32],
+    registry: &mut FunctionRegistry<'_>,
     file: &[u8],
     builtins: &[u32],
     config: Config,
 ) -> Result<Accepted, ElfError>
-    ensures { Tries file builtins config image ro_section keys indices kinds starts lengths result }
+    ensures same { SameColumns registry.old registry.new }
+    ensures lens { SameLens (columns_of registry.old) (columns_of registry.new) }
+    ensures tries { Tries file builtins config image ro_section (columns_of registry.old) (columns_of registry.new) result }
+    ensures used { OnUsed result (λ used. registry.new.used ≡ used) }
 {
     let job = prepare(file, builtins, config, image.len(), ro_section.len())?;
     let n = file.len();
-    clear_all(
-        &mut image[n..],
-        ro_section,
-        keys,
-        indices,
-        kinds,
-        starts,
-        lengths,
-    );
-    fill_all(
-        &mut image[..n],
-        ro_section,
-        keys,
-        indices,
-        kinds,
-        starts,
-        lengths,
-        file,
-        builtins,
-        job,
-    )
+    clear_all(&mut image[n..], ro_section, registry);
+    fill_all(&mut image[..n], ro_section, registry, file, builtins, job)
 }
 
 // A LOAD: the image, the read-only bytes and the table of a file, or a refusal and only zeros
-// (`Loaded`, with demand 1); and demand 3, which follows from it.
+// (`Loaded`, with demand 1); and demand 3, which follows from it. Whatever rows the registry used, it
+// then uses those that the answer says, or none.
 pub fn load(
     file: &[u8],
     builtins: &[u32],
     config: Config,
     image: &mut [u8],
     ro_section: &mut [u8],
-    keys: &mut [u32],
-    indices: &mut [u32],
-    kinds: &mut [u32],
-    starts: &mut [u32],
-    lengths: &mut [u32],
+    registry: &mut FunctionRegistry<'_>,
 ) -> Result<Accepted, ElfError>
-    ensures { Loads file builtins config image ro_section keys indices kinds starts lengths result }
+    ensures same { SameColumns registry.old registry.new }
+    ensures lens { SameLens (columns_of registry.old) (columns_of registry.new) }
+    ensures loads { Loads file builtins config image ro_section (columns_of registry.old) (columns_of registry.new) result }
+    ensures used { registry.new.used ≡ used_of result }
 {
-    match attempt(
-        image, ro_section, keys, indices, kinds, starts, lengths, file, builtins, config,
-    ) {
+    match attempt(image, ro_section, registry, file, builtins, config) {
         Ok(a) => Ok(a),
         Err(r) => {
-            clear_all(image, ro_section, keys, indices, kinds, starts, lengths);
+            clear_all(image, ro_section, registry);
             Err(r)
         }
     }

@@ -10,7 +10,7 @@ use ebpf::{MM_PROGRAM_START, MM_STACK_START};
 use elf_parser::types::Elf64Shdr;
 use elf_parser::{Layout, file_range, part_of, past, section_name};
 
-#[derive(Clone, Copy)]
+#[derive(Clone, Copy, PartialEq, Eq, Debug)]
 pub enum Placing {
     // They stay in the image: the offset of their address from the program's start, and their place.
     Borrowed {
@@ -29,7 +29,7 @@ pub enum Placing {
 // What is known of the read-only sections so far: their lowest address and highest end, how many
 // bytes they have in all, whether an offset is invalid, the constant by which addresses are past file
 // offsets, once there is one (`shifted`), and the first, the last and the number of the sections.
-#[derive(Clone, Copy)]
+#[derive(Clone, Copy, PartialEq, Eq, Debug)]
 pub struct Extent {
     pub lowest: u64,
     pub highest: u64,

@@ -59,7 +59,7 @@ fn outside_file(len: u64, sh_offset: u64, sh_size: u64) -> bool
 
 // What is known of the sections so far: how many are named .text, and the first of them; whether
 // one is not supported, and the name of the first; whether one does not lie in the file.
-#[derive(Clone, Copy)]
+#[derive(Clone, Copy, PartialEq, Eq, Debug)]
 pub struct Survey {
     pub texts: u32,
     pub text: u32,

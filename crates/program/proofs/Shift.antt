@@ -42,3 +42,10 @@ closed_move at n s l h =
     let e : at + 1 + (n - (at + 1)) ≡ n = omega arith in
     let last : at + (n - (at + 1)) ≡ n - 1 = omega arith in
     ap (λ k. set (paste s at (drop (at + 1) s) (n - (at + 1))) k 0) (sym last) ∙ close_by at (n - (at + 1)) s (omega arith) ∙ ap (λ k. closed at k s) e
+
+-- at the end of the n numbers nothing moves
+pub opened_end : (n v : ℕ) (s : List ℕ) → n < length s → opened n n v s ≡ set s n v
+unfolding opened
+opened_end n v [] l = absurd (not-suc-le-zero l)
+opened_end zero v (x ∷ s) l = refl
+opened_end (suc n) v (x ∷ s) l = ap (λ (l : List ℕ). x ∷ l) (opened_end n v s (le_of_suc-le-suc l))

@@ -1,5 +1,5 @@
 -- The table: five slices of numbers that hold rows, and what a registration, a removal and a lookup make of them, whatever they hold.
-use Rattle.std.specs.Prelude.{ℕ, zero, suc, ◌+◌, ◌-◌, ◌≤◌, ◌<◌, min, ◌≡◌, Bool, false, List, [], ◌∷◌, ◌++◌, map, length, get_or, set, replicate, take, drop, ltb, leb, eqb, Option, Some, None, Ok, Err}
+use Rattle.std.specs.Prelude.{ℕ, zero, suc, ◌+◌, ◌-◌, ◌≤◌, ◌<◌, min, ◌≡◌, Bool, true, false, List, [], ◌∷◌, ◌++◌, map, length, get_or, set, replicate, take, drop, ltb, leb, eqb, Option, Some, None, Ok, Err}
 use denote.Triple.Both.{Both}
 use Rattle.std.specs.Borrow.{Bor, MutBor}
 use Rattle.ebpf.specs.Choice.{◌if◌else◌}
@@ -148,6 +148,11 @@ opened_alike at n r t = record {
   starts = set t.starts n r.start;
   lengths = set t.lengths n r.length;
 }
+
+-- where all rows have one name, and where they need not
+abbrev pub opening_of : Bool → Opening
+opening_of true = opened_alike
+opening_of false = opened_row
 
 unfoldable pub closed_row : ℕ → ℕ → Slices → Slices
 closed_row at n t = record {

@@ -1,7 +1,7 @@
 // A table lent for writing: a place opened and closed in its five columns, and what registers and
 // removes a row.
 ghost use Rattle.std.specs.Prelude.{◌≡◌, ◌+◌, ◌-◌, ◌≤◌, ◌<◌};
-ghost use Rattle.program.specs.Table.{Registers, RegistersAlike, Unregisters, Within, columns_of, columns_in, opened_row, opened_alike, closed_row, SameColumns, used_after, used_without};
+ghost use Rattle.program.specs.Table.{Registers, RegistersAlike, RegistersBy, opening_of, Unregisters, Within, columns_of, columns_in, closed_row, SameColumns, used_after, used_without};
 
 use crate::columns::{close_at, open_at};
 use crate::table::row_ascending;
@@ -23,40 +23,23 @@ impl FunctionRegistry<'_> {
         }
     }
 
-    // Opens the place `at` of each column, and puts the row there.
-    #[tactic(auto, unfolding(crate::specs::Table::opened_row))]
-    fn open_row(&mut self, at: usize, row: Row)
+    // Opens the place `at` of each column, and puts the row there. Where all rows have one name
+    // (`ALIKE`), that of the row goes behind the last, and no name moves.
+    #[tactic(auto, using(crate::proofs::Shift::opened_end), unfolding(crate::specs::Table::opened_row, crate::specs::Table::opened_alike))]
+    fn open_row<const ALIKE: bool>(&mut self, at: usize, row: Row)
         requires at_within { at ≤ self.old.used }
         requires room { Within (self.old.used + 1) (columns_of self.old) }
         ensures same { SameColumns self.old self.new }
-        ensures opened { columns_of self.new ≡ opened_row at self.old.used row (columns_of self.old) }
+        ensures opened { columns_of self.new ≡ opening_of ALIKE at self.old.used row (columns_of self.old) }
         ensures used { self.new.used ≡ self.old.used + 1 }
     {
         let n = self.used;
+        let name_at = if ALIKE { n } else { at };
         open_at(self.keys, at, n, row.key);
         open_at(self.indices, at, n, row.index);
-        open_at(self.kinds, at, n, row.kind);
-        open_at(self.starts, at, n, row.start);
-        open_at(self.lengths, at, n, row.length);
-        self.used = n + 1;
-    }
-
-    // Opens the place `at` of the keys and indices, and puts the row's there; its name goes behind the
-    // last row.
-    #[tactic(auto, unfolding(crate::specs::Table::opened_alike))]
-    fn open_alike(&mut self, at: usize, row: Row)
-        requires at_within { at ≤ self.old.used }
-        requires room { Within (self.old.used + 1) (columns_of self.old) }
-        ensures same { SameColumns self.old self.new }
-        ensures opened { columns_of self.new ≡ opened_alike at self.old.used row (columns_of self.old) }
-        ensures used { self.new.used ≡ self.old.used + 1 }
-    {
-        let n = self.used;
-        open_at(self.keys, at, n, row.key);
-        open_at(self.indices, at, n, row.index);
-        self.kinds[n] = row.kind;
-        self.starts[n] = row.start;
-        self.lengths[n] = row.length;
+        open_at(self.kinds, name_at, n, row.kind);
+        open_at(self.starts, name_at, n, row.start);
+        open_at(self.lengths, name_at, n, row.length);
         self.used = n + 1;
     }
 
@@ -77,6 +60,19 @@ impl FunctionRegistry<'_> {
         self.used = n - 1;
     }
 
+    // Registers a row, at the place where the search for its key comes to.
+    fn register<const ALIKE: bool>(&mut self, row: Row) -> Result<Registered, RegisterError>
+        ensures same { SameColumns self.old self.new }
+        ensures registers { RegistersBy (opening_of ALIKE) (columns_of self.old) (columns_of self.new) self.old.used row result }
+        ensures used { self.new.used ≡ used_after self.old.used result }
+    {
+        let answer = self.as_table().answer_of(row)?;
+        if let Registered::Inserted(moves) = answer {
+            self.open_row::<ALIKE>(self.used - moves, row);
+        }
+        Ok(answer)
+    }
+
     // Registers a row. At most the rows lent count: where one is inserted there is room behind the used
     // rows, so that they all count.
     pub fn register_function(&mut self, row: Row) -> Result<Registered, RegisterError>
@@ -84,11 +80,7 @@ impl FunctionRegistry<'_> {
         ensures registers { Registers (columns_of self.old) (columns_of self.new) self.old.used row result }
         ensures used { self.new.used ≡ used_after self.old.used result }
     {
-        let answer = self.as_table().answer_of(row)?;
-        if let Registered::Inserted(moves) = answer {
-            self.open_row(self.used - moves, row);
-        }
-        Ok(answer)
+        self.register::<false>(row)
     }
 
     // Registers a row whose name is that of every used row: the answer is `register_function`'s, but the
@@ -99,11 +91,7 @@ impl FunctionRegistry<'_> {
         ensures registers { RegistersAlike (columns_of self.old) (columns_of self.new) self.old.used row result }
         ensures used { self.new.used ≡ used_after self.old.used result }
     {
-        let answer = self.as_table().answer_of(row)?;
-        if let Registered::Inserted(moves) = answer {
-            self.open_alike(self.used - moves, row);
-        }
-        Ok(answer)
+        self.register::<true>(row)
     }
 
     // Removes the row of a key, where there is one: how many rows moved. At most the rows lent count.

@@ -4,8 +4,8 @@ use Rattle.std.proofs.Common.{rules}
 use Rattle.program.proofs.Tables.{zeros_lay}
 use Rattle.loader.proofs.filling.clear_all.Goals as goal
 
-pub returns : goal.returns
-returns c =
+pub returns-clause-clears : goal.returns-clause-clears
+returns-clause-clears c =
     record {
       image = search rules;
       readonly = search rules;
