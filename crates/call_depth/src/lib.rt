@@ -1,8 +1,8 @@
 #![tactic(auto)]
 // How deep a loaded profile calls: the longest chain of calls from the entry, counted in functions. Asked
 // with a load, or about a load already made, by its answer, its image and its table.
-ghost use Rattle.std.specs.Prelude.{◌≡◌, ◌<◌, position, eqb, length, get_or};
-ghost use Rattle.program.specs.Table.{slices, capacity, columns_in};
+ghost use Rattle.std.specs.Prelude.{◌≡◌, ◌<◌, length, get_or};
+ghost use Rattle.program.specs.Table.{capacity, columns_in};
 ghost use Rattle.call_graph.specs.Answer.{depth_of};
 ghost use Rattle.call_depth.specs.Called.{profile_of, WorkLent};
 ghost use Rattle.call_depth.specs.Asked.{limit_of, limited, depth_in, fits_in, depth_by, depth_asked};
@@ -31,7 +31,7 @@ pub struct LoadDepth {
 
 // What says which function calls which: the text in the image, the columns of keys and of indices of the
 // used rows, and whether the version is 2.
-#[derive(Clone, Copy)]
+#[derive(Clone, Copy, PartialEq, Eq, Debug)]
 pub(crate) struct Profile<'a> {
     pub(crate) text: &'a [u8],
     pub(crate) keys: &'a [u32],
@@ -56,23 +56,15 @@ impl Profile<'_> {
     }
 
     // From the function at the index `entry`.
-    #[tactic(auto, using(ebpf::specs::Choice::choices, crate::proofs::Entries::first_none, crate::proofs::Entries::first_some), unfolding(crate::specs::Asked::depth_in))]
     fn depth_in(self, work: &mut [u32], entry: u32, limit: u32) -> Result<u32, CallDepthError>
         requires { WorkLent self.text.now self.indices.now work.old }
         ensures { result ≡ depth_in self.entry.text.now self.entry.keys.now self.entry.indices.now self.entry.version2 entry limit }
     {
-        let Some(row) = row_with(self.indices, entry) else {
+        let Some(row) = self.indices.iter().position(|index| *index == entry) else {
             return Err(CallDepthError::Refused(ElfError::ValueOutOfBounds));
         };
         limited(limit_of(limit), self.depth_from(work, row))
     }
-}
-
-// The first row with an index.
-fn row_with(indices: &[u32], index: u32) -> Option<usize>
-    ensures { result ≡ position (λ held. eqb held index) indices.now }
-{
-    indices.iter().position(|held| *held == index)
 }
 
 #[tactic(auto, using(ebpf::specs::Choice::choices), unfolding(crate::specs::Asked::limit_of))]
@@ -138,26 +130,13 @@ fn depth_by(
 pub fn call_depth(
     work: &mut [u32],
     image: &[u8],
-    keys: &[u32],
-    indices: &[u32],
-    kinds: &[u32],
-    starts: &[u32],
-    lengths: &[u32],
+    table: FunctionTable,
     answer: Result<Accepted, ElfError>,
     limit: u32,
 ) -> Result<u32, CallDepthError>
-    ensures { result ≡ depth_asked (length work.old) (capacity (slices keys.now indices.now kinds.now starts.now lengths.now)) image.now keys.now indices.now answer limit }
+    ensures { result ≡ depth_asked (length work.old) (capacity (columns_in table.entry)) image.now table.entry.keys.now table.entry.indices.now answer limit }
 {
-    let accepted = answer?;
-    let table = FunctionTable {
-        keys,
-        indices,
-        kinds,
-        starts,
-        lengths,
-        used: accepted.used,
-    };
-    depth_by(work, image, table, accepted, limit)
+    depth_by(work, image, table, answer?, limit)
 }
 
 // A load, and how deep the profile calls. The load's outputs stay as they are where the question is
@@ -181,10 +160,16 @@ pub fn load_call_depth(
     let answer = load(
         file, builtins, config, image, ro_section, keys, indices, kinds, starts, lengths,
     );
+    let table = FunctionTable {
+        keys,
+        indices,
+        kinds,
+        starts,
+        lengths,
+        used: 0,
+    };
     LoadDepth {
         load: answer,
-        depth: call_depth(
-            work, image, keys, indices, kinds, starts, lengths, answer, limit,
-        ),
+        depth: call_depth(work, image, table, answer, limit),
     }
 }

@@ -62,6 +62,7 @@ impl Profile<'_> {
         requires { Begun (profile_now self) (slots_in self.text.now) b work.old }
         ensures { Spread (profile_of self) b work.old work.new }
     {
+        // Kept: it goes on until a pass marks nothing new, and counts nothing.
         loop {
             let more = self.mark_pass(work, b);
             if more == 0 {

@@ -107,6 +107,7 @@ impl Profile<'_> {
         requires { Kept (profile_now self) (slots_in self.text.now) entry work.old }
         ensures { Smallest (CallsFunction (profile_of self)) (get_or self.entry.indices.now entry 0) result }
     {
+        // Kept: it goes on until a row reaches itself, and counts nothing.
         loop {
             let r = lowest(work, self.indices);
             let seen = self.marks_itself(work, r);

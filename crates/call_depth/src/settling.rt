@@ -81,6 +81,7 @@ impl Profile<'_> {
         requires { WordsReady (profile_now self) (slots_in self.text.now) work.old × (entry < length self.indices.now) }
         ensures { Stopped (profile_of self) entry work.new }
     {
+        // Kept: it goes on until a pass settles nothing new, or the row, and counts nothing.
         loop {
             let more = self.settle_pass(work);
             if more == 0 {

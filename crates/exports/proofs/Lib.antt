@@ -5,3 +5,4 @@ mod Naming
 mod Named
 mod Told
 mod GivingBoth
+mod Bits

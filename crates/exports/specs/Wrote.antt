@@ -11,6 +11,7 @@ use Rattle.loader.specs.Errors as load
 use Rattle.loader.specs.Load.{load_of_lent, answer_of}
 use Rattle.writers.specs.declared.LoadWrote.{LoadWrote}
 use Rattle.writers.specs.declared.Writer.{Writer}
+use Rattle.writers.specs.declared.text.LoadedText.{LoadedText}
 use Rattle.writers.specs.declared.Writer.TheVariants.{File, Call, Relocation}
 use Rattle.writers.specs.Asked.{text_of, asked_by}
 use Rattle.writers.specs.Loads.{LoadsAndTells}
@@ -47,8 +48,11 @@ refused_in loaded = answer_with (refusal_in loaded) (get_or loaded 1 0 ∷ get_o
 abbrev pub version2_in : List ℕ → Bool
 version2_in loaded = eqb (get_or loaded 4 0) 2
 
+abbrev pub text_told : List ℕ → LoadedText
+text_told loaded = record { version2 = version2_in loaded; start = get_or loaded 13 0; length = get_or loaded 14 0 }
+
 abbrev pub wrote_in : List ℕ → List ℕ → ℕ → Result Writer ElfError
-wrote_in file loaded b = asked_by file (version2_in loaded) (get_or loaded 13 0) (get_or loaded 14 0) b
+wrote_in file loaded b = asked_by file (text_told loaded) b
 
 -- WHO WROTE THE BYTE b
 unfoldable pub who_wrote_answer : List ℕ → List ℕ → ℕ → Answer
@@ -60,7 +64,7 @@ filled_answer (Err e) = reported (load.report_of e)
 
 -- WHO WROTE EACH BYTE, in n numbers: the answer, and the number at b
 unfoldable pub all_answer : List ℕ → List ℕ → ℕ → Answer
-all_answer file loaded n = filled_answer (filled_in (length file) n (text_of file (version2_in loaded) (get_or loaded 13 0) (get_or loaded 14 0))) if eqb (refusal_in loaded) 0 else refused_in loaded
+all_answer file loaded n = filled_answer (filled_in (length file) n (text_of file (text_told loaded))) if eqb (refusal_in loaded) 0 else refused_in loaded
 
 unfoldable pub all_number : List ℕ → List ℕ → ℕ → ℕ → ℕ
 all_number file loaded n b = (0 if ltb n (length file) else code_by (wrote_in file loaded b)) if eqb (refusal_in loaded) 0 else 0

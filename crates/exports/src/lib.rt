@@ -56,6 +56,7 @@ pub fn sbpf_parse(file: &[u8], answer: &mut [u64]) -> u32
 }
 
 // Where the contents of a section stand.
+// Kept: the four questions for a place are alike, and stand each under its name for C.
 pub fn sbpf_section_place(file: &[u8], index: u32, answer: &mut [u64]) -> u32
     ensures { GivesAsked file (λ f l. place_answer (section_place_of f l index)) answer result }
 {
@@ -109,6 +110,7 @@ pub fn sbpf_find_symbol(file: &[u8], name: &[u8], answer: &mut [u64]) -> u32
 }
 
 // The first used row with the key, whatever the five slices hold; at most the rows lent count.
+// Kept: the columns one by one here and below, as C lends them.
 pub fn sbpf_lookup(
     keys: &[u32],
     indices: &[u32],
@@ -178,6 +180,7 @@ pub fn sbpf_row_ascending(keys: &[u32], used: u64, key: u32) -> u64
 }
 
 // A load, as `loader::load`, with the settings by their bits.
+// Kept: the columns one by one, as C lends them.
 pub fn sbpf_load(
     file: &[u8],
     builtins: &[u32],
@@ -231,6 +234,7 @@ pub fn sbpf_who_wrote_all(
 
 // A load, as `sbpf_load`, and who wrote a byte of its image: the words of the load's answer, and behind
 // them the writer's two.
+// Kept: the columns one by one, as C lends them.
 pub fn sbpf_load_who_wrote(
     file: &[u8],
     builtins: &[u32],
@@ -268,6 +272,7 @@ pub fn sbpf_load_who_wrote(
 // Where the text stands among the read-only bytes of a load: by how many bytes are lent that hold
 // them, their offset, start and number, and the text's address and length, all but the first from
 // the answer of the load.
+// Kept: the numbers one by one, as C gives them.
 pub fn sbpf_text_place(
     lent: u64,
     ro_offset: u64,

@@ -1,31 +1,22 @@
 // The settings of a load by their bits, and what a load answers in words.
 ghost use Rattle.std.specs.Prelude.{◌≡◌, ◌<◌};
-ghost use Rattle.exports.specs.Answers.{bit_of, config_of, loaded_with, load_answer, text_answer};
+ghost use Rattle.exports.specs.Answers.{config_of, loaded_with, load_answer, text_answer};
 
 use crate::answers::{Answer, answer_with, reported};
 use elf_parser::Place;
 use loader::{Accepted, Config, ElfError, report_of};
-
-// Whether the bit of that value, a power of two, is set.
-#[tactic(auto, unfolding(crate::specs::Answers::bit_of))]
-fn bit(settings: u32, value: u32) -> bool
-    requires { 0 < value }
-    ensures { result ≡ bit_of settings value }
-{
-    (settings / value) % 2 == 1
-}
 
 // The settings of a load by their bits.
 pub(crate) fn config_of(settings: u32) -> Config
     ensures { result ≡ config_of settings }
 {
     Config {
-        enable_symbol_and_section_labels: bit(settings, 1),
-        reject_broken_elfs: bit(settings, 2),
-        external_internal_function_hash_collision: bit(settings, 4),
-        optimize_rodata: bit(settings, 8),
-        enable_sbpf_v1: bit(settings, 16),
-        enable_sbpf_v2: bit(settings, 32),
+        enable_symbol_and_section_labels: settings & 1 != 0,
+        reject_broken_elfs: settings & 2 != 0,
+        external_internal_function_hash_collision: settings & 4 != 0,
+        optimize_rodata: settings & 8 != 0,
+        enable_sbpf_v1: settings & 16 != 0,
+        enable_sbpf_v2: settings & 32 != 0,
     }
 }
 

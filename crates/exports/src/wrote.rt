@@ -1,30 +1,30 @@
 // Who wrote a byte, in words; and the words of a load's answer, which the questions take.
 ghost use Rattle.std.specs.Prelude.{◌≡◌};
-ghost use Rattle.exports.specs.Wrote.{kind_of, number_in, wrote_answer, refusal_in, refused_in, who_wrote_answer, filled_answer, Numbers, accepted_wrote, load_wrote_answer};
+ghost use Rattle.exports.specs.Wrote.{kind_of, number_in, wrote_answer, refusal_in, refused_in, text_told, who_wrote_answer, filled_answer, Numbers, accepted_wrote, load_wrote_answer};
 
 use crate::answers::{Answer, answer_with, reported, word_in};
 use crate::loading::loaded_with;
 use elf_parser::ElfParserError;
 use loader::{Accepted, ElfError, clear_words, report_of};
-use writers::{Writer, who_wrote_all_by, who_wrote_by};
+use writers::{LoadedText, Writer, who_wrote_all_by, who_wrote_by};
 
-fn kind_of(w: Writer) -> u64
-    ensures { result ≡ kind_of w }
-{
-    match w {
-        Writer::File => 0,
-        Writer::Call(_) => 1,
-        Writer::Relocation(_) => 2,
-    }
+// Who wrote a byte, in words: the kind of the writer, and the number of the slot or of the relocation.
+#[derive(Clone, Copy, PartialEq, Eq, Debug)]
+pub struct WriterWords {
+    pub kind: u64,
+    pub number: u64,
 }
 
-fn number_in(w: Writer) -> u64
-    ensures { result ≡ number_in w }
-{
-    match w {
-        Writer::File => 0,
-        Writer::Call(i) => i as u64,
-        Writer::Relocation(k) => k as u64,
+impl From<Writer> for WriterWords {
+    ghost from_gives = { λ w r. r ≡ record { kind = kind_of w; number = number_in w } };
+
+    fn from(w: Writer) -> WriterWords {
+        let (kind, number) = match w {
+            Writer::File => (0, 0),
+            Writer::Call(i) => (1, i as u64),
+            Writer::Relocation(k) => (2, k as u64),
+        };
+        WriterWords { kind, number }
     }
 }
 
@@ -32,7 +32,10 @@ fn wrote_answer(wrote: Result<Writer, ElfError>) -> Answer
     ensures { result ≡ wrote_answer wrote }
 {
     match wrote {
-        Ok(w) => answer_with(0, &[0, 0, 0, kind_of(w), number_in(w)]),
+        Ok(w) => {
+            let WriterWords { kind, number } = WriterWords::from(w);
+            answer_with(0, &[0, 0, 0, kind, number])
+        }
         Err(e) => reported(report_of(e)),
     }
 }
@@ -52,6 +55,17 @@ fn refused_in(loaded: &[u64]) -> Answer
     answer_with(refusal_in(loaded), &words)
 }
 
+// What they say of the text.
+fn text_told(loaded: &[u64]) -> LoadedText
+    ensures { result ≡ text_told loaded.now }
+{
+    LoadedText {
+        version2: word_in(loaded, 4) == 2,
+        start: word_in(loaded, 13) as usize,
+        length: word_in(loaded, 14) as usize,
+    }
+}
+
 // Who wrote a byte, by the words of a load's answer.
 #[tactic(auto, using(ebpf::specs::Choice::choices), unfolding(crate::specs::Wrote::who_wrote_answer))]
 pub(crate) fn who_wrote_answer(file: &[u8], loaded: &[u64], offset: u64) -> Answer
@@ -60,10 +74,7 @@ pub(crate) fn who_wrote_answer(file: &[u8], loaded: &[u64], offset: u64) -> Answ
     if refusal_in(loaded) != 0 {
         return refused_in(loaded);
     }
-    let version2 = word_in(loaded, 4) == 2;
-    let start = word_in(loaded, 13) as usize;
-    let length = word_in(loaded, 14) as usize;
-    wrote_answer(who_wrote_by(file, version2, start, length, offset))
+    wrote_answer(who_wrote_by(file, text_told(loaded), offset))
 }
 
 fn filled_answer(filled: Result<(), ElfError>) -> Answer
@@ -83,10 +94,7 @@ pub(crate) fn numbers_answer(numbers: &mut [u32], file: &[u8], loaded: &[u64]) -
         clear_words(numbers);
         return refused_in(loaded);
     }
-    let version2 = word_in(loaded, 4) == 2;
-    let start = word_in(loaded, 13) as usize;
-    let length = word_in(loaded, 14) as usize;
-    filled_answer(who_wrote_all_by(numbers, file, version2, start, length))
+    filled_answer(who_wrote_all_by(numbers, file, text_told(loaded)))
 }
 
 // The answer of an accepted load, with who wrote the byte behind it. An offset past the file's end
@@ -95,7 +103,10 @@ fn accepted_wrote(a: Accepted, wrote: Result<Writer, ElfError>) -> Answer
     ensures { result ≡ accepted_wrote a wrote }
 {
     match wrote {
-        Ok(w) => loaded_with(0, a, kind_of(w), number_in(w)),
+        Ok(w) => {
+            let WriterWords { kind, number } = WriterWords::from(w);
+            loaded_with(0, a, kind, number)
+        }
         Err(ElfError::FailedToParse(ElfParserError::NoSuchIndex)) => loaded_with(45, a, 0, 0),
         Err(e) => reported(report_of(e)),
     }

@@ -1,7 +1,8 @@
 #![tactic(auto)]
-// Reading until a buffer is full.
+// Reading until a buffer is full, and record by record.
 ghost use Rattle.std.specs.Prelude.{◌<◌, ◌≤◌, length, take, IfOk};
 ghost use Rattle.std.specs.Io.KnownBytes.{Consumes, IsAtEnd};
+ghost use Rattle.input.specs.Repeats.{Repeats};
 
 use std::io;
 use std::io::Read;
@@ -15,6 +16,7 @@ pub fn read_full<R: Read>(input: &mut R, bytes: &mut [u8]) -> io::Result<usize>
     ensures end { IfOk result (λ n. n < length bytes.new → IsAtEnd (R.remaining input.new)) }
 {
     let mut filled = 0;
+    // Kept: each read gives its own length, so that no range counts the turns.
     while filled < bytes.len() {
         let n = input.read(&mut bytes[filled..])?;
         if n == 0 {
@@ -23,4 +25,18 @@ pub fn read_full<R: Read>(input: &mut R, bytes: &mut [u8]) -> io::Result<usize>
         filled += n;
     }
     Ok(filled)
+}
+
+// Calls `next`, which answers whether there was one more, until there is none: `most` times at most,
+// since a loop needs a bound and an input gives none.
+pub fn until_none<F: FnMut() -> io::Result<bool>>(most: usize, mut next: F) -> io::Result<()>
+    requires { F.IsAlwaysCallable next }
+    ensures { (last : F) × Repeats F.step most next result last }
+{
+    for done in 0..most {
+        if !next()? {
+            return Ok(());
+        }
+    }
+    Ok(())
 }

@@ -2,20 +2,16 @@
 ghost use Rattle.std.specs.Prelude.{◌+◌, ◌≤◌, length};
 
 use ebpf::hash_symbol_name;
+use elf_parser::Report;
 use loader::{Accepted, ElfError, get_text_place, report_of};
+use program::FunctionTable;
 use std::io;
 
 // The bytes of five columns of 256 numbers.
 const COLUMNS_SIZE: usize = 5120;
 
-fn print_refused(
-    rt: &impl Print,
-    number: u64,
-    value: u64,
-    start: u64,
-    length: u64,
-) -> io::Result<()> {
-    print!(rt; "refused {number} {value} {start} {length}")
+fn print_refused(rt: &impl Print, r: Report) -> io::Result<()> {
+    print!(rt; "refused {} {} {} {}", r.number, r.value, r.start, r.length)
 }
 
 fn print_read_only(rt: &impl Print, a: Accepted) -> io::Result<()> {
@@ -58,10 +54,7 @@ fn print_answer(
             print_accepted(rt, a)?;
             print_text_number(rt, a, image_length, ro_length)
         }
-        Err(e) => {
-            let r = report_of(e);
-            print_refused(rt, r.number as u64, r.value, r.start, r.length)
-        }
+        Err(e) => print_refused(rt, report_of(e)),
     }
 }
 
@@ -93,20 +86,12 @@ fn put_column(bytes: &mut [u8], at: usize, column: &[u32]) -> usize
 }
 
 // The hash of the columns one after the other, over bytes that hold them.
-fn print_columns_hash(
-    rt: &impl Print,
-    bytes: &mut [u8],
-    keys: &[u32],
-    indices: &[u32],
-    kinds: &[u32],
-    starts: &[u32],
-    lengths: &[u32],
-) -> io::Result<()> {
-    let a = put_column(bytes, 0, keys);
-    let b = put_column(bytes, a, indices);
-    let c = put_column(bytes, b, kinds);
-    let d = put_column(bytes, c, starts);
-    let e = put_column(bytes, d, lengths);
+fn print_columns_hash(rt: &impl Print, bytes: &mut [u8], table: FunctionTable) -> io::Result<()> {
+    let a = put_column(bytes, 0, table.keys);
+    let b = put_column(bytes, a, table.indices);
+    let c = put_column(bytes, b, table.kinds);
+    let d = put_column(bytes, c, table.starts);
+    let e = put_column(bytes, d, table.lengths);
     print_hash(rt, &bytes[..e])
 }
 
@@ -115,16 +100,12 @@ pub(crate) fn print_line(
     answer: Result<Accepted, ElfError>,
     image: &[u8],
     ro_section: &[u8],
-    keys: &[u32],
-    indices: &[u32],
-    kinds: &[u32],
-    starts: &[u32],
-    lengths: &[u32],
+    table: FunctionTable,
 ) -> io::Result<()> {
     print_answer(rt, answer, image.len() as u64, ro_section.len() as u64)?;
     print_hash(rt, image)?;
     print_hash(rt, ro_section)?;
     let mut bytes = [0u8; COLUMNS_SIZE];
-    print_columns_hash(rt, &mut bytes, keys, indices, kinds, starts, lengths)?;
+    print_columns_hash(rt, &mut bytes, table)?;
     println!(rt; "")
 }

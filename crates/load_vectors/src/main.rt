@@ -4,9 +4,10 @@
 // README.md says how. What a case is lent are parts of arrays of fixed lengths, filled with
 // anything but zeros, so that what a load should clear and does not changes a hash of the line.
 use ebpf::little_endian::read;
-use input::read_full;
+use input::{read_full, until_none};
 use lines::print_line;
 use loader::{Config, load};
+use program::FunctionTable;
 use std::io;
 use std::io::Read;
 
@@ -26,7 +27,7 @@ const HEAD_SIZE: usize = 40;
 const MOST_CASES: usize = 100000;
 
 // The numbers of a case: the settings by their bits, and how long everything is.
-#[derive(Clone, Copy)]
+#[derive(Clone, Copy, PartialEq, Eq, Debug)]
 struct Sizes {
     file: usize,
     settings: u32,
@@ -41,7 +42,7 @@ struct Sizes {
 }
 
 // Kept: three outcomes, since the end of the input is neither a case nor a bad one.
-#[derive(Clone, Copy)]
+#[derive(Clone, Copy, PartialEq, Eq, Debug)]
 enum Head {
     Case(Sizes),
     Cut,
@@ -73,18 +74,13 @@ fn read_head(input: &mut impl Read) -> io::Result<Head> {
 
 fn config_of(settings: u32) -> Config {
     Config {
-        enable_symbol_and_section_labels: settings % 2 == 1,
-        reject_broken_elfs: settings / 2 % 2 == 1,
-        external_internal_function_hash_collision: settings / 4 % 2 == 1,
-        optimize_rodata: settings / 8 % 2 == 1,
-        enable_sbpf_v1: settings / 16 % 2 == 1,
-        enable_sbpf_v2: settings / 32 % 2 == 1,
+        enable_symbol_and_section_labels: settings & 1 != 0,
+        reject_broken_elfs: settings & 2 != 0,
+        external_internal_function_hash_collision: settings & 4 != 0,
+        optimize_rodata: settings & 8 != 0,
+        enable_sbpf_v1: settings & 16 != 0,
+        enable_sbpf_v2: settings & 32 != 0,
     }
-}
-
-fn bad_case(rt: &impl Print) -> io::Result<bool> {
-    println!(rt; "bad case")?;
-    Ok(false)
 }
 
 // Reads until the bytes are full, and answers whether they are.
@@ -117,18 +113,24 @@ fn replay(
     let answer = load(
         file, builtins, config, image, ro_section, keys, indices, kinds, starts, lengths,
     );
-    print_line(
-        rt, answer, image, ro_section, keys, indices, kinds, starts, lengths,
-    )
+    let table = FunctionTable {
+        keys,
+        indices,
+        kinds,
+        starts,
+        lengths,
+        used: 0,
+    };
+    print_line(rt, answer, image, ro_section, table)
 }
 
-// Lends what the case asks for.
+// Lends what the case asks for, where it asks for no more than there is.
 fn lend(rt: &impl Print, c: Sizes, file: &[u8], builtins: &[u32]) -> io::Result<bool> {
     if LENT < c.image || LENT < c.ro_section {
-        return bad_case(rt);
+        return Ok(false);
     }
     if ROWS < c.keys || ROWS < c.indices || ROWS < c.kinds || ROWS < c.starts || ROWS < c.lengths {
-        return bad_case(rt);
+        return Ok(false);
     }
     let mut image = [0xa1u8; LENT];
     let mut ro_section = [0xa2u8; LENT];
@@ -163,37 +165,37 @@ fn read_case(
     bytes: &mut [u8],
 ) -> io::Result<bool> {
     if file.len() < c.file || builtins.len() < c.builtins || bytes.len() / 4 < c.builtins {
-        return bad_case(rt);
+        return Ok(false);
     }
     let size = 4 * c.builtins;
     if !read_whole(input, &mut bytes[..size])? {
-        return bad_case(rt);
+        return Ok(false);
     }
     if !read_whole(input, &mut file[..c.file])? {
-        return bad_case(rt);
+        return Ok(false);
     }
     fill_keys(builtins, bytes);
     lend(rt, c, &file[..c.file], &builtins[..c.builtins])
 }
 
-// One case, and whether it was a whole one.
+// One case, and whether there was a whole one.
 fn next_case(rt: &impl Print, input: &mut impl Read) -> io::Result<bool> {
     let mut file = [0u8; LENT];
     let mut builtins = [0u32; BUILTINS];
     let mut bytes = [0u8; BUILTINS_SIZE];
-    match read_head(input)? {
-        Head::Case(c) => read_case(rt, input, c, &mut file, &mut builtins, &mut bytes),
-        Head::Cut => bad_case(rt),
-        Head::End => Ok(false),
+    let whole = match read_head(input)? {
+        Head::Case(c) => read_case(rt, input, c, &mut file, &mut builtins, &mut bytes)?,
+        Head::Cut => false,
+        Head::End => return Ok(false),
+    };
+    if !whole {
+        println!(rt; "bad case")?;
     }
+    Ok(whole)
 }
 
+// Kept: each program has a main of its own, with its bound and its record.
 fn main(rt: HostRuntime) -> io::Result<()> {
     let mut input = rt.stdin();
-    for _ in 0..MOST_CASES {
-        if !next_case(&rt, &mut input)? {
-            break;
-        }
-    }
-    Ok(())
+    until_none(MOST_CASES, || next_case(&rt, &mut input))
 }

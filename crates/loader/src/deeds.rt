@@ -90,13 +90,12 @@ pub(crate) fn store_u32(image: &mut [u8], at: usize, v: u32)
 }
 
 // Two halves of a number.
-#[tactic(auto, using(ebpf::specs::Choice::choices), unfolding(crate::specs::Bytes::put))]
 fn store_halves(image: &mut [u8], low: usize, high: usize, v: u64)
     requires { (low + 4 ≤ length image.old) × (high + 4 ≤ length image.old) }
     ensures { image.new ≡ put 4 (put 4 image.old low (v % 2 ^ 32)) high (v / 2 ^ 32) }
 {
-    store_u32(image, low, (v % 0x1_0000_0000) as u32);
-    store_u32(image, high, (v / 0x1_0000_0000) as u32);
+    store_u32(image, low, (v & 0xffff_ffff) as u32);
+    store_u32(image, high, (v >> 32) as u32);
 }
 
 // The bytes that a deed writes.

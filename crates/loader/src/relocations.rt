@@ -327,7 +327,7 @@ fn relative_value(version2: bool, upper: u64, whole: u64) -> u64
 fn join_halves(low: u32, high: u32) -> u64
     ensures { result ≡ join 4 low high }
 {
-    low as u64 + high as u64 * 0x1_0000_0000
+    u64::from(low) | (u64::from(high) << 32)
 }
 
 // Type 8 in the text: the addend, or the address whose halves are there.

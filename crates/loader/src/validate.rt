@@ -63,12 +63,7 @@ fn check_sizes(len: u64, image: u64, ro: u64) -> Result<(), ElfError>
 fn is_ascending(s: &[u32]) -> bool
     ensures { result ≡ ascends s.now }
 {
-    for i in 1..s.len() {
-        if s[i] <= s[i - 1] {
-            return false;
-        }
-    }
-    true
+    s.is_sorted_by(|x, y| x < y)
 }
 
 // The file header's part: ABI, machine, type, version, and version 2's limits.

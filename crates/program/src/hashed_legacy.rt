@@ -2,7 +2,7 @@
 // the name, and whether a built-in has the key. Values only; the caller registers the row.
 ghost use Rattle.std.specs.Prelude.{◌≡◌};
 ghost use Rattle.program.specs.Search.{is_among};
-ghost use Rattle.program.specs.HashedLegacy.{is_entrypoint, legacy_key, kept_name, kept_symbol, is_taken, legacy_row};
+ghost use Rattle.program.specs.HashedLegacy.{is_entrypoint, legacy_key, kept_name, is_taken, legacy_row};
 
 use crate::{FunctionName, KeptName, Row, SymbolHashCollision, search};
 
@@ -41,40 +41,28 @@ const EMPTY: KeptName = KeptName {
     length: 0,
 };
 
-#[tactic(auto, using(ebpf::specs::Choice::choices), unfolding(crate::specs::HashedLegacy::kept_symbol))]
-fn kept_symbol(labels: bool, start: u32, length: u32, entrypoint: bool) -> KeptName
-    ensures { result ≡ kept_symbol labels start length entrypoint }
-{
-    if length == 0 {
-        return EMPTY;
-    }
-    if labels | entrypoint {
-        return KeptName {
-            kind: crate::NAME_IN_FILE,
-            start,
-            length,
-        };
-    }
-    EMPTY
-}
-
 // What a row keeps of a name. Without labels only the name entrypoint is kept.
-#[tactic(auto, using(ebpf::specs::Choice::choices))]
+#[tactic(auto, using(ebpf::specs::Choice::choices), unfolding(crate::specs::HashedLegacy::kept_symbol))]
 pub fn kept_name(labels: bool, name: FunctionName) -> KeptName
     ensures { result ≡ kept_name labels name }
 {
     match name {
+        FunctionName::Symbol { length: 0, .. } => EMPTY,
         FunctionName::Symbol {
             start,
             length,
             entrypoint,
-        } => kept_symbol(labels, start, length, entrypoint),
+        } if labels | entrypoint => KeptName {
+            kind: crate::NAME_IN_FILE,
+            start,
+            length,
+        },
         FunctionName::OfIndex if labels => KeptName {
             kind: crate::NAME_OF_INDEX,
             start: 0,
             length: 0,
         },
-        FunctionName::OfIndex => EMPTY,
+        FunctionName::Symbol { .. } | FunctionName::OfIndex => EMPTY,
         FunctionName::Entrypoint => KeptName {
             kind: crate::NAME_ENTRYPOINT,
             start: 0,

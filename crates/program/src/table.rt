@@ -89,6 +89,7 @@ impl FunctionTable<'_> {
 // The number of the row under a key, as `lookup_ascending` finds it, by the column of keys alone: the
 // caller reads what it needs of that row in its own columns. As many rows count as the column has
 // numbers.
+// Kept: the column and no table, since a caller has one or two columns at hand.
 #[tactic(auto, using(crate::proofs::Steps::row_past, crate::proofs::Steps::row_other, crate::proofs::Steps::row_here))]
 pub fn row_ascending(keys: &[u32], used: usize, key: u32) -> Option<usize>
     ensures { result ≡ row_ascending_in keys.now used key }
@@ -103,6 +104,7 @@ pub fn row_ascending(keys: &[u32], used: usize, key: u32) -> Option<usize>
 
 // The index of that row, by the columns of keys and indices alone: what a call needs, with less to hand
 // over. As many rows count as the shorter column has numbers.
+// Kept: the two columns and no table, likewise.
 #[tactic(auto, using(crate::proofs::Steps::row_inside), unfolding(crate::specs::Table::index_ascending_in))]
 pub fn index_ascending(keys: &[u32], indices: &[u32], used: usize, key: u32) -> Option<u32>
     ensures { result ≡ index_ascending_in keys.now indices.now used key }

@@ -4,6 +4,7 @@
 // question: `refused` likewise, or how many bytes and where they start, or whether there is a symbol and
 // its number, or who wrote a byte.
 use ebpf::little_endian::read;
+use program::FunctionTable;
 use std::io;
 
 // The longest file, and the most rows.
@@ -19,31 +20,13 @@ fn print_words(rt: &impl Print, answer: &[u64; 24], from: usize, to: usize) -> i
     Ok(())
 }
 
-fn print_row(
-    rt: &impl Print,
-    key: u32,
-    index: u32,
-    kind: u32,
-    start: u32,
-    length: u32,
-) -> io::Result<()> {
-    print!(rt; " | {key} {index} {kind} {start} {length}")
-}
-
 // The used rows; no more than there are.
-fn print_rows(
-    rt: &impl Print,
-    keys: &[u32; ROWS],
-    indices: &[u32; ROWS],
-    kinds: &[u32; ROWS],
-    starts: &[u32; ROWS],
-    lengths: &[u32; ROWS],
-    used: u64,
-) -> io::Result<()> {
-    for i in 0..ROWS {
-        if (i as u64) < used {
-            print_row(rt, keys[i], indices[i], kinds[i], starts[i], lengths[i])?;
-        }
+fn print_rows(rt: &impl Print, table: FunctionTable) -> io::Result<()> {
+    for i in 0..table.used.min(table.rows_lent()) {
+        print!(rt;
+            " | {} {} {} {} {}",
+            table.keys[i], table.indices[i], table.kinds[i], table.starts[i], table.lengths[i]
+        )?;
     }
     Ok(())
 }
@@ -70,17 +53,17 @@ fn print_refused(rt: &impl Print, answer: &[u64; 24]) -> io::Result<()> {
     println!(rt; "")
 }
 
-pub(crate) fn print_place(rt: &impl Print, number: u32, answer: &[u64; 24]) -> io::Result<()> {
+// An answer that is no refusal, by what prints it, or else the refusal.
+pub(crate) fn print_answer<P: FnOnce() -> io::Result<()>>(
+    rt: &impl Print,
+    number: u32,
+    answer: &[u64; 24],
+    print: P,
+) -> io::Result<()>
+    requires { P.IsAlwaysCallable print }
+{
     if number == 0 {
-        println!(rt; "{} bytes at {}", answer[5], answer[4])
-    } else {
-        print_refused(rt, answer)
-    }
-}
-
-pub(crate) fn print_symbol(rt: &impl Print, number: u32, answer: &[u64; 24]) -> io::Result<()> {
-    if number == 0 {
-        println!(rt; "symbol {} {}", answer[4], answer[5])
+        print()
     } else {
         print_refused(rt, answer)
     }
@@ -94,35 +77,27 @@ pub(crate) fn print_writer(
     asked: &[u64; 24],
     code: u32,
 ) -> io::Result<()> {
-    if number == 0 {
+    print_answer(rt, number, asked, || {
         println!(rt;
             "by {} {}, {} {}, {code}",
             loaded[15], loaded[16], asked[4], asked[5]
         )
-    } else {
-        print_refused(rt, asked)
-    }
+    })
 }
 
-pub(crate) fn print_line(
+pub(crate) fn print_load(
     rt: &impl Print,
     number: u32,
     answer: &[u64; 24],
     file: &[u8],
     image: &[u8; FILE],
-    keys: &[u32; ROWS],
-    indices: &[u32; ROWS],
-    kinds: &[u32; ROWS],
-    starts: &[u32; ROWS],
-    lengths: &[u32; ROWS],
+    table: FunctionTable,
 ) -> io::Result<()> {
-    if number == 0 {
+    print_answer(rt, number, answer, || {
         print!(rt; "accepted")?;
         print_words(rt, answer, 4, 15)?;
-        print_rows(rt, keys, indices, kinds, starts, lengths, answer[6])?;
+        print_rows(rt, table)?;
         print_written(rt, file, image)?;
         println!(rt; "")
-    } else {
-        print_refused(rt, answer)
-    }
+    })
 }

@@ -12,8 +12,9 @@ use exports::{
     sbpf_dynamic_symbol_name, sbpf_find_symbol, sbpf_load, sbpf_load_who_wrote, sbpf_section_name,
     sbpf_section_place, sbpf_symbol_name, sbpf_who_wrote, sbpf_who_wrote_all,
 };
-use input::read_full;
-use lines::{FILE, ROWS, print_line, print_place, print_symbol, print_writer};
+use input::{read_full, until_none};
+use lines::{FILE, ROWS, print_answer, print_load, print_writer};
+use program::FunctionTable;
 use std::io;
 use std::io::Read;
 
@@ -27,21 +28,34 @@ const NAME: usize = 64;
 // More examples than there are: a loop needs a bound, and the input gives none.
 const MOST: usize = 1000;
 
-fn bad_record(rt: &impl Print) -> io::Result<bool> {
-    println!(rt; "bad record")?;
-    Ok(false)
+// The numbers of a record.
+#[derive(Clone, Copy, PartialEq, Eq, Debug)]
+struct Record {
+    length: usize,
+    settings: u32,
+    builtins: usize,
+    builtin: u32,
+    rows: usize,
+    question: u32,
+    number: u32,
+}
+
+fn record_of(bytes: &[u8; NUMBERS]) -> Record {
+    Record {
+        length: read::<u32>(bytes, 0) as usize,
+        settings: read(bytes, 4),
+        builtins: read::<u32>(bytes, 8) as usize,
+        builtin: read(bytes, 12),
+        rows: read::<u32>(bytes, 16) as usize,
+        question: read(bytes, 20),
+        number: read(bytes, 24),
+    }
 }
 
 // Loads, and prints what was answered. The shortest column says how many rows there are.
-fn load_and_print(
-    rt: &impl Print,
-    file: &[u8],
-    builtins: &[u32],
-    settings: u32,
-    rows: usize,
-) -> io::Result<bool> {
-    if ROWS < rows {
-        return bad_record(rt);
+fn load_and_print(rt: &impl Print, file: &[u8], record: Record) -> io::Result<bool> {
+    if 1 < record.builtins || ROWS < record.rows {
+        return Ok(false);
     }
     let mut image = [0xa1u8; FILE];
     let mut ro = [0xa2u8; FILE];
@@ -51,22 +65,29 @@ fn load_and_print(
     let mut starts = [0xa6a6_a6a6u32; ROWS];
     let mut lengths = [0xa7a7_a7a7u32; ROWS];
     let mut answer = [0xa8a8_a8a8u64; 24];
+    let builtin = [record.builtin];
     let number = sbpf_load(
         file,
-        builtins,
-        settings,
+        &builtin[..record.builtins],
+        record.settings,
         &mut image,
         &mut ro,
         &mut keys,
         &mut indices,
         &mut kinds,
         &mut starts,
-        &mut lengths[..rows],
+        &mut lengths[..record.rows],
         &mut answer,
     );
-    print_line(
-        rt, number, &answer, file, &image, &keys, &indices, &kinds, &starts, &lengths,
-    )?;
+    let table = FunctionTable {
+        keys: &keys,
+        indices: &indices,
+        kinds: &kinds,
+        starts: &starts,
+        lengths: &lengths,
+        used: answer[6] as usize,
+    };
+    print_load(rt, number, &answer, file, &image, table)?;
     Ok(true)
 }
 
@@ -83,16 +104,9 @@ fn print_wrote(rt: &impl Print, file: &[u8], loaded: &[u64; 24], offset: u64) ->
 }
 
 // Loads, with the question who wrote a byte.
-fn load_and_print_wrote(
-    rt: &impl Print,
-    file: &[u8],
-    builtins: &[u32],
-    settings: u32,
-    rows: usize,
-    offset: u64,
-) -> io::Result<bool> {
-    if ROWS < rows {
-        return bad_record(rt);
+fn load_and_print_wrote(rt: &impl Print, file: &[u8], record: Record) -> io::Result<bool> {
+    if 1 < record.builtins || ROWS < record.rows {
+        return Ok(false);
     }
     let mut image = [0xa1u8; FILE];
     let mut ro = [0xa2u8; FILE];
@@ -102,41 +116,37 @@ fn load_and_print_wrote(
     let mut starts = [0xa6a6_a6a6u32; ROWS];
     let mut lengths = [0xa7a7_a7a7u32; ROWS];
     let mut answer = [0xa8a8_a8a8u64; 24];
+    let builtin = [record.builtin];
     sbpf_load_who_wrote(
         file,
-        builtins,
-        settings,
+        &builtin[..record.builtins],
+        record.settings,
         &mut image,
         &mut ro,
         &mut keys,
         &mut indices,
         &mut kinds,
         &mut starts,
-        &mut lengths[..rows],
-        offset,
+        &mut lengths[..record.rows],
+        record.number as u64,
         &mut answer,
     );
-    print_wrote(rt, file, &answer, offset)?;
+    print_wrote(rt, file, &answer, record.number as u64)?;
     Ok(true)
 }
 
-fn ask(file: &[u8], question: u32, number: u32, answer: &mut [u64]) -> u32 {
-    match question {
-        1 => sbpf_section_place(file, number, answer),
-        2 => sbpf_section_name(file, number, answer),
-        3 => sbpf_symbol_name(file, number, answer),
-        _ => sbpf_dynamic_symbol_name(file, number, answer),
-    }
-}
-
-// Asks the file, and prints what was answered.
-fn ask_and_print(rt: &impl Print, file: &[u8], question: u32, number: u32) -> io::Result<bool> {
-    if 4 < question {
-        return bad_record(rt);
-    }
+// Asks the file for a place, and prints what was answered.
+fn ask_and_print<F: FnOnce(&mut [u64]) -> u32>(rt: &impl Print, ask: F) -> io::Result<bool>
+    requires { F.IsAlwaysCallable ask }
+{
     let mut answer = [0xa8a8_a8a8u64; 24];
-    let refused = ask(file, question, number, &mut answer);
-    print_place(rt, refused, &answer)?;
+    let number = ask(&mut answer);
+    print_answer(
+        rt,
+        number,
+        &answer,
+        || println!(rt; "{} bytes at {}", answer[5], answer[4]),
+    )?;
     Ok(true)
 }
 
@@ -149,57 +159,43 @@ fn find_and_print(
     length: usize,
 ) -> io::Result<bool> {
     if name.len() < length {
-        return bad_record(rt);
+        return Ok(false);
     }
     read_full(input, &mut name[..length])?;
     let mut answer = [0xa8a8_a8a8u64; 24];
-    let refused = sbpf_find_symbol(file, &name[..length], &mut answer);
-    print_symbol(rt, refused, &answer)?;
+    let number = sbpf_find_symbol(file, &name[..length], &mut answer);
+    print_answer(
+        rt,
+        number,
+        &answer,
+        || println!(rt; "symbol {} {}", answer[4], answer[5]),
+    )?;
     Ok(true)
 }
 
-// Loads the file as a record's numbers say, with the question who wrote a byte or without it.
-fn run_load(
-    rt: &impl Print,
-    numbers: &[u8; NUMBERS],
-    file: &[u8],
-    count: usize,
-    question: u32,
-) -> io::Result<bool> {
-    let builtins = [read::<u32>(numbers, 12)];
-    if 6 < question || 1 < count {
-        return bad_record(rt);
-    }
-    let builtins = &builtins[..count];
-    let settings = read::<u32>(numbers, 4);
-    let rows = read::<u32>(numbers, 16) as usize;
-    if question == 6 {
-        let offset = read::<u32>(numbers, 24) as u64;
-        return load_and_print_wrote(rt, file, builtins, settings, rows, offset);
-    }
-    load_and_print(rt, file, builtins, settings, rows)
-}
-
-// Reads the file behind a record's numbers, and loads or asks it.
+// Reads the file behind a record's numbers, and loads or asks it; whether the record was a right one.
 fn run(
     rt: &impl Print,
     input: &mut impl Read,
-    numbers: &[u8; NUMBERS],
+    record: Record,
     file: &mut [u8],
     name: &mut [u8],
 ) -> io::Result<bool> {
-    let length = read::<u32>(numbers, 0) as usize;
-    if file.len() < length {
-        return bad_record(rt);
+    if file.len() < record.length {
+        return Ok(false);
     }
-    read_full(input, &mut file[..length])?;
-    let file = &file[..length];
-    let count = read::<u32>(numbers, 8) as usize;
-    let number = read::<u32>(numbers, 24);
-    match read::<u32>(numbers, 20) {
+    read_full(input, &mut file[..record.length])?;
+    let file = &file[..record.length];
+    let number = record.number;
+    match record.question {
+        0 => load_and_print(rt, file, record),
+        1 => ask_and_print(rt, |answer| sbpf_section_place(file, number, answer)),
+        2 => ask_and_print(rt, |answer| sbpf_section_name(file, number, answer)),
+        3 => ask_and_print(rt, |answer| sbpf_symbol_name(file, number, answer)),
+        4 => ask_and_print(rt, |answer| sbpf_dynamic_symbol_name(file, number, answer)),
         5 => find_and_print(rt, input, file, name, number as usize),
-        question @ 1..=4 => ask_and_print(rt, file, question, number),
-        question => run_load(rt, numbers, file, count, question),
+        6 => load_and_print_wrote(rt, file, record),
+        _ => Ok(false),
     }
 }
 
@@ -214,15 +210,15 @@ fn next_record(rt: &impl Print, input: &mut impl Read) -> io::Result<bool> {
     }
     rt.write_all(&title)?;
     read_full(input, &mut numbers)?;
-    run(rt, input, &numbers, &mut file, &mut name)
+    let right = run(rt, input, record_of(&numbers), &mut file, &mut name)?;
+    if !right {
+        println!(rt; "bad record")?;
+    }
+    Ok(right)
 }
 
+// Kept: each program has a main of its own, with its bound and its record.
 fn main(rt: HostRuntime) -> io::Result<()> {
     let mut input = rt.stdin();
-    for _ in 0..MOST {
-        if !next_record(&rt, &mut input)? {
-            break;
-        }
-    }
-    Ok(())
+    until_none(MOST, || next_record(&rt, &mut input))
 }

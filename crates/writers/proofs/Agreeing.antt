@@ -37,7 +37,7 @@ use Rattle.writers.specs.declared.Writer.{Writer}
 use Rattle.writers.specs.declared.Writer.TheVariants.{File}
 use Rattle.elf_parser.specs.declared.error.ElfParserError.TheVariants.{NoSuchIndex}
 use Rattle.loader.specs.declared.error.ElfError.TheVariants.{FailedToParse}
-use Rattle.writers.specs.Asked.{text_in, text_of, asked}
+use Rattle.writers.specs.Asked.{text_loaded, text_in, text_of, asked}
 use Rattle.writers.specs.Writers.{writer_of, wrote_by, wrote_of}
 use Rattle.writers.proofs.Writing.{text_is, writer_named, unwritten}
 use Rattle.elf_parser.specs.declared.error.ElfParserError.{ElfParserError}
@@ -97,7 +97,7 @@ text_told : (s : List ℕ) (j : Job) (a : Accepted) → InFile s j → Read s j
     → a.version ≡ (2 if j.version2 else 1)
     → a.text_start ≡ j.start
     → a.text_length ≡ j.length
-    → text_of s (eqb a.version 2) a.text_start a.text_length ≡ Ok (text_is j)
+    → text_of s (text_loaded a) ≡ Ok (text_is j)
 unfolding text_of text_in ◌if◌else◌
 text_told s j a inside read v p n =
     rw (le-ltb 0x100_0000 (length s) inside.short, p, n, le-ltb (length s) (j.start + j.length) inside.text, read.layout_is, v, version_told j.version2, headers_counted s j.layout read.layout_is, read.few) refl

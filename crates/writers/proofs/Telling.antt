@@ -17,6 +17,7 @@ use Rattle.loader.specs.declared.error.ElfError.TheVariants.{FailedToParse, Buff
 use Rattle.loader.specs.Relocations.{few_relocations}
 use Rattle.loader.specs.Results.{not_ok}
 use Rattle.writers.specs.declared.text.Text.{Text}
+use Rattle.writers.specs.declared.text.LoadedText.{LoadedText}
 use Rattle.writers.specs.Named.{by_names}
 use Rattle.writers.specs.Asked.{text_in, text_by, text_of, asked_in, Askable}
 use Rattle.writers.specs.Whole.{code_of, code_by, filled_in, OnlyZeros}
@@ -25,25 +26,25 @@ use Rattle.elf_parser.specs.declared.error.ElfParserError.{ElfParserError}
 
 -- ---- the text of a file
 
-module _ (file : List ℕ) (version2 : Bool) (start n : ℕ) (t : Text) (short : length file ≤ 2 ^ 24) (inside : start + n ≤ length file) where
-  askable_in : (l : Layout) → parsed file ≡ Ok l → text_in l version2 start n ≡ Ok t → Askable file t
+module _ (file : List ℕ) (x : LoadedText) (t : Text) (short : length file ≤ 2 ^ 24) (inside : x.start + x.length ≤ length file) where
+  askable_in : (l : Layout) → parsed file ≡ Ok l → text_in l x ≡ Ok t → Askable file t
   unfolding text_in
   askable_in l q e =
-      let x : Text = record { layout = l; version2 = version2; start = start; length = n } in
-      let is : x ≡ t = ok_is _ _ (row_rest _ _ _ _ (not_ok _ _) e) in
+      let whole : Text = record { layout = l; loaded = x } in
+      let is : whole ≡ t = ok_is _ _ (row_rest _ _ _ _ (not_ok _ _) e) in
       let few = few_relocations file l q in
       subst (Askable file) is (record { short = short; text = inside; relocations = few.0; relas = few.1 })
 
-  askable_by : (p : Result Layout ElfParserError) → parsed file ≡ p → text_by p version2 start n ≡ Ok t → Askable file t
+  askable_by : (p : Result Layout ElfParserError) → parsed file ≡ p → text_by p x ≡ Ok t → Askable file t
   askable_by (Err r) q e = absurd (not_ok _ _ e)
   askable_by (Ok l) q e = askable_in l q e
 
-pub askable : (file : List ℕ) (version2 : Bool) (start n : ℕ) (t : Text) → text_of file version2 start n ≡ Ok t → Askable file t
+pub askable : (file : List ℕ) (x : LoadedText) (t : Text) → text_of file x ≡ Ok t → Askable file t
 unfolding text_of
-askable file version2 start n t e =
+askable file x t e =
     let e2 = row_rest _ _ _ _ (not_ok _ _) e in
     let e3 = row_rest _ _ _ _ (not_ok _ _) e2 in
-    askable_by file version2 start n t (ltb-false _ _ (not_first _ _ _ _ (not_ok _ _) e)) (ltb-false _ _ (not_first _ _ _ _ (not_ok _ _) e2)) (parsed file) refl e3
+    askable_by file x t (ltb-false _ _ (not_first _ _ _ _ (not_ok _ _) e)) (ltb-false _ _ (not_first _ _ _ _ (not_ok _ _) e2)) (parsed file) refl e3
 
 -- ---- the numbers of n that are lent
 

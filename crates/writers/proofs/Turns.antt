@@ -23,10 +23,10 @@ pub none_used : (file : List ℕ) (l : Layout) (version2 : Bool) → None ≡ us
 unfolding used_before
 none_used file l version2 = refl
 
-module _ (file : List ℕ) (t : Text) (header : Option UsedHeader) (i : ℕ) (x : Next) (before : header ≡ used_before file t.layout t.version2 i) (goes : NamesNext file t header i x) where
+module _ (file : List ℕ) (t : Text) (header : Option UsedHeader) (i : ℕ) (x : Next) (before : header ≡ used_before file t.layout t.loaded.version2 i) (goes : NamesNext file t header i x) where
   -- the header used last, behind this one
-  pub next_used : x.header ≡ used_before file t.layout t.version2 (i + 1)
-  next_used = rw (goes.used, before) (sym (used_next file t.layout t.version2 i))
+  pub next_used : x.header ≡ used_before file t.layout t.loaded.version2 (i + 1)
+  next_used = rw (goes.used, before) (sym (used_next file t.layout t.loaded.version2 i))
 
   -- the bytes that it names
   pub next_names : (b : ℕ) → is_named x.named b ≡ names_byte file t i b

@@ -1,5 +1,5 @@
 -- The question about a load already made: its answer and the file. On every input, an answer too that no load of this file gave.
-use Rattle.std.specs.Prelude.{ℕ, ◌+◌, ◌*◌, ◌≤◌, ◌^◌, Bool, ◌&&◌, List, length, ltb, leb, eqb, Result, Ok, Err}
+use Rattle.std.specs.Prelude.{ℕ, ◌+◌, ◌*◌, ◌≤◌, ◌^◌, ◌&&◌, List, length, ltb, leb, eqb, Result, Ok, Err}
 use Rattle.ebpf.specs.Choice.{◌if◌else◌}
 use Rattle.elf_parser.specs.declared.error.ElfParserError.TheVariants.{InvalidProgramHeader, NoSuchIndex}
 use Rattle.elf_parser.specs.declared.layout.Layout.{Layout}
@@ -10,43 +10,48 @@ use Rattle.loader.specs.declared.error.ElfError.TheVariants.{FailedToParse, File
 use Rattle.loader.specs.Errors.{from_parser}
 use Rattle.writers.specs.declared.Writer.{Writer}
 use Rattle.writers.specs.declared.text.Text.{Text}
+use Rattle.writers.specs.declared.text.LoadedText.{LoadedText}
 use Rattle.writers.specs.Named.{by_names}
 use Rattle.elf_parser.specs.declared.error.ElfParserError.{ElfParserError}
 
--- version 2 has at most nine program headers
-unfoldable pub text_in : Layout → Bool → ℕ → ℕ → Result Text ElfError
-text_in l version2 start n =
-    Err (FailedToParse InvalidProgramHeader) if version2 && leb 10 l.program_headers.count else
-    Ok (record { layout = l; version2 = version2; start = start; length = n })
+-- what a load's answer says of the text
+abbrev pub text_loaded : Accepted → LoadedText
+text_loaded a = record { version2 = eqb a.version 2; start = a.text_start; length = a.text_length }
 
-abbrev pub text_by : Result Layout ElfParserError → Bool → ℕ → ℕ → Result Text ElfError
-text_by (Err e) version2 start n = Err (from_parser e)
-text_by (Ok l) version2 start n = text_in l version2 start n
+-- version 2 has at most nine program headers
+unfoldable pub text_in : Layout → LoadedText → Result Text ElfError
+text_in l x =
+    Err (FailedToParse InvalidProgramHeader) if x.version2 && leb 10 l.program_headers.count else
+    Ok (record { layout = l; loaded = x })
+
+abbrev pub text_by : Result Layout ElfParserError → LoadedText → Result Text ElfError
+text_by (Err e) x = Err (from_parser e)
+text_by (Ok l) x = text_in l x
 
 -- by the version, and the text's place and length in the file; refused where no load of this file can have given these: the file is too long, the text
 -- is not in it, or it can't be read
-unfoldable pub text_of : List ℕ → Bool → ℕ → ℕ → Result Text ElfError
-text_of file version2 start n =
+unfoldable pub text_of : List ℕ → LoadedText → Result Text ElfError
+text_of file x =
     Err FileTooLong if ltb 0x100_0000 (length file) else
-    Err ValueOutOfBounds if ltb (length file) (start + n) else
-    text_by (parsed file) version2 start n
+    Err ValueOutOfBounds if ltb (length file) (x.start + x.length) else
+    text_by (parsed file) x
 
 -- an offset past the file's end is no index of a byte
 abbrev pub asked_in : List ℕ → ℕ → Result Text ElfError → Result Writer ElfError
 asked_in file b (Err r) = Err r
 asked_in file b (Ok t) = Ok (by_names file t b) if ltb b (length file) else Err (FailedToParse NoSuchIndex)
 
-abbrev pub asked_by : List ℕ → Bool → ℕ → ℕ → ℕ → Result Writer ElfError
-asked_by file version2 start n b = asked_in file b (text_of file version2 start n)
+abbrev pub asked_by : List ℕ → LoadedText → ℕ → Result Writer ElfError
+asked_by file x b = asked_in file b (text_of file x)
 
 -- WHO WROTE THE BYTE b, by a load's answer
 abbrev pub asked : List ℕ → Result Accepted ElfError → ℕ → Result Writer ElfError
 asked file (Err r) b = Err r
-asked file (Ok a) b = asked_by file (eqb a.version 2) a.text_start a.text_length b
+asked file (Ok a) b = asked_by file (text_loaded a) b
 
 -- what the functions behind `text_of` may count on
 pub record Askable (file : List ℕ) (t : Text) : Type 0 where
   pub short : length file ≤ 2 ^ 24
-  pub text : t.start + t.length ≤ length file
+  pub text : t.loaded.start + t.loaded.length ≤ length file
   pub relocations : 16 * t.layout.dynamic_relocations.count ≤ length file
   pub relas : 24 * t.layout.dynamic_relas.count ≤ length file

@@ -1,5 +1,5 @@
 -- Who wrote each byte of the file, as one number a byte.
-use Rattle.std.specs.Prelude.{ℕ, ◌+◌, ◌≡◌, Bool, ◌&&◌, List, length, get_or, ltb, eqb, Result, Ok, Err}
+use Rattle.std.specs.Prelude.{ℕ, ◌+◌, ◌≡◌, Bool, ◌&&◌, List, length, get_or, ltb, Result, Ok, Err}
 use Rattle.ebpf.specs.Choice.{◌if◌else◌}
 use Rattle.program.specs.Table.{Lent, Shared}
 use Rattle.loader.specs.declared.error.ElfError.{ElfError}
@@ -8,8 +8,9 @@ use Rattle.loader.specs.declared.error.ElfError.TheVariants.{BufferShort}
 use Rattle.writers.specs.declared.Writer.{Writer}
 use Rattle.writers.specs.declared.Writer.TheVariants.{File, Call, Relocation}
 use Rattle.writers.specs.declared.text.Text.{Text}
+use Rattle.writers.specs.declared.text.LoadedText.{LoadedText}
 use Rattle.writers.specs.Named.{call_writer, by_names}
-use Rattle.writers.specs.Asked.{text_of, asked_by, asked}
+use Rattle.writers.specs.Asked.{text_loaded, text_of, asked_by, asked}
 
 -- the number of a writer
 abbrev pub code_of : Writer → ℕ
@@ -34,13 +35,13 @@ pub record Filling (file : Shared) (numbers : Lent) (wrote : ℕ → Result Writ
   pub tells : (b : ℕ) → get_or numbers.exit.now b 0 ≡ (0 if ltb (length numbers.entry.now) (length file.entry.now) else code_by (wrote b))
 
 -- WHAT `who_wrote_all_by` PROMISES, and `who_wrote_all`
-abbrev pub FillsBy : Shared → Bool → ℕ → ℕ → Lent → Result (Unit {0}) ElfError → Type 0
-FillsBy file version2 start n numbers r =
-    Filling file numbers (asked_by file.entry.now version2 start n) (filled_in (length file.entry.now) (length numbers.entry.now) (text_of file.entry.now version2 start n)) r
+abbrev pub FillsBy : Shared → LoadedText → Lent → Result (Unit {0}) ElfError → Type 0
+FillsBy file x numbers r =
+    Filling file numbers (asked_by file.entry.now x) (filled_in (length file.entry.now) (length numbers.entry.now) (text_of file.entry.now x)) r
 
 abbrev pub filled_of : List ℕ → ℕ → Result Accepted ElfError → Result (Unit {0}) ElfError
 filled_of file n (Err r) = Err r
-filled_of file n (Ok a) = filled_in (length file) n (text_of file (eqb a.version 2) a.text_start a.text_length)
+filled_of file n (Ok a) = filled_in (length file) n (text_of file (text_loaded a))
 
 abbrev pub Fills : Shared → Result Accepted ElfError → Lent → Result (Unit {0}) ElfError → Type 0
 Fills file answer numbers r = Filling file numbers (asked file.entry.now answer) (filled_of file.entry.now (length numbers.entry.now) answer) r

@@ -13,9 +13,9 @@ pub(crate) fn is_call(file: &[u8], text: Text, i: usize) -> bool
     requires { Askable file.now text }
     ensures { result ≡ is_call file.now text i }
 {
-    let start = text.start;
-    let end = start + text.length;
-    get_insn(&file[start..end], i).is_some_and(|insn| is_local_call(text.version2, insn))
+    let start = text.loaded.start;
+    let end = start + text.loaded.length;
+    get_insn(&file[start..end], i).is_some_and(|insn| is_local_call(text.loaded.version2, insn))
 }
 
 // Where a slot's immediate starts: it has the last four bytes of eight.
@@ -27,7 +27,7 @@ pub(crate) fn call_writer(file: &[u8], text: Text, b: u64) -> Writer
     requires { Askable file.now text × (b < length file.now) }
     ensures { result ≡ call_writer file.now text b }
 {
-    let start = text.start as u64;
+    let start = text.loaded.start as u64;
     if b < start {
         return Writer::File;
     }
@@ -36,7 +36,7 @@ pub(crate) fn call_writer(file: &[u8], text: Text, b: u64) -> Writer
         return Writer::File;
     }
     let i = (d / 8) as usize;
-    if text.length / 8 <= i {
+    if text.loaded.length / 8 <= i {
         return Writer::File;
     }
     if is_call(file, text, i) {

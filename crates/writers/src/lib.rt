@@ -17,8 +17,10 @@ mod naming;
 mod text;
 mod whole;
 
+pub use text::LoadedText;
+
 // The relocations are numbered from 0 as they are applied, through both tables.
-#[derive(Clone, Copy)]
+#[derive(Clone, Copy, PartialEq, Eq, Debug)]
 pub enum Writer {
     File,
     Call(u32),
@@ -32,19 +34,13 @@ pub struct LoadWrote {
     pub wrote: Result<Writer, ElfError>,
 }
 
-// WHO WROTE A BYTE of the image that a load of this file made, by the version and the text's place in
-// that load's answer. An offset at or past the file's end is `NoSuchIndex`.
+// WHO WROTE A BYTE of the image that a load of this file made, by what that load's answer says of the
+// text. An offset at or past the file's end is `NoSuchIndex`.
 #[tactic(auto, using(ebpf::specs::Choice::choices, crate::proofs::Telling::askable))]
-pub fn who_wrote_by(
-    file: &[u8],
-    version2: bool,
-    start: usize,
-    length: usize,
-    offset: u64,
-) -> Result<Writer, ElfError>
-    ensures { result ≡ asked_by file.now version2 start length offset }
+pub fn who_wrote_by(file: &[u8], loaded: LoadedText, offset: u64) -> Result<Writer, ElfError>
+    ensures { result ≡ asked_by file.now loaded offset }
 {
-    let text = text_of(file, version2, start, length)?;
+    let text = text_of(file, loaded)?;
     if file.len() as u64 <= offset {
         return Err(ElfError::FailedToParse(ElfParserError::NoSuchIndex));
     }
@@ -59,8 +55,7 @@ pub fn who_wrote(
 ) -> Result<Writer, ElfError>
     ensures { result ≡ asked file.now answer offset }
 {
-    let a = answer?;
-    who_wrote_by(file, a.version == 2, a.text_start, a.text_length, offset)
+    who_wrote_by(file, LoadedText::from(answer?), offset)
 }
 
 // A load, and who wrote a byte of its image.
@@ -90,17 +85,11 @@ pub fn load_who_wrote(
 
 // In numbers that are zero.
 #[tactic(auto, using(crate::proofs::Telling::askable))]
-fn fill_by(
-    numbers: &mut [u32],
-    file: &[u8],
-    version2: bool,
-    start: usize,
-    length: usize,
-) -> Result<(), ElfError>
+fn fill_by(numbers: &mut [u32], file: &[u8], loaded: LoadedText) -> Result<(), ElfError>
     requires { OnlyZeros numbers.old }
-    ensures { FillsBy file version2 start length numbers result }
+    ensures { FillsBy file loaded numbers result }
 {
-    let text = text_of(file, version2, start, length)?;
+    let text = text_of(file, loaded)?;
     if numbers.len() < file.len() {
         return Err(ElfError::BufferShort);
     }
@@ -115,14 +104,12 @@ fn fill_by(
 pub fn who_wrote_all_by(
     numbers: &mut [u32],
     file: &[u8],
-    version2: bool,
-    start: usize,
-    length: usize,
+    loaded: LoadedText,
 ) -> Result<(), ElfError>
-    ensures { FillsBy file version2 start length numbers result }
+    ensures { FillsBy file loaded numbers result }
 {
     clear_words(numbers);
-    fill_by(numbers, file, version2, start, length)
+    fill_by(numbers, file, loaded)
 }
 
 // The same by the whole answer.
@@ -139,6 +126,6 @@ pub fn who_wrote_all(
             clear_words(numbers);
             Err(r)
         }
-        Ok(a) => { who_wrote_all_by(numbers, file, a.version == 2, a.text_start, a.text_length) }
+        Ok(a) => who_wrote_all_by(numbers, file, LoadedText::from(a)),
     }
 }

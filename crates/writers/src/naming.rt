@@ -1,14 +1,13 @@
 // The bytes that relocations name.
-ghost use Rattle.std.specs.Prelude.{◌≡◌, ℕ, Some, ◌+◌, ◌%◌, ◌^◌, ◌≤◌, ◌<◌, length};
-ghost use Rattle.ebpf.specs.Choice.{◌if◌else◌};
-ghost use Rattle.loader.specs.Demand.{in_halves, named_by, named_in};
+ghost use Rattle.std.specs.Prelude.{◌≡◌, ◌+◌, ◌%◌, ◌^◌, ◌≤◌, ◌<◌, length};
+ghost use Rattle.loader.specs.Demand.{named_in};
 ghost use Rattle.loader.specs.Deeds.{is_in};
 ghost use Rattle.writers.specs.Named.{is_named, Names, NamesNext, count_of, by_names};
 ghost use Rattle.writers.specs.Asked.{Askable};
 
 use crate::Writer;
 use crate::calls::call_writer;
-use crate::text::Text;
+use crate::text::{LoadedText, Text};
 use elf_parser::{Elf64, Layout};
 use loader::{UsedHeader, is_within, r_place, relocation_at, used_header};
 
@@ -20,46 +19,27 @@ const R_BPF_64_32: u32 = 10;
 
 // The bytes that a relocation at place `r` names: an instruction's two halves, eight bytes, or an
 // instruction's immediate.
-#[derive(Clone, Copy)]
+#[derive(Clone, Copy, PartialEq, Eq, Debug)]
 pub enum Named {
     Halves(u64),
     Word(u64),
     Immediate(u64),
 }
 
-#[tactic(auto, using(ebpf::specs::Choice::choices))]
-fn halves_or_word(halves: bool, r: u64) -> Named
-    ensures { Names (Some result) (λ b. in_halves r b if halves else is_in r 8 b) }
-{
-    if halves {
-        return Named::Halves(r);
-    }
-    Named::Word(r)
-}
-
+// What a relocation at that place names, by the low half of its `r_info`; nothing where the place is none.
 #[tactic(auto, using(ebpf::specs::Choice::choices), unfolding(loader::specs::Demand::named_by))]
-fn named_by(version2: bool, in_text: bool, kind: u32, r: u64) -> Option<Named>
-    ensures { Names result (named_by version2 in_text kind r) }
-{
-    if kind == R_BPF_64_64 {
-        return Some(halves_or_word(in_text | !version2, r));
-    }
-    if kind == R_BPF_64_RELATIVE {
-        return Some(halves_or_word(in_text, r));
-    }
-    if kind == R_BPF_64_32 {
-        return Some(Named::Immediate(r));
-    }
-    None
-}
-
-fn named_in(text: Text, place: Option<u64>, r_info: u64) -> Option<Named>
+fn named_in(text: LoadedText, place: Option<u64>, r_info: u64) -> Option<Named>
     ensures { Names result (named_in text.version2 text.start text.length place (r_info % 2 ^ 32)) }
 {
     let r = place?;
     let in_text = is_within(text.start as u64, text.length as u64, r);
-    let kind = (r_info % 0x1_0000_0000) as u32;
-    named_by(text.version2, in_text, kind, r)
+    match (r_info % 0x1_0000_0000) as u32 {
+        R_BPF_64_64 if in_text | !text.version2 => Some(Named::Halves(r)),
+        R_BPF_64_RELATIVE if in_text => Some(Named::Halves(r)),
+        R_BPF_64_64 | R_BPF_64_RELATIVE => Some(Named::Word(r)),
+        R_BPF_64_32 => Some(Named::Immediate(r)),
+        _ => None,
+    }
 }
 
 // The program header used last, and the bytes that a relocation names, if it names any.
@@ -77,12 +57,12 @@ pub(crate) fn named_next(file: &[u8], text: Text, header: Option<UsedHeader>, i:
         file,
         layout: text.layout,
     };
-    let version2 = text.version2;
+    let version2 = text.loaded.version2;
     let r = relocation_at(&elf, i);
     let next = used_header(&elf, version2, header, r.r_offset);
     Next {
         header: next,
-        named: named_in(text, r_place(version2, next, r.r_offset), r.r_info),
+        named: named_in(text.loaded, r_place(version2, next, r.r_offset), r.r_info),
     }
 }
 

@@ -62,7 +62,7 @@ fn mark_call(numbers: &mut [u32], file: &[u8], text: Text, i: usize)
         mark_four(
             numbers,
             file.len(),
-            (text.start + 8 * i) as u64,
+            (text.loaded.start + 8 * i) as u64,
             4,
             i as u32 + 1,
         );
@@ -74,7 +74,7 @@ fn mark_calls(numbers: &mut [u32], file: &[u8], text: Text)
     requires { Askable file.now text × (length file.now ≤ length numbers.old) × OnlyZeros numbers.old }
     ensures { HoldsCalls file text numbers }
 {
-    for i in 0..text.length / 8 {
+    for i in 0..text.loaded.length / 8 {
         mark_call(numbers, file, text, i);
     }
 }

@@ -14,7 +14,7 @@ use Rattle.writers.proofs.fill_by.Goals as goal
 pub returns-then-numbers-file : goal.returns-then-numbers-file
 returns-then-numbers-file c =
     let t : Text = c.in_ok-text.text in
-    let e : text_of c.args.file.now c.args.version2 c.args.start c.args.length ≡ Ok t = sym c.text_of.ensures ∙ c.in_ok-text.was in
+    let e : text_of c.args.file.now c.args.loaded ≡ Ok t = sym c.text_of.ensures ∙ c.in_ok-text.was in
     record {
       answers = rw e (short_filled c.args.file.now (length c.args.numbers.now) t c.if-numbers-file.true);
       length_as = refl;
@@ -23,7 +23,7 @@ returns-then-numbers-file c =
 
 pub returns-in_err-text : goal.returns-in_err-text
 returns-in_err-text c =
-    let e : text_of c.args.file.now c.args.version2 c.args.start c.args.length ≡ Err _ = sym c.text_of.ensures ∙ c.in_err-text.was in
+    let e : text_of c.args.file.now c.args.loaded ≡ Err _ = sym c.text_of.ensures ∙ c.in_err-text.was in
     let p = err_from_is_err_and c.from_residual.result c.from_residual.ensures.1 in
     record {
       answers = rw (p.1, p.2, e) refl;
@@ -34,7 +34,7 @@ returns-in_err-text c =
 pub returns : goal.returns
 returns c =
     let t : Text = c.in_ok-text.text in
-    let e : text_of c.args.file.now c.args.version2 c.args.start c.args.length ≡ Ok t = sym c.text_of.ensures ∙ c.in_ok-text.was in
+    let e : text_of c.args.file.now c.args.loaded ≡ Ok t = sym c.text_of.ensures ∙ c.in_ok-text.was in
     record {
       answers = rw e (whole_filled c.args.file.now (length c.args.numbers.now) t c.if-numbers-file.false);
       length_as = c.mark_all.ensures.length_as;

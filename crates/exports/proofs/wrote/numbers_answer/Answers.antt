@@ -23,7 +23,7 @@ returns c =
     let e : eqb (refusal_in c.args.loaded.now) 0 ≡ true = rw (← c.refusal_in.ensures) (eq-eqb _ _ c.if-refusal_in-ne0.false) in (
       record {
         length_as = c.who_wrote_all_by.ensures.length_as;
-        tells = λ b. rw (e, ← c.word_in-version2.ensures, ← c.word_in-start.ensures, ← c.word_in-length.ensures) (c.who_wrote_all_by.ensures.tells b);
+        tells = λ b. rw (e, ← c.text_told.ensures) (c.who_wrote_all_by.ensures.tells b);
       },
-      rw (e, ← c.word_in-version2.ensures, ← c.word_in-start.ensures, ← c.word_in-length.ensures, ← c.who_wrote_all_by.ensures.answers) c.filled_answer.ensures,
+      rw (e, ← c.text_told.ensures, ← c.who_wrote_all_by.ensures.answers) c.filled_answer.ensures,
     )

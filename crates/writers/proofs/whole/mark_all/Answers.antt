@@ -17,7 +17,7 @@ use Rattle.writers.proofs.whole.mark_all.Goals as goal
 pub loop-i-init : goal.loop-i-init
 loop-i-init c =
     let h = holds_as (length c.args.file.now) (call_writer c.args.file.now c.args.text) (up_to c.args.file.now c.args.text 0) c.args.numbers.now c.mark_calls.new.numbers (λ b. sym (last_none Relocation (λ k. names_byte c.args.file.now c.args.text k b) (call_writer c.args.file.now c.args.text b))) c.mark_calls.ensures in
-    (none_used c.args.file.now c.args.text.layout c.args.text.version2, record { length_as = refl; at = h.at })
+    (none_used c.args.file.now c.args.text.layout c.args.text.loaded.version2, record { length_as = refl; at = h.at })
 
 pub loop-i-preserved : goal.loop-i-preserved
 loop-i-preserved c = (

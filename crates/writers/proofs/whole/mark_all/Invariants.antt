@@ -19,4 +19,4 @@ up_to file t n b = last_of Relocation (λ k. names_byte file t k b) n (call_writ
 
 abbrev pub invariant-loop-i : goal.invariant-loop-i
 invariant-loop-i l =
-    (l.header ≡ used_before l.file l.text.layout l.text.version2 l.i) × Holds (up_to l.file l.text l.i) (length l.file) l.initial.numbers l.numbers
+    (l.header ≡ used_before l.file l.text.layout l.text.loaded.version2 l.i) × Holds (up_to l.file l.text l.i) (length l.file) l.initial.numbers l.numbers

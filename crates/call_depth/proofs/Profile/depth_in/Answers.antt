@@ -1,0 +1,26 @@
+-- `call_depth::Profile::depth_in` meets its contract: by the first row with the entry's index.
+-- Assumes nothing.
+use Rattle.std.proofs.Common.{rules, tests}
+use mathlib.Core.Path.{◌≡◌, refl, sym, ◌∙◌}
+use lib.Dec.{eqb}
+use borrow.Author.Tests.{le-leb, lt-leb}
+use Rattle.std.specs.Prelude.{position}
+use Rattle.std.proofs.lemmas.Iterator.{YieldsList-from_slice}
+use Rattle.std.proofs.lemmas.Iterator.Search.{position_from_yields_List}
+use Rattle.ebpf.specs.Choice.{◌if◌else◌}
+use Rattle.call_depth.specs.Asked.{depth_in}
+use Rattle.call_depth.proofs.Entries.{first_none, first_some}
+use Rattle.call_depth.proofs.Profile.depth_in.Goals as goal
+
+pub returns-in_default : goal.returns-in_default
+unfolding depth_in ◌if◌else◌
+returns-in_default c =
+    let e : c.position.result ≡ position (λ x. eqb x c.args.entry) c.args.self.indices.now = position_from_yields_List (λ x. eqb x c.args.entry) _ _ _ c.position.ensures.ran (YieldsList-from_slice c.args.self.indices.now cc) (λ x b q k. search (rules, tests)) in
+    rw (le-leb _ _ (first_none c.args.entry c.args.self.indices.now (sym e ∙ c.in_default.is))) refl
+
+pub returns : goal.returns
+unfolding depth_in ◌if◌else◌
+returns c =
+    let e : c.position.result ≡ position (λ x. eqb x c.args.entry) c.args.self.indices.now = position_from_yields_List (λ x. eqb x c.args.entry) _ _ _ c.position.ensures.ran (YieldsList-from_slice c.args.self.indices.now cc) (λ x b q k. search (rules, tests)) in
+    let f = first_some c.args.entry c.args.self.indices.now c.in-Some.row (sym e ∙ c.in-Some.is) in
+    rw (lt-leb _ _ f.2, ← c.limit_of.ensures, ← f.1, ← c.depth_from.ensures) c.limited.ensures
