@@ -58,7 +58,8 @@ fn narrow(ranks: &[u32], n: usize, key: u32) -> usize
     narrow_few(ranks, base, size, key)
 }
 
-// Kept: the library has no `partition_point` or `binary_search`, and here no branch depends on a key.
+// Kept: what std's `binary_search` answers on numbers that do not ascend is left open, and a registration and a
+// lookup promise an equation there too.
 // The binary search: the place of `key` among the first `n` numbers. Where they ascend, it is how many
 // are below `key`; on any others it is at most `n`.
 #[tactic(auto, using(crate::proofs::Searches::search_none, crate::proofs::Searches::search_next, crate::proofs::Searches::search_here))]
