@@ -6,6 +6,7 @@ use mathlib.Core.Bool.{Bool, true, false, not}
 use mathlib.Core.List.{List}
 use lib.ListN.{length}
 use Rattle.std.specs.Prelude.{Result, Ok, Err}
+use Rattle.std.specs.Option.{unwrap_or}
 use Rattle.ebpf.specs.Choice.{◌if◌else◌}
 use Rattle.elf_parser.specs.declared.error.ElfParserError.{ElfParserError}
 use Rattle.elf_parser.specs.declared.error.ElfParserError.TheVariants.{InvalidFileHeader, InvalidProgramHeader, InvalidSectionHeader, StringTooLong, OutOfBounds, InvalidSize, Overlap, SectionNotInOrder, NoSectionNameStringTable, InvalidDynamicSectionTable, InvalidAlignment, NoStringTable, NoDynamicStringTable, NoSuchIndex, NotASection, StringUnterminated}
@@ -95,7 +96,7 @@ writable_plain (Err r) = refl
 
 sections_plain : (s : List ℕ) (l : Layout) (v : Survey) → PlainVerdict (sections_check s l v)
 unfolding sections_check
-sections_plain s l v = refuse_or _ _ _ refl (refuse_or _ _ _ (writable_plain (section_name s l v.writable_name)) (refuse_or _ _ _ refl tt))
+sections_plain s l v = refuse_or _ _ _ refl (refuse_or _ _ _ (writable_plain (section_name s l (unwrap_or v.unsupported 0))) (refuse_or _ _ _ refl tt))
 
 text_plain : (version2 reject-broken : Bool) (e_entry : ℕ) (h : Elf64Shdr) → PlainVerdict (text_check version2 reject-broken e_entry h)
 unfolding text_check

@@ -1,6 +1,6 @@
 -- The sections of a file, their names, and what a load asks of all of them.
-use Rattle.std.specs.Prelude.{ℕ, zero, suc, ◌+◌, ◌-◌, ◌%◌, ◌≤◌, ◌<◌, ◌≡◌, refl, Bool, true, false, ◌&&◌, ◌||◌, not, List, [], ◌∷◌, length, take, ltb, eqb, nat_eq}
-use Rattle.std.proofs.Common.{arith, ap, sym, eq-eqb, ne_eqb, eqb-true}
+use Rattle.std.specs.Prelude.{ℕ, zero, suc, ◌+◌, ◌-◌, ◌%◌, ◌^◌, ◌≤◌, ◌<◌, ◌≡◌, refl, Bool, true, false, ◌&&◌, ◌||◌, not, List, [], ◌∷◌, length, take, ltb, eqb, nat_eq, Some, None, is_none}
+use Rattle.std.proofs.Common.{arith, ap, sym, lt-ltb, leb-true, eq-eqb, ne_eqb, eqb-true}
 use Rattle.std.proofs.lemmas.Bool.{eqb-false}
 use Rattle.std.specs.Cmp.Lexicographic.{pointwise}
 use Rattle.ebpf.specs.Choice.{◌if◌else◌, past_word}
@@ -71,8 +71,7 @@ survey_named len i h name v =
     record {
       texts = v.texts + 1 if is-text else v.texts;
       text = i if is-text && eqb v.texts 0 else v.text;
-      writable = v.writable || bad;
-      writable_name = h.sh_name if not v.writable && bad else v.writable_name;
+      unsupported = Some h.sh_name if is_none v.unsupported && bad else v.unsupported;
       outside = v.outside || outside_file len h.sh_offset h.sh_size;
     }
 
@@ -85,12 +84,21 @@ survey_from s l zero i v = v
 survey_from s l (suc n) i v = survey_from s l n (i + 1) (survey_step s l i v)
 
 abbrev pub no_survey : Survey
-no_survey = record { texts = 0; text = 0; writable = false; writable_name = 0; outside = false }
+no_survey = record { texts = 0; text = 0; unsupported = None; outside = false }
 
 abbrev pub survey : List ℕ → Layout → ℕ → Survey
 survey s l count = survey_from s l count 0 no_survey
 
 -- ---- laws
+
+-- the reader's test, in a file whose length is a word
+pub outside_past : (len offset size : ℕ) → len < 2 ^ 64 → ltb len (offset + size) ≡ outside_file len offset size
+unfolding outside_file ◌if◌else◌
+outside_past len offset size short = go (past_word (offset + size)) refl
+  where
+    go : (b : Bool) → past_word (offset + size) ≡ b → ltb len (offset + size) ≡ (true if b else ltb len (offset + size))
+    go true e = lt-ltb len (offset + size) (omega (arith, leb-true (2 ^ 64) (offset + size) e))
+    go false e = refl
 
 -- the library's test of a name's front
 eqb-sym : (x y : ℕ) → eqb x y ≡ eqb y x

@@ -1,5 +1,6 @@
 -- The checks ahead of a load, in the order of the Rust, and what they leave.
-use Rattle.std.specs.Prelude.{ℕ, Bool, true, false, ◌&&◌, not, List, [], ◌∷◌, length, ltb, leb, eqb, Result, Ok, Err}
+use Rattle.std.specs.Prelude.{ℕ, Bool, true, false, ◌&&◌, not, List, [], ◌∷◌, length, ltb, leb, eqb, Result, Ok, Err, is_some}
+use Rattle.std.specs.Option.{unwrap_or}
 use Rattle.ebpf.specs.Choice.{◌if◌else◌}
 use Rattle.elf_parser.specs.declared.error.ElfParserError.TheVariants.{InvalidProgramHeader}
 use Rattle.elf_parser.specs.declared.types.Elf64Ehdr.{Elf64Ehdr}
@@ -59,7 +60,7 @@ writable_error s l sh-name = writable_by (section_name s l sh-name)
 unfoldable pub sections_check : List ℕ → Layout → Survey → Result (Unit {0}) ElfError
 sections_check s l v =
     Err NotOneTextSection if not (eqb v.texts 1) else
-    Err (writable_error s l v.writable_name) if v.writable else
+    Err (writable_error s l (unwrap_or v.unsupported 0)) if is_some v.unsupported else
     Err ValueOutOfBounds if v.outside else
     Ok tt
 

@@ -118,8 +118,8 @@ fn check_sections(elf: &Elf64<'_>, v: Survey) -> Result<(), ElfError>
     if v.texts != 1 {
         return Err(ElfError::NotOneTextSection);
     }
-    if v.writable {
-        return Err(writable_error(elf, v.writable_name));
+    if let Some(sh_name) = v.unsupported {
+        return Err(writable_error(elf, sh_name));
     }
     if v.outside {
         return Err(ElfError::ValueOutOfBounds);
