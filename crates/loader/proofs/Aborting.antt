@@ -34,7 +34,7 @@ use Rattle.loader.specs.declared.validate.Job.{Job}
 use Rattle.loader.specs.Results.{not_ok, ◌then◌, then_both, then_ok}
 use Rattle.loader.specs.Addresses.{sum_up_to, machine_addr, MM_PROGRAM_START, MM_STACK_START}
 use Rattle.loader.specs.Sections.{header_or, section_at, name_of, dot_text, outside_file, survey_step, survey_from, no_survey, survey}
-use Rattle.loader.specs.ReadOnly.{read_only, gathered, from_start, placing}
+use Rattle.loader.specs.ReadOnly.{shift_of, read_only, gathered, from_start, placing}
 use Rattle.loader.specs.Placed.{owned_fits, owned_room}
 use Rattle.loader.specs.Validate.{size_check, ascends, header_check, sections_check, text_check, job_of, file_check, is_version2, validated, parsed_then, prepared}
 use Rattle.loader.specs.GetBytes.{text_at, bytes_at, text_place, ro_place, lent_for, ro_of, text_place_of}
@@ -328,7 +328,7 @@ module _ (file builtins : List ℕ) (c : Config) (n m : ℕ) (j : Job) (ready : 
 
   -- the extent x of sections that stay in the image
   module _ (offset start k : ℕ) (x : Extent) (all : Spans file j.layout j.version2 t.index j.length (file_header file).e_shnum x) (stay : Stays j.version2 x offset start k) where
-    kept : (x.shift ≤ x.lowest) × (x.highest ≤ x.shift + length file)
+    kept : (shift_of x ≤ x.lowest) × (x.highest ≤ shift_of x + length file)
     kept = all.shifts.kept stay.valid
 
     above : x.lowest ≤ j.sh_addr
@@ -344,15 +344,15 @@ module _ (file builtins : List ℕ) (c : Config) (n m : ℕ) (j : Job) (ready : 
 
     stay_in : start + k ≤ n
     stay_in =
-        let lie = stay_lie (length file) x.lowest x.highest x.shift offset start k j.addr j.sh_addr j.length kept.0 kept.1 above below stay.offset_is stay.start_is stay.length_is in
+        let lie = stay_lie (length file) x.lowest x.highest (shift_of x) offset start k j.addr j.sh_addr j.length kept.0 kept.1 above below stay.offset_is stay.start_is stay.length_is in
         omega (arith, lie, in_image)
 
     text_room : text_at j.addr offset + j.length ≤ k
     text_room = by_test j.version2 (λ v. j.version2 ≡ v → text_at j.addr offset + j.length ≤ k)
-        (λ v on. stay_2 (length file) x.lowest x.highest x.shift offset start k j.addr j.sh_addr j.length kept.0 kept.1 above below stay.offset_is stay.start_is stay.length_is
+        (λ v on. stay_2 (length file) x.lowest x.highest (shift_of x) offset start k j.addr j.sh_addr j.length kept.0 kept.1 above below stay.offset_is stay.start_is stay.length_is
         (stay.above on)
         (t.machine ∙ ap (λ (b : Bool). machine_addr b j.sh_addr) on ∙ machine_2 j.sh_addr (let h = stay.above on in omega (arith, h, above))))
-        (λ v off. stay_1 (length file) x.lowest x.highest x.shift offset start k j.addr j.sh_addr j.length kept.0 kept.1 above below stay.offset_is stay.start_is stay.length_is
+        (λ v off. stay_1 (length file) x.lowest x.highest (shift_of x) offset start k j.addr j.sh_addr j.length kept.0 kept.1 above below stay.offset_is stay.start_is stay.length_is
         short
         (all.shifts.plain off)
         (t.machine ∙ ap (λ (b : Bool). machine_addr b j.sh_addr) off ∙ machine_1 j.sh_addr))

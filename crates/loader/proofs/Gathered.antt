@@ -11,8 +11,9 @@ use mathlib.Core.List.{List}
 use lib.ListN.{length}
 use lib.Dec.{eqb}
 use borrow.Author.Tests.{ltb-false, eqb-true, le-leb, not-false, not-true}
-use Rattle.std.specs.Prelude.{Result, Ok, Err}
-use Rattle.ebpf.specs.Choice.{◌if◌else◌, not_first, row_rest, and_left, and_right, or_false, yes, and_false, row_cases}
+use Rattle.std.specs.Prelude.{Result, Ok, Err, Option, Some, None, is_some}
+use Rattle.std.specs.Option.{unwrap_or}
+use Rattle.ebpf.specs.Choice.{◌if◌else◌, not_first, row_rest, and_left, and_right, yes, and_false, row_cases}
 use Rattle.elf_parser.specs.declared.layout.Layout.{Layout}
 use Rattle.elf_parser.specs.declared.types.Elf64Shdr.{Elf64Shdr}
 use Rattle.elf_parser.specs.Errors.{and_then, apart, went}
@@ -25,7 +26,7 @@ use Rattle.loader.specs.declared.read_only.Extent.{Extent}
 use Rattle.loader.specs.Results.{not_ok}
 use Rattle.loader.specs.Addresses.{MM_PROGRAM_START, MM_STACK_START}
 use Rattle.loader.specs.Sections.{header_or, section_at, name_of}
-use Rattle.loader.specs.ReadOnly.{read_only, gives, invalid_by, end_of, grown, taken, taken_at, gather_step, nothing, gathered, from_start, can_borrow, borrowed, owned, placed, placing_by, placing}
+use Rattle.loader.specs.ReadOnly.{read_only, gives, invalid_by, end_of, grown, taken, taken_at, gather_step, nothing, gathered, from_start, can_borrow, shift_of, borrowed, owned, placed, placing_by, placing}
 use Rattle.loader.specs.Placed.{Inside, not_borrowed, end_ahead}
 use Rattle.loader.proofs.Readied.{Lies}
 use Rattle.elf_parser.specs.declared.error.ElfParserError.{ElfParserError}
@@ -43,7 +44,7 @@ module _ (addr offset : ℕ) (x : Extent) where
       let e2 : not (eqb addr offset) ≡ false = yes _ _ _ refl ∙ e1 in
       (not_first _ _ _ _ true≢false e, eqb-true addr offset (not-false _ e2))
 
-  shifted_offset : invalid_by true addr offset x ≡ false → (x.invalid ≡ false) × (offset ≤ addr) × (x.shifted ≡ true → x.shift ≡ addr - offset)
+  shifted_offset : invalid_by true addr offset x ≡ false → (x.invalid ≡ false) × (offset ≤ addr) × ((shift : ℕ) → x.shift ≡ Some shift → shift ≡ addr - offset)
   unfolding invalid_by
   shifted_offset e =
       let e1 = row_rest _ _ _ _ true≢false e in
@@ -51,10 +52,10 @@ module _ (addr offset : ℕ) (x : Extent) where
       let e3 = row_rest _ _ _ _ true≢false e2 in (
         not_first _ _ _ _ true≢false e,
         ltb-false addr offset (not_first _ _ _ _ true≢false e2),
-        λ on. eqb-true x.shift (addr - offset) (not-false _ (yes _ _ _ on ∙ e3)),
+        λ shift on. eqb-true shift (addr - offset) (not-false _ (rw on at e3)),
       )
 
-  gives_first : x.invalid ≡ false → offset ≤ addr → x.shifted ≡ false → gives true addr offset x ≡ true
+  gives_first : x.invalid ≡ false → offset ≤ addr → x.shift ≡ None → gives true addr offset x ≡ true
   unfolding gives
   gives_first v le off = rw (le-leb offset addr le, v, off) refl
 
@@ -66,9 +67,9 @@ MAX = 0xffff_ffff_ffff_ffff
 -- where no offset is invalid, they lie in the file, the constant less than their addresses; in version 1 it is 0, and in version 2
 -- the first one gives it
 pub record Shifts (version2 : Bool) (len : ℕ) (x : Extent) : Type 0 where
-  pub kept : x.invalid ≡ false → (x.shift ≤ x.lowest) × (x.highest ≤ x.shift + len)
-  pub plain : version2 ≡ false → x.shift ≡ 0
-  pub blank : version2 ≡ true → x.invalid ≡ false → x.shifted ≡ false → (x.lowest ≡ MAX) × (x.highest ≡ 0)
+  pub kept : x.invalid ≡ false → (shift_of x ≤ x.lowest) × (x.highest ≤ shift_of x + len)
+  pub plain : version2 ≡ false → shift_of x ≡ 0
+  pub blank : version2 ≡ true → x.invalid ≡ false → x.shift ≡ None → (x.lowest ≡ MAX) × (x.highest ≡ 0)
 
 module _ (i addr offset n len : ℕ) (x : Extent) (lies : offset + n ≤ len) where
   grown_plain : Shifts false len x → Shifts false len (grown false i addr offset n x)
@@ -84,34 +85,47 @@ module _ (i addr offset n len : ℕ) (x : Extent) (lies : offset + n ≤ len) wh
   }
 
   -- the constant afterwards is this section's
-  shift_is : invalid_by true addr offset x ≡ false → (addr - offset if gives true addr offset x else x.shift) ≡ addr - offset
+  shift_is : invalid_by true addr offset x ≡ false → unwrap_or (Some (addr - offset) if gives true addr offset x else x.shift) 0 ≡ addr - offset
   unfolding ◌if◌else◌
   shift_is e =
       let p = shifted_offset addr offset x e in
-      by_test (gives true addr offset x) (λ b. (addr - offset if b else x.shift) ≡ addr - offset) (λ g. refl)
-      (λ g. p.2 (by_test x.shifted (λ b. x.shifted ≡ b → b ≡ true) (λ on q. refl) (λ off q. absurd (true≢false (sym (gives_first addr offset x p.0 p.1 q) ∙ g))) refl))
+      by_test (gives true addr offset x) (λ b. unwrap_or (Some (addr - offset) if b else x.shift) 0 ≡ addr - offset) (λ g. refl) (λ g. go p g x.shift refl)
+    where
+      go : (x.invalid ≡ false) × (offset ≤ addr) × ((shift : ℕ) → x.shift ≡ Some shift → shift ≡ addr - offset)
+          → gives true addr offset x ≡ false
+          → (o : Option ℕ) → x.shift ≡ o → unwrap_or o 0 ≡ addr - offset
+      go p g (Some shift) is = p.2 shift is
+      go p g None is = absurd (true≢false (sym (gives_first addr offset x p.0 p.1 is) ∙ g))
 
   grown_shifted : addr ≤ MM_STACK_START → Shifts true len x → Shifts true len (grown true i addr offset n x)
-  unfolding grown
+  unfolding grown ◌if◌else◌
   grown_shifted ahead s = record {
-    kept = λ e.
-        let p = shifted_offset addr offset x e in
-        let q = shift_is e in
-        by_test x.shifted (λ b. x.shifted ≡ b → (((grown true i addr offset n x).shift ≤ (grown true i addr offset n x).lowest) × ((grown true i addr offset n x).highest ≤ (grown true i addr offset n x).shift + len)))
-        (λ b on.
-        let k = s.kept p.0 in
-        let c = p.2 on in
-        (omega (arith, q, c, k.0, p.1), omega (arith, q, c, k.1, p.1, lies)))
-        (λ b off.
-        let z = s.blank refl p.0 off in
-        (omega (arith, q, z.0, ahead, p.1), omega (arith, q, z.1, p.1, lies)))
-        refl;
+    kept = λ e. within e x.shift refl;
     plain = λ e. absurd (true≢false e);
     blank = λ v e off.
         let p = shifted_offset addr offset x e in
-        let o = or_false x.shifted (gives true addr offset x) off in
-        absurd (true≢false (sym (gives_first addr offset x p.0 p.1 o.0) ∙ o.1));
+        unshifted p (gives true addr offset x) refl off;
   }
+    where
+      within : invalid_by true addr offset x ≡ false → (o : Option ℕ) → x.shift ≡ o
+          → (shift_of (grown true i addr offset n x) ≤ (grown true i addr offset n x).lowest) × ((grown true i addr offset n x).highest ≤ shift_of (grown true i addr offset n x) + len)
+      within e (Some shift) on =
+          let p = shifted_offset addr offset x e in
+          let q = shift_is e in
+          let k = s.kept p.0 in
+          let c : shift_of x ≡ addr - offset = ap (λ (o : Option ℕ). unwrap_or o 0) on ∙ p.2 shift on in
+          (omega (arith, q, c, k.0, p.1), omega (arith, q, c, k.1, p.1, lies))
+      within e None off =
+          let p = shifted_offset addr offset x e in
+          let q = shift_is e in
+          let z = s.blank refl p.0 off in
+          (omega (arith, q, z.0, ahead, p.1), omega (arith, q, z.1, p.1, lies))
+
+      unshifted : (x.invalid ≡ false) × (offset ≤ addr) × ((shift : ℕ) → x.shift ≡ Some shift → shift ≡ addr - offset)
+          → (b : Bool) → gives true addr offset x ≡ b → (Some (addr - offset) if b else x.shift) ≡ None
+          → ((grown true i addr offset n x).lowest ≡ MAX) × ((grown true i addr offset n x).highest ≡ 0)
+      unshifted p true g off = absurd (true≢false (ap is_some off))
+      unshifted p false g off = absurd (true≢false (sym (gives_first addr offset x p.0 p.1 off) ∙ g))
 
 grown_keeps : (version2 : Bool) (i addr offset n len : ℕ) (x : Extent) → offset + n ≤ len → addr ≤ MM_STACK_START → Shifts version2 len x → Shifts version2 len (grown version2 i addr offset n x)
 grown_keeps true i addr offset n len x lies ahead s = grown_shifted i addr offset n len x lies ahead s
@@ -268,8 +282,8 @@ pub record Stays (version2 : Bool) (x : Extent) (offset start n : ℕ) : Type 0 
   pub valid : x.invalid ≡ false
   pub above : version2 ≡ true → MM_PROGRAM_START ≤ x.lowest
   pub offset_is : offset ≡ from_start x.lowest
-  pub start_is : start ≡ x.lowest - x.shift
-  pub length_is : n ≡ (x.highest - x.shift) - (x.lowest - x.shift)
+  pub start_is : start ≡ x.lowest - shift_of x
+  pub length_is : n ≡ (x.highest - shift_of x) - (x.lowest - shift_of x)
 
 can_valid : (x : Extent) → can_borrow x ≡ true → x.invalid ≡ false
 unfolding can_borrow
@@ -278,7 +292,7 @@ can_valid x e = not-true _ (and_left _ _ e)
 borrowed_stays : (version2 : Bool) (x : Extent) (offset start n : ℕ) → x.invalid ≡ false → borrowed version2 x ≡ Ok (Borrowed offset start n) → Stays version2 x offset start n
 unfolding borrowed
 borrowed_stays version2 x offset start n v e =
-    let e1 : Ok (Borrowed (from_start x.lowest) (x.lowest - x.shift) ((x.highest - x.shift) - (x.lowest - x.shift))) ≡ Ok (Borrowed offset start n) = row_rest _ _ _ _ (not_ok _ _) e in
+    let e1 : Ok (Borrowed (from_start x.lowest) (x.lowest - shift_of x) ((x.highest - shift_of x) - (x.lowest - shift_of x))) ≡ Ok (Borrowed offset start n) = row_rest _ _ _ _ (not_ok _ _) e in
     let f = not_first _ _ _ _ (not_ok _ _) e in
     record {
       valid = v;

@@ -1,7 +1,8 @@
 -- Where the read-only sections go, and the copy of them: `parse_ro_sections`.
 use Prim.Native.Nat.{ℕ, zero, suc, ◌+◌, ◌-◌, ◌≤◌, ◌<◌, min, max}
 use native.Mathlib.Omega.{arith}
-use Rattle.std.specs.Prelude.{◌≡◌, Bool, true, false, ◌&&◌, ◌||◌, not, List, length, drop, ltb, leb, eqb, Result, Ok, Err}
+use Rattle.std.specs.Prelude.{◌≡◌, Bool, true, false, ◌&&◌, ◌||◌, not, List, length, drop, ltb, leb, eqb, Result, Ok, Err, Option, Some, None, is_none}
+use Rattle.std.specs.Option.{unwrap_or}
 use Rattle.std.proofs.Math.Path.{refl}
 use Rattle.std.proofs.Math.Seq.{paste}
 use Rattle.ebpf.specs.Choice.{◌if◌else◌}
@@ -29,7 +30,12 @@ read_only name = (same_bytes name dot_text || same_bytes name dot_rodata) || (sa
 
 -- this section gives the constant
 unfoldable pub gives : Bool → ℕ → ℕ → Extent → Bool
-gives version2 addr offset x = (version2 && leb offset addr) && (not x.invalid && not x.shifted)
+gives version2 addr offset x = (version2 && leb offset addr) && (not x.invalid && is_none x.shift)
+
+-- there is a constant, and it is another
+abbrev pub other_than : ℕ → Option ℕ → Bool
+other_than d (Some shift) = not (eqb shift d)
+other_than d None = false
 
 -- an offset is not as it is to be: this section's, or one's before it
 unfoldable pub invalid_by : Bool → ℕ → ℕ → Extent → Bool
@@ -37,8 +43,7 @@ invalid_by version2 addr offset x =
     true if x.invalid else
     not (eqb addr offset) if not version2 else
     true if ltb addr offset else
-    not (eqb x.shift (addr - offset)) if x.shifted else
-    false
+    other_than (addr - offset) x.shift
 
 -- where the section ends in the machine; in version 1 its start counts
 unfoldable pub end_of : Bool → ℕ → ℕ → ℕ
@@ -52,8 +57,7 @@ grown version2 i addr offset n x =
       highest = max x.highest (sum_up_to addr n);
       filled = sum_up_to x.filled n;
       invalid = invalid_by version2 addr offset x;
-      shifted = x.shifted || gives version2 addr offset x;
-      shift = addr - offset if gives version2 addr offset x else x.shift;
+      shift = Some (addr - offset) if gives version2 addr offset x else x.shift;
       first = i if eqb x.many 0 else x.first;
       last = i;
       many = sum_up_to x.many 1;
@@ -92,8 +96,7 @@ nothing = record {
   highest = 0;
   filled = 0;
   invalid = false;
-  shifted = false;
-  shift = 0;
+  shift = None;
   first = 0;
   last = 0;
   many = 0;
@@ -112,11 +115,15 @@ from_start addr = addr - MM_PROGRAM_START if leb MM_PROGRAM_START addr else addr
 unfoldable pub can_borrow : Extent → Bool
 can_borrow x = not x.invalid && eqb (sum_up_to x.last 1 - x.first) x.many
 
+-- the constant, 0 where no section gave one
+abbrev pub shift_of : Extent → ℕ
+shift_of x = unwrap_or x.shift 0
+
 -- they stay in the image, at their addresses less the constant
 unfoldable pub borrowed : Bool → Extent → Result Placing ElfError
 borrowed version2 x =
     Err ValueOutOfBounds if version2 && ltb x.lowest MM_PROGRAM_START else
-    Ok (Borrowed (from_start x.lowest) (x.lowest - x.shift) ((x.highest - x.shift) - (x.lowest - x.shift)))
+    Ok (Borrowed (from_start x.lowest) (x.lowest - shift_of x) ((x.highest - shift_of x) - (x.lowest - shift_of x)))
 
 -- they are copied, from the lowest address on, or from 0 on where this is not optimized
 unfoldable pub owned : ℕ → Bool → Extent → Result Placing ElfError

@@ -28,15 +28,14 @@ pub enum Placing {
 
 // What is known of the read-only sections so far: their lowest address and highest end, how many
 // bytes they have in all, whether an offset is invalid, the constant by which addresses are past file
-// offsets, once there is one (`shifted`), and the first, the last and the number of the sections.
+// offsets, once there is one, and the first, the last and the number of the sections.
 #[derive(Clone, Copy, PartialEq, Eq, Debug)]
 pub struct Extent {
     pub lowest: u64,
     pub highest: u64,
     pub filled: u64,
     pub invalid: bool,
-    pub shifted: bool,
-    pub shift: u64,
+    pub shift: Option<u64>,
     pub first: u64,
     pub last: u64,
     pub many: u64,
@@ -58,7 +57,7 @@ fn is_read_only(name: &[u8]) -> bool
 fn gives_shift(version2: bool, addr: u64, offset: u64, x: Extent) -> bool
     ensures { result ≡ gives version2 addr offset x }
 {
-    (version2 & (offset <= addr)) & (!x.invalid & !x.shifted)
+    (version2 & (offset <= addr)) & (!x.invalid & x.shift.is_none())
 }
 
 // Whether an offset is invalid, with this section's.
@@ -75,10 +74,7 @@ fn is_invalid(version2: bool, addr: u64, offset: u64, x: Extent) -> bool
     if addr < offset {
         return true;
     }
-    if x.shifted {
-        return x.shift != addr - offset;
-    }
-    false
+    x.shift.is_some_and(|shift| shift != addr - offset)
 }
 
 // Where a section ends in the machine; in version 1 its start counts.
@@ -104,8 +100,7 @@ fn grow(version2: bool, index: u64, addr: u64, offset: u64, n: u64, x: Extent) -
         highest: x.highest.max(addr.saturating_add(n)),
         filled: x.filled.saturating_add(n),
         invalid: is_invalid(version2, addr, offset, x),
-        shifted: x.shifted | gives,
-        shift: pick(gives, addr.saturating_sub(offset), x.shift),
+        shift: pick(gives, Some(addr.saturating_sub(offset)), x.shift),
         first: pick(x.many == 0, index, x.first),
         last: index,
         many: x.many.saturating_add(1),
@@ -143,8 +138,7 @@ pub(crate) fn no_extent() -> Extent
         highest: 0,
         filled: 0,
         invalid: false,
-        shifted: false,
-        shift: 0,
+        shift: None,
         first: 0,
         last: 0,
         many: 0,
@@ -204,8 +198,9 @@ fn can_borrow(x: Extent) -> bool
 fn borrow_sections(version2: bool, x: Extent) -> Result<Placing, ElfError>
     ensures { result ≡ borrowed version2 x }
 {
-    let start = x.lowest.saturating_sub(x.shift);
-    let end = x.highest.saturating_sub(x.shift);
+    let shift = x.shift.unwrap_or(0);
+    let start = x.lowest.saturating_sub(shift);
+    let end = x.highest.saturating_sub(shift);
     if version2 & (x.lowest < MM_PROGRAM_START) {
         return Err(ElfError::ValueOutOfBounds);
     }
