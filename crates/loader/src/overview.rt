@@ -6,6 +6,7 @@ ghost use Rattle.loader.specs.ReadOnly.{gathered};
 use crate::error::ElfError;
 use crate::read_only::{Extent, gather_next, no_extent};
 use crate::sections::{Survey, no_survey, section_at, survey_next};
+use crate::validate::Rules;
 use elf_parser::Elf64;
 
 #[derive(Clone, Copy)]
@@ -15,14 +16,9 @@ pub struct Overview {
 }
 
 // It does not stop where the gathering refuses, since the checks count first and ask for all sections.
-pub(crate) fn look_over(
-    elf: &Elf64<'_>,
-    count: u32,
-    version2: bool,
-    reject_broken: bool,
-) -> Overview
+pub(crate) fn look_over(elf: &Elf64<'_>, rules: Rules, count: u32) -> Overview
     requires { count ≤ 65536 }
-    ensures { (result.survey ≡ survey elf.now.file.now elf.now.layout count) × (result.gathering ≡ gathered elf.now.file.now elf.now.layout count version2 reject_broken) }
+    ensures { (result.survey ≡ survey elf.now.file.now elf.now.layout count) × (result.gathering ≡ gathered elf.now.file.now elf.now.layout count rules.version2 rules.config.reject_broken_elfs) }
 {
     let len = elf.file.len() as u64;
     let mut v = no_survey();
@@ -31,7 +27,7 @@ pub(crate) fn look_over(
         let h = section_at(elf, i);
         let name = elf.part_of(elf.section_name(h.sh_name));
         let surveyed = survey_next(len, i, h, name, v);
-        let gathered = gather_next(elf, version2, reject_broken, i, h, name, g);
+        let gathered = gather_next(elf, rules, i, h, name, g);
         v = surveyed;
         g = gathered;
     }

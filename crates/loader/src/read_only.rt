@@ -6,6 +6,7 @@ ghost use Rattle.loader.specs.ReadOnly.{read_only, gives, invalid_by, end_of, gr
 use crate::addresses::{machine_addr, pick};
 use crate::error::ElfError;
 use crate::sections::section_at;
+use crate::validate::Rules;
 use ebpf::{MM_PROGRAM_START, MM_STACK_START};
 use elf_parser::types::Elf64Shdr;
 use elf_parser::{Elf64, past};
@@ -109,15 +110,16 @@ fn grow(version2: bool, index: u64, addr: u64, offset: u64, n: u64, x: Extent) -
 
 #[tactic(auto, using(ebpf::specs::Choice::choices), unfolding(crate::specs::ReadOnly::taken))]
 fn take_section(
-    version2: bool,
-    reject_broken: bool,
+    rules: Rules,
     index: u64,
     h: Elf64Shdr,
     n: u64,
     x: Extent,
 ) -> Result<Extent, ElfError>
-    ensures { result ≡ taken version2 reject_broken index h n x }
+    ensures { result ≡ taken rules.version2 rules.config.reject_broken_elfs index h n x }
 {
+    let version2 = rules.version2;
+    let reject_broken = rules.config.reject_broken_elfs;
     let invalid = is_invalid(version2, h.sh_addr, h.sh_offset, x);
     let end = end_of(version2, h.sh_addr, h.sh_size);
     if reject_broken & invalid {
@@ -149,28 +151,20 @@ pub(crate) fn no_extent() -> Extent
 #[tactic(auto, using(ebpf::specs::Choice::choices))]
 pub(crate) fn gather_next(
     elf: &Elf64<'_>,
-    version2: bool,
-    reject_broken: bool,
+    rules: Rules,
     index: u32,
     h: Elf64Shdr,
     name: &[u8],
     g: Result<Extent, ElfError>,
 ) -> Result<Extent, ElfError>
-    ensures { result ≡ gather_next elf.now.file.now elf.now.layout version2 reject_broken index h name.now g }
+    ensures { result ≡ gather_next elf.now.file.now elf.now.layout rules.version2 rules.config.reject_broken_elfs index h name.now g }
 {
     let x = g?;
     if !is_read_only(name) {
         return Ok(x);
     }
     match elf.file_range(index) {
-        Ok(place) => take_section(
-            version2,
-            reject_broken,
-            index as u64,
-            h,
-            place.length as u64,
-            x,
-        ),
+        Ok(place) => take_section(rules, index as u64, h, place.length as u64, x),
         Err(_) => Err(ElfError::ValueOutOfBounds),
     }
 }
@@ -228,15 +222,12 @@ fn own_sections(len: u64, optimize: bool, x: Extent) -> Result<Placing, ElfError
 }
 
 #[tactic(auto, using(ebpf::specs::Choice::choices), unfolding(crate::specs::ReadOnly::placed))]
-fn place_extent(
-    len: u64,
-    version2: bool,
-    reject_broken: bool,
-    optimize: bool,
-    x: Extent,
-) -> Result<Placing, ElfError>
-    ensures { result ≡ placed len version2 reject_broken optimize x }
+fn place_extent(rules: Rules, len: u64, x: Extent) -> Result<Placing, ElfError>
+    ensures { result ≡ placed len rules.version2 rules.config.reject_broken_elfs rules.config.optimize_rodata x }
 {
+    let version2 = rules.version2;
+    let reject_broken = rules.config.reject_broken_elfs;
+    let optimize = rules.config.optimize_rodata;
     let borrows = can_borrow(x);
     let end = x.lowest.saturating_add(x.filled);
     if reject_broken & (x.highest < end) {
@@ -253,15 +244,13 @@ fn place_extent(
 
 // It asks for no byte of the sections, only for what was gathered of their headers and names.
 pub(crate) fn place_gathered(
+    rules: Rules,
     len: u64,
-    version2: bool,
-    reject_broken: bool,
-    optimize: bool,
     g: Result<Extent, ElfError>,
 ) -> Result<Placing, ElfError>
-    ensures { result ≡ placing_by len version2 reject_broken optimize g }
+    ensures { result ≡ placing_by len rules.version2 rules.config.reject_broken_elfs rules.config.optimize_rodata g }
 {
-    place_extent(len, version2, reject_broken, optimize, g?)
+    place_extent(rules, len, g?)
 }
 
 // The bytes of `from` from `start` on, `n` of them, go to `at`.

@@ -24,6 +24,13 @@ pub struct Config {
     pub enable_sbpf_v2: bool,
 }
 
+// What a file is checked and its sections are placed by: its version, and the settings.
+#[derive(Clone, Copy)]
+pub struct Rules {
+    pub version2: bool,
+    pub config: Config,
+}
+
 // What a load needs of a file that passed the checks. `start` and `length` are the text's place in
 // the file, 0 for a text without bytes; `addr` is its address in the machine.
 #[derive(Clone, Copy)]
@@ -68,9 +75,11 @@ fn is_ascending(s: &[u32]) -> bool
 
 // The file header's part: ABI, machine, type, version, and version 2's limits.
 #[tactic(auto, using(ebpf::specs::Choice::choices), unfolding(crate::specs::Validate::header_check))]
-fn check_header(h: Elf64Ehdr, c: Config, version2: bool) -> Result<(), ElfError>
-    ensures { result ≡ header_check h c version2 }
+fn check_header(h: Elf64Ehdr, rules: Rules) -> Result<(), ElfError>
+    ensures { result ≡ header_check h rules.config rules.version2 }
 {
+    let c = rules.config;
+    let version2 = rules.version2;
     if h.ei_osabi != 0 {
         return Err(ElfError::WrongAbi);
     }
@@ -129,14 +138,11 @@ fn check_sections(elf: &Elf64<'_>, v: Survey) -> Result<(), ElfError>
 
 // The entry and the text's place.
 #[tactic(auto, using(ebpf::specs::Choice::choices), unfolding(crate::specs::Validate::text_check))]
-fn check_text(
-    version2: bool,
-    reject_broken: bool,
-    e_entry: u64,
-    h: Elf64Shdr,
-) -> Result<(), ElfError>
-    ensures { result ≡ text_check version2 reject_broken e_entry h }
+fn check_text(rules: Rules, e_entry: u64, h: Elf64Shdr) -> Result<(), ElfError>
+    ensures { result ≡ text_check rules.version2 rules.config.reject_broken_elfs e_entry h }
 {
+    let version2 = rules.version2;
+    let reject_broken = rules.config.reject_broken_elfs;
     let addr = machine_addr(version2, h.sh_addr);
     let end = h.sh_addr.saturating_add(h.sh_size);
     let last = addr.saturating_add(h.sh_size);
@@ -161,15 +167,16 @@ fn check_text(
 // What a load needs, where every check passed.
 #[tactic(auto, using(ebpf::specs::Choice::choices), unfolding(crate::specs::Validate::job_of))]
 fn job_of(
-    c: Config,
-    version2: bool,
+    rules: Rules,
     layout: Layout,
     e_entry: u64,
     h: Elf64Shdr,
     placing: Result<Placing, ElfError>,
 ) -> Job
-    ensures { result ≡ job_of c version2 layout e_entry h placing }
+    ensures { result ≡ job_of rules.config rules.version2 layout e_entry h placing }
 {
+    let c = rules.config;
+    let version2 = rules.version2;
     let nobits = h.sh_type == SHT_NOBITS;
     let addr = machine_addr(version2, h.sh_addr);
     Job {
@@ -189,42 +196,33 @@ fn job_of(
 }
 
 // The header's and the sections' checks.
-fn check_file(
-    elf: &Elf64<'_>,
-    c: Config,
-    h: Elf64Ehdr,
-    version2: bool,
-    v: Survey,
-) -> Result<(), ElfError>
-    ensures { result ≡ file_check elf.now.file.now c elf.now.layout h version2 v }
+fn check_file(elf: &Elf64<'_>, rules: Rules, h: Elf64Ehdr, v: Survey) -> Result<(), ElfError>
+    ensures { result ≡ file_check elf.now.file.now rules.config elf.now.layout h rules.version2 v }
 {
-    check_header(h, c, version2)?;
+    check_header(h, rules)?;
     check_sections(elf, v)?;
     let text = section_at(elf, v.text);
-    check_text(version2, c.reject_broken_elfs, h.e_entry, text)
+    check_text(rules, h.e_entry, text)
 }
 
 // A parsed file's checks, and what they leave. How the read-only sections are placed is worked out
 // here too, since it needs no byte of them; where it refuses, that counts last.
 #[tactic(auto, unfolding(crate::specs::Validate::validated, crate::specs::ReadOnly::placing))]
-fn validate(elf: &Elf64<'_>, c: Config) -> Result<Job, ElfError>
-    ensures { result ≡ validated elf.now.file.now c elf.now.layout }
+fn validate(elf: &Elf64<'_>, config: Config) -> Result<Job, ElfError>
+    ensures { result ≡ validated elf.now.file.now config elf.now.layout }
 {
     let h = file_header(elf.file);
-    let version2 = h.e_flags == EF_SBPF_V2;
-    let seen = look_over(elf, h.e_shnum as u32, version2, c.reject_broken_elfs);
+    let rules = Rules {
+        version2: h.e_flags == EF_SBPF_V2,
+        config,
+    };
+    let seen = look_over(elf, rules, h.e_shnum as u32);
     let v = seen.survey;
     let g = seen.gathering;
-    check_file(elf, c, h, version2, v)?;
+    check_file(elf, rules, h, v)?;
     let text = section_at(elf, v.text);
-    let placing = place_gathered(
-        elf.file.len() as u64,
-        version2,
-        c.reject_broken_elfs,
-        c.optimize_rodata,
-        g,
-    );
-    Ok(job_of(c, version2, elf.layout, h.e_entry, text, placing))
+    let placing = place_gathered(rules, elf.file.len() as u64, g);
+    Ok(job_of(rules, elf.layout, h.e_entry, text, placing))
 }
 
 // Everything ahead of the first registration.

@@ -13,4 +13,4 @@ invariant-loop-i l =
     (l.i ≤ l.count)
     × (l.v.texts ≤ l.i)
     × (survey l.elf.file.now l.elf.layout l.count ≡ survey_from l.elf.file.now l.elf.layout (l.count - l.i) l.i l.v)
-    × (gathered l.elf.file.now l.elf.layout l.count l.version2 l.reject_broken ≡ gather_from l.elf.file.now l.elf.layout l.version2 l.reject_broken (l.count - l.i) l.i l.g)
+    × (gathered l.elf.file.now l.elf.layout l.count l.rules.version2 l.rules.config.reject_broken_elfs ≡ gather_from l.elf.file.now l.elf.layout l.rules.version2 l.rules.config.reject_broken_elfs (l.count - l.i) l.i l.g)
