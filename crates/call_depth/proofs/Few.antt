@@ -19,7 +19,7 @@ use Rattle.loader.specs.declared.deeds.Deed.{Deed}
 use Rattle.loader.specs.declared.deeds.Deed.TheVariants.{Skip, Halves, Word, Key, Register, RegisterOnly, RegisterOutside}
 use Rattle.loader.specs.declared.validate.Job.{Job}
 use Rattle.loader.specs.Calls.{slot_count, call_deed, slot_trace, calls_trace}
-use Rattle.loader.specs.InnerContracts.{InFile}
+use Rattle.loader.specs.InFile.{InFile}
 use Rattle.loader.specs.Deeds.{deed_trace}
 use Rattle.loader.specs.Entry.{forget_trace, entry_deed, entry_trace}
 use Rattle.loader.specs.Labels.{label_symbols, label_count, label_deed, label_trace, labels_trace, few_symbols}

@@ -18,7 +18,7 @@ use Rattle.loader.specs.declared.error.ElfError.TheVariants.{SymbolHashCollision
 use Rattle.loader.specs.declared.validate.Config.{Config}
 use Rattle.loader.specs.declared.validate.Job.{Job}
 use Rattle.loader.specs.Calls.{immediate}
-use Rattle.loader.specs.InnerContracts.{InFile}
+use Rattle.loader.specs.InFile.{InFile}
 use Rattle.loader.specs.Demand.{Calls, Keys, Entry, Others, Bytes, IsNameKey, Finds, key_of, OnAccepted, reached_in, reached_early, Clash, distinct, Demand3}
 use Rattle.loader.specs.Load.{held_by, on_trace, on_prepared, load_of, load_of_lent, Loaded}
 use Rattle.loader.specs.Loads.{OnUsed, Loads}

@@ -39,7 +39,7 @@ use Rattle.loader.specs.Calls.{call_at, text_of, slot_count, immediate, call_row
 use Rattle.loader.specs.Relocations.{relocation_at, relocation_count, halves_deed, word_deed, address_deed, symbol_deed, plan6464, relative_text, plan_relative, register_deed, function_call, builtin_call, call_by_name, named_call, symbol_call, plan6432, plan_at, plan_of, place_at, relocation_trace, relocations_trace}
 use Rattle.loader.specs.Labels.{label_row, named_label, label_of, label_by, label_deed, label_symbols, label_trace, labels_trace}
 use Rattle.loader.specs.Parts.{writing_trace}
-use Rattle.loader.specs.InnerContracts.{InFile}
+use Rattle.loader.specs.InFile.{InFile}
 use Rattle.loader.specs.Demand.{name_key, key_of, early_trace}
 use Rattle.loader.proofs.Targets.{to_slot, outside_is}
 use Rattle.loader.proofs.Plain.{Plain, picks}

@@ -29,7 +29,7 @@ use Rattle.loader.specs.Relocations.{relocation_count, place_at, relocation_deed
 use Rattle.loader.specs.Labels.{label_row, named_label, label_of, label_by, label_deed, label_symbols, label_trace, labels_trace}
 use Rattle.loader.specs.Entry.{entry_deed, forget_trace, entry_trace}
 use Rattle.loader.specs.Parts.{writing_trace, naming_trace, placed_trace, job_trace}
-use Rattle.loader.specs.InnerContracts.{InFile}
+use Rattle.loader.specs.InFile.{InFile}
 use Rattle.loader.specs.Demand.{CallsTo, info_of, addend_of, Unnamed, key_of, Bytes}
 use Rattle.loader.proofs.Ends.{Ends, ends_then, ends_each}
 use Rattle.loader.proofs.Kept.{not_in, in_places, le_put, le_same, written_other, deed_ends, step_ends, step_length, deeds_length, deeds_other, deeds_nothing}

@@ -26,7 +26,8 @@ use Rattle.loader.specs.Parts.{writing_trace, naming_trace, placed_trace, job_tr
 use Rattle.elf_parser.specs.Types.{file_header}
 use Rattle.loader.specs.Validate.{is_version2, prepared}
 use Rattle.loader.specs.Load.{all_count, placed_by, after_placing, Cleared, placed_bytes, HeldBytes, answer_by, answer_for, Loading, refuses, held_by, on_trace, on_prepared, load_of, Loaded, Tried}
-use Rattle.loader.specs.InnerContracts.{outcome, InFile, BeginsIn, Keeps, Settles, SettlesTo, held_of}
+use Rattle.loader.specs.InnerContracts.{outcome, BeginsIn, Keeps, Settles, SettlesTo, held_of}
+use Rattle.loader.specs.InFile.{InFile}
 use Rattle.loader.specs.declared.deeds.Outputs.{Outputs}
 use Rattle.loader.proofs.Going.{settles_stop, settles_then, answered}
 use Rattle.loader.proofs.Readied.{readied, placed_as}

@@ -28,7 +28,7 @@ use Rattle.loader.specs.Sections.{section_at, name_of, dot_text, outside_file, s
 use Rattle.loader.specs.ReadOnly.{placing}
 use Rattle.loader.specs.Relocations.{few_relocations}
 use Rattle.loader.specs.Validate.{size_check, ascends, sections_check, text_check, job_of, file_check, is_version2, validated, parsed_then, prepared, header_check}
-use Rattle.loader.specs.InnerContracts.{InFile}
+use Rattle.loader.specs.InFile.{InFile}
 use Rattle.elf_parser.specs.declared.error.ElfParserError.{ElfParserError}
 
 -- ---- the survey

@@ -33,7 +33,7 @@ use Rattle.loader.specs.Parts.{writing_trace, placed_trace, job_trace}
 use Rattle.loader.specs.Trace.{Trace, done, stop, register, forget, and_then, Settled, accepted, refused, settle, on_registered, on_settled, settle_and_then}
 use Rattle.loader.specs.Validate.{prepared}
 use Rattle.loader.specs.Load.{held_by, on_trace, on_prepared, load_of, answer_of}
-use Rattle.loader.specs.InnerContracts.{InFile}
+use Rattle.loader.specs.InFile.{InFile}
 use Rattle.loader.specs.Demand.{Injective, key_of, name_key, entry_index, reached, reached_in, early_trace, reached_early, Among, Clash, distinct}
 use Rattle.loader.proofs.Readied.{readied}
 use Rattle.loader.proofs.Plain.{Plain, of_table, picks, PlainPlacing, PlainlyPrepared, prepared_plain}

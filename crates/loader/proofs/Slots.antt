@@ -26,7 +26,8 @@ use Rattle.loader.specs.Functions.{row_for}
 use Rattle.loader.specs.Deeds.{DeedFits, deed_trace}
 use Rattle.loader.specs.Trace.{and_then, each}
 use Rattle.loader.specs.Calls.{next_call, is_local_call, call_of, call_at, text_of, slot_count, immediate, call_row, call_by, call_deed, slot_trace}
-use Rattle.loader.specs.InnerContracts.{InFile, BeginsIn}
+use Rattle.loader.specs.InnerContracts.{BeginsIn}
+use Rattle.loader.specs.InFile.{InFile}
 use Rattle.loader.proofs.Going.{GoingIn, in_ahead}
 
 row_fits : (n at : ℕ) (r : LegacyResult) → at + 4 ≤ n → DeedFits n (call_row at r)

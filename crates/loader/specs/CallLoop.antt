@@ -8,7 +8,7 @@ use Rattle.program.specs.Table.{Slices, columns_of, capacity, rows_of, Alike}
 use Rattle.loader.specs.declared.error.ElfError.TheVariants.{SymbolHashCollision}
 use Rattle.loader.specs.declared.validate.Job.{Job}
 use Rattle.loader.specs.declared.deeds.Outputs.{Outputs}
-use Rattle.loader.specs.declared.deeds.Inputs.{Inputs}
+use Rattle.loader.specs.declared.inputs.Inputs.{Inputs}
 use Rattle.loader.specs.declared.error.ElfError.{ElfError}
 use Rattle.loader.specs.Calls.{slot_count, slot_trace}
 use Rattle.loader.specs.Functions.{row_for}

@@ -2,17 +2,15 @@
 use Rattle.program.specs.Rows.{RegisterResult}
 use Rattle.program.specs.declared.RegisterError.TheVariants.{Collision, Full}
 use Rattle.program.specs.declared.Registered.TheVariants.{Inserted, Repeat}
-use Rattle.std.specs.Prelude.{ℕ, ◌+◌, ◌-◌, ◌*◌, ◌≤◌, ◌^◌, ◌≡◌, List, Bool, true, false, length, Ok, Err, Result}
-use Rattle.loader.specs.declared.validate.Job.{Job}
+use Rattle.std.specs.Prelude.{ℕ, ◌+◌, ◌*◌, ◌≤◌, ◌^◌, ◌≡◌, List, Bool, true, false, length, Ok, Err, Result}
 use Rattle.program.specs.declared.Row.{Row}
 use Rattle.program.specs.Table.{Slices, SameLens, SameColumns, columns_of, capacity, rows_of, Ready}
 use Rattle.loader.specs.declared.error.ElfError.TheVariants.{SymbolHashCollision, TableFull, ValueOutOfBounds}
 use Rattle.loader.specs.declared.deeds.Outputs.{Outputs}
-use Rattle.loader.specs.declared.deeds.Inputs.{Inputs}
+use Rattle.loader.specs.declared.inputs.Inputs.{Inputs}
 use Rattle.loader.specs.declared.error.ElfError.{ElfError}
 use Rattle.loader.specs.Deeds.{Held, holding}
 use Rattle.loader.specs.Entry.{forget_trace}
-use Rattle.loader.specs.Functions.{Keyed}
 use Rattle.loader.specs.Trace.{Trace, done, register, Settled, accepted, refused, settle}
 
 -- a registration's answer, as the load's
@@ -53,16 +51,6 @@ Near n used moves (Err r) = Unit {0}
 pub record Room (n used moves : ℕ) : Type 0 where
   pub few : used + n ≤ 2 ^ 26
   pub moved : moves + n * 2 ^ 26 ≤ 2 ^ 60
-
--- what the checks ahead of a load leave of a job's numbers: the text lies in the file; file, text size and the entry's offset
--- are at most 2 ^ 24; there are no more relocations than the file has room for
-pub record InFile (file : List ℕ) (j : Job) : Type 0 where
-  pub text : j.start + j.length ≤ length file
-  pub size : j.sh_size ≤ 2 ^ 24
-  pub short : length file ≤ 2 ^ 24
-  pub relocations : 16 * j.layout.dynamic_relocations.count ≤ length file
-  pub relas : 24 * j.layout.dynamic_relas.count ≤ length file
-  pub entry : j.e_entry - j.sh_addr ≤ 2 ^ 24
 
 -- what a part of a load is handed: the slices are a table, and there is room for n registrations more
 pub record BeginsIn (n : ℕ) (t : Slices) (used moves : ℕ) : Type 0 where
@@ -117,10 +105,10 @@ Enters row o o' a = (im : List ℕ) → SettlesAs (register row (done im)) im 1 
 abbrev pub Forgets : Bool → Outputs → Outputs → Type 0
 Forgets version2 o o' = (im : List ℕ) → SettlesAs (forget_trace version2 im) im 1 o o' (Ok tt)
 
--- what a part of a load asks: a job in the file, the right table of keys, an image as long as the file, and room for n registrations more
+-- what a part of a load asks: an image as long as the file, and room for n registrations more
 abbrev pub PartAsks : ℕ → Inputs → Outputs → Type 0
-PartAsks n i o = InFile i.file.now i.job × Keyed i.table.now × (length o.image.now ≡ length i.file.now) × Begins n o
+PartAsks n i o = (length o.image.now ≡ length i.file.now) × Begins n o
 
 -- the same of the first, before which there is no row
 abbrev pub FirstAsks : ℕ → Inputs → Outputs → Type 0
-FirstAsks n i o = InFile i.file.now i.job × Keyed i.table.now × (length o.image.now ≡ length i.file.now) × Starts n o
+FirstAsks n i o = (length o.image.now ≡ length i.file.now) × Starts n o

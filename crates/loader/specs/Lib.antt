@@ -12,6 +12,7 @@ pub mod Bytes
 pub mod Trace
 pub mod Deeds
 pub mod Entry
+pub mod InFile
 pub mod InnerContracts
 pub mod Calls
 pub mod CallLoop

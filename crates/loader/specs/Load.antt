@@ -15,7 +15,8 @@ use Rattle.loader.specs.Parts.{job_trace}
 use Rattle.loader.specs.Validate.{prepared}
 use Rattle.loader.specs.declared.validate.Job.{Job}
 use Rattle.loader.specs.Calls.{slot_count}
-use Rattle.loader.specs.InnerContracts.{InFile, Settles}
+use Rattle.loader.specs.InnerContracts.{Settles}
+use Rattle.loader.specs.InFile.{InFile}
 use Rattle.loader.specs.Labels.{label_count}
 use Rattle.loader.specs.Relocations.{relocation_count}
 use Rattle.elf_parser.specs.declared.layout.Layout.{Layout}

@@ -6,8 +6,9 @@ ghost use Rattle.loader.specs.Calls.{inside, target, is_local_call, call_of, cal
 ghost use Rattle.loader.specs.CallLoop.{TargetAsks, Targets, StillAlike, target_row, SlotAsks, StillHeld, SlotsAsk, SlotsLead};
 ghost use Rattle.loader.specs.InnerContracts.{Keeps, SettlesTo, FirstAsks};
 
-use crate::deeds::{Inputs, Outputs, store_u32};
+use crate::deeds::{Outputs, store_u32};
 use crate::error::ElfError;
+use crate::inputs::Inputs;
 use crate::read_only::copy_bytes;
 use ebpf::{CALL_IMM, Insn, get_insn};
 use program::{FunctionName, Row, is_taken, kept_name, legacy_key};

@@ -9,8 +9,6 @@ ghost use Rattle.loader.specs.CallLoop.{AlikeIn, StillAlike};
 ghost use Rattle.loader.specs.InnerContracts.{entered_as, moved_by, finished_by, Begins, Keeps, Enters, SettlesTo};
 
 use crate::error::ElfError;
-use crate::validate::Job;
-use elf_parser::Elf64;
 use program::{FunctionRegistry, RegisterError, Registered, Row};
 
 #[derive(Clone, Copy)]
@@ -44,28 +42,6 @@ pub struct Outputs<'o, 't> {
     pub image: &'o mut [u8],
     pub registry: &'o mut FunctionRegistry<'t>,
     pub moves: u64,
-}
-
-// What a load reads: the file, the built-in keys, the keys of the first indices, and what the checks left.
-#[derive(Clone, Copy)]
-pub struct Inputs<'a> {
-    pub file: &'a [u8],
-    pub builtins: &'a [u32],
-    pub table: &'a [u32],
-    pub job: Job,
-}
-
-impl<'a> Inputs<'a> {
-    // The file with its layout.
-    #[inline(always)]
-    pub(crate) fn elf(&self) -> Elf64<'a>
-        ensures { result ≡ record { file = self.now.file; layout = self.now.job.layout } }
-    {
-        Elf64 {
-            file: self.file,
-            layout: self.job.layout,
-        }
-    }
 }
 
 fn entry_of(deed: Deed) -> Entry

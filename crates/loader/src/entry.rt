@@ -1,19 +1,18 @@
 // The entry: in version 1 the row under the key of the name entrypoint goes first.
 ghost use Rattle.std.specs.Prelude.{◌≡◌, ◌+◌, ◌-◌, ◌≤◌, ◌<◌, ◌^◌};
-ghost use Rattle.loader.specs.Functions.{Keyed};
 ghost use Rattle.loader.specs.Entry.{entry_deed, entry_trace};
 ghost use Rattle.loader.specs.InnerContracts.{Begins, Forgets, Keeps, SettlesTo};
 
-use crate::deeds::{Deed, Inputs, Outputs};
+use crate::deeds::{Deed, Outputs};
 use crate::error::ElfError;
 use crate::functions::row_for;
+use crate::inputs::Inputs;
 use crate::labels::label_row;
 use program::{ENTRYPOINT_KEY, FunctionName};
 
 // What a load does about the entry.
 #[tactic(auto, using(ebpf::specs::Choice::choices), unfolding(crate::specs::Entry::entry_deed))]
 fn entry_deed(inputs: &Inputs<'_>) -> Result<Deed, ElfError>
-    requires { Keyed inputs.now.table.now × (inputs.now.job.e_entry - inputs.now.job.sh_addr ≤ 2 ^ 24) }
     ensures { result ≡ entry_deed inputs.now.builtins.now inputs.now.job }
 {
     let offset = inputs.job.e_entry.saturating_sub(inputs.job.sh_addr);
@@ -41,7 +40,7 @@ fn forget_entrypoint(out: &mut Outputs<'_, '_>, version2: bool)
 
 // The entry is registered, in version 1 behind the removal.
 pub(crate) fn register_entry(out: &mut Outputs<'_, '_>, inputs: &Inputs<'_>) -> Result<(), ElfError>
-    requires { Keyed inputs.now.table.now × (inputs.now.job.e_entry - inputs.now.job.sh_addr ≤ 2 ^ 24) × Begins 2 out.old }
+    requires { Begins 2 out.old }
     ensures keeps { Keeps out.old out.new }
     ensures settles { SettlesTo (entry_trace inputs.now.builtins.now inputs.now.job out.old.image.now) 2 out.old out.new result }
 {

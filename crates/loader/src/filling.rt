@@ -4,11 +4,13 @@ ghost use Rattle.program.specs.Table.{SameColumns, SameLens, columns_of};
 ghost use Rattle.loader.specs.Parts.{job_trace};
 ghost use Rattle.loader.specs.Load.{all_count, placed_bytes, Clears, FillAsks, Fills};
 ghost use Rattle.loader.specs.Loads.{OnUsed};
-ghost use Rattle.loader.specs.InnerContracts.{InFile, Starts, FirstAsks, Keeps, SettlesTo};
+ghost use Rattle.loader.specs.InnerContracts.{Starts, FirstAsks, Keeps, SettlesTo};
+ghost use Rattle.loader.specs.InFile.{InFile};
 
 use crate::answer::{Accepted, answer_of};
-use crate::deeds::{Inputs, Outputs};
+use crate::deeds::Outputs;
 use crate::error::ElfError;
+use crate::inputs::Inputs;
 use crate::parts::{calls_and_relocations, labels_and_entry};
 use crate::read_only::{Placing, copy_sections};
 use crate::validate::Job;

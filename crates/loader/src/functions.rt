@@ -2,7 +2,7 @@
 ghost use Rattle.std.specs.Prelude.{◌≡◌, ◌≤◌, ◌^◌, length};
 ghost use Rattle.loader.specs.Functions.{Keyed, row_for, symbol_function};
 
-use crate::deeds::Inputs;
+use crate::inputs::Inputs;
 use elf_parser::Place;
 use program::{FunctionName, Row, SymbolHashCollision, legacy_row};
 
@@ -12,7 +12,6 @@ pub(crate) fn row_for(
     name: FunctionName,
     index: u32,
 ) -> Result<Row, SymbolHashCollision>
-    requires { Keyed inputs.now.table.now }
     ensures { result ≡ row_for inputs.now.builtins.now inputs.now.job name index }
 {
     legacy_row(

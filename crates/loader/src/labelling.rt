@@ -2,8 +2,9 @@
 ghost use Rattle.loader.specs.Labels.{labels_trace, label_count};
 ghost use Rattle.loader.specs.InnerContracts.{PartAsks, Keeps, SettlesTo};
 
-use crate::deeds::{Inputs, Outputs};
+use crate::deeds::Outputs;
 use crate::error::ElfError;
+use crate::inputs::Inputs;
 use crate::labels::{label_deed, label_symbols};
 
 // Every symbol in turn, up to the first refusal.

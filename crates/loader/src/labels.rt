@@ -1,13 +1,12 @@
 // What a symbol of .symtab asks for where labels are kept: a function to register.
 ghost use Rattle.std.specs.Prelude.{◌≡◌, ◌≤◌, ◌^◌};
 ghost use Rattle.elf_parser.specs.Names.{symbol_name};
-ghost use Rattle.loader.specs.Functions.{Keyed};
-ghost use Rattle.loader.specs.InnerContracts.{InFile};
 ghost use Rattle.loader.specs.Labels.{label_row, label_as, named_label, label_of, label_deed, label_symbols};
 
-use crate::deeds::{Deed, Inputs};
+use crate::deeds::Deed;
 use crate::error::ElfError;
 use crate::functions::{row_for, symbol_function};
+use crate::inputs::Inputs;
 use crate::relocations::in_addresses;
 use elf_parser::types::Elf64Sym;
 use elf_parser::{Entries, NO_ENTRIES, Place, bytes_at, entry};
@@ -24,7 +23,7 @@ pub(crate) fn label_row(row: Result<Row, SymbolHashCollision>) -> Result<Deed, E
 
 // A function whose name is `part`, which stands at `place`.
 fn label_as(inputs: &Inputs<'_>, part: &[u8], index: u32, place: Place) -> Result<Deed, ElfError>
-    requires { Keyed inputs.now.table.now × (place.start ≤ 2 ^ 24) × (place.length ≤ 64) }
+    requires { (place.start ≤ 2 ^ 24) × (place.length ≤ 64) }
     ensures { result ≡ label_as part.now inputs.now.builtins.now inputs.now.job index place.start place.length }
 {
     let name = symbol_function(part, place);
@@ -33,7 +32,6 @@ fn label_as(inputs: &Inputs<'_>, part: &[u8], index: u32, place: Place) -> Resul
 
 // A function at `index`.
 fn named_label(inputs: &Inputs<'_>, index: u32, st_name: u32) -> Result<Deed, ElfError>
-    requires { InFile inputs.now.file.now inputs.now.job × Keyed inputs.now.table.now }
     ensures { result ≡ named_label inputs.now.file.now inputs.now.builtins.now inputs.now.job index st_name (symbol_name inputs.now.file.now inputs.now.job.layout st_name) }
 {
     match inputs.elf().symbol_name(st_name) {
@@ -44,7 +42,6 @@ fn named_label(inputs: &Inputs<'_>, index: u32, st_name: u32) -> Result<Deed, El
 
 #[tactic(auto, using(ebpf::specs::Choice::choices), unfolding(crate::specs::Labels::label_of))]
 fn label_of(inputs: &Inputs<'_>, y: Elf64Sym) -> Result<Deed, ElfError>
-    requires { InFile inputs.now.file.now inputs.now.job × Keyed inputs.now.table.now }
     ensures { result ≡ label_of inputs.now.file.now inputs.now.builtins.now inputs.now.job y }
 {
     let sh_addr = inputs.job.sh_addr;
@@ -67,7 +64,6 @@ pub(crate) fn label_deed(
     symbols: Entries,
     index: u32,
 ) -> Result<Deed, ElfError>
-    requires { InFile inputs.now.file.now inputs.now.job × Keyed inputs.now.table.now }
     ensures { result ≡ label_deed inputs.now.file.now inputs.now.builtins.now inputs.now.job symbols index }
 {
     match entry(inputs.file, symbols, index) {

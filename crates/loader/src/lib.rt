@@ -18,6 +18,7 @@ mod error;
 mod filling;
 mod functions;
 mod get_bytes;
+mod inputs;
 mod labelling;
 mod labels;
 mod overview;

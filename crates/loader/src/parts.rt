@@ -5,9 +5,10 @@ ghost use Rattle.loader.specs.InnerContracts.{FirstAsks, PartAsks, Keeps, Settle
 ghost use Rattle.loader.specs.Load.{writing_count, naming_count};
 
 use crate::calls::register_calls;
-use crate::deeds::{Inputs, Outputs};
+use crate::deeds::Outputs;
 use crate::entry::register_entry;
 use crate::error::ElfError;
+use crate::inputs::Inputs;
 use crate::labelling::register_labels;
 use crate::relocating::apply_relocations;
 

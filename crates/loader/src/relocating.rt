@@ -2,8 +2,9 @@
 ghost use Rattle.loader.specs.Relocations.{relocations_trace, relocation_count};
 ghost use Rattle.loader.specs.InnerContracts.{PartAsks, Keeps, SettlesTo};
 
-use crate::deeds::{Inputs, Outputs};
+use crate::deeds::Outputs;
 use crate::error::ElfError;
+use crate::inputs::Inputs;
 use crate::relocations::{plan_relocation, relocation_at, used_header};
 
 // Every relocation in turn, up to the first refusal. `header` is the program header used last.

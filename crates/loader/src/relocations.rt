@@ -5,13 +5,12 @@ ghost use Rattle.ebpf.specs.LittleEndian.{join};
 ghost use Rattle.elf_parser.specs.Records.{dynamic_relocation_of, dynamic_rela_of};
 ghost use Rattle.elf_parser.specs.Names.{dynamic_symbol_name};
 ghost use Rattle.loader.specs.Addresses.{sum_up_to};
-ghost use Rattle.loader.specs.Functions.{Keyed};
-ghost use Rattle.loader.specs.InnerContracts.{InFile};
 ghost use Rattle.loader.specs.Relocations.{relocation_or, rela_or, relocation_at, header_at, contains, first_from, used_header, place_of, within, program_address, immediate_at, halves_deed, word_deed, symbol_address, plan6464, relative_text, relative_value, is_negative, plan_relative, register_deed, function_call, builtin_call, call_by_name, named_call, plan6432, plan_at, plan_of};
 
-use crate::deeds::{Deed, Inputs};
+use crate::deeds::Deed;
 use crate::error::ElfError;
 use crate::functions::{row_for, symbol_function};
+use crate::inputs::Inputs;
 use ebpf::little_endian::read;
 use ebpf::{MM_PROGRAM_START, hash_symbol_name};
 use elf_parser::types::Elf64Sym;
@@ -396,7 +395,6 @@ fn function_call(
     name: FunctionName,
     st_value: u64,
 ) -> Result<Deed, ElfError>
-    requires { Keyed inputs.now.table.now × (inputs.now.job.sh_size ≤ 2 ^ 24) }
     ensures { result ≡ function_call inputs.now.builtins.now inputs.now.job len at name st_value }
 {
     let sh_addr = inputs.job.sh_addr;
@@ -447,7 +445,7 @@ fn call_by_name(
     y: Elf64Sym,
     place: Place,
 ) -> Result<Deed, ElfError>
-    requires { Keyed inputs.now.table.now × (inputs.now.job.sh_size ≤ 2 ^ 24) × (place.start ≤ 2 ^ 24) × (place.length ≤ 64) }
+    requires { (place.start ≤ 2 ^ 24) × (place.length ≤ 64) }
     ensures { result ≡ call_by_name part.now inputs.now.builtins.now inputs.now.job len r y place.start place.length }
 {
     let at = immediate_at(r);
@@ -462,7 +460,6 @@ fn call_by_name(
 
 // A call of a symbol.
 fn named_call(inputs: &Inputs<'_>, len: u64, r: u64, y: Elf64Sym) -> Result<Deed, ElfError>
-    requires { InFile inputs.now.file.now inputs.now.job × Keyed inputs.now.table.now }
     ensures { result ≡ named_call inputs.now.file.now inputs.now.builtins.now inputs.now.job len r y (dynamic_symbol_name inputs.now.file.now inputs.now.job.layout y.st_name) }
 {
     let number = y.st_name;
@@ -478,7 +475,6 @@ fn named_call(inputs: &Inputs<'_>, len: u64, r: u64, y: Elf64Sym) -> Result<Deed
 // Type 10: a call by the name of a symbol.
 #[tactic(auto, using(ebpf::specs::Choice::choices), unfolding(crate::specs::Relocations::plan6432))]
 fn plan_64_32(inputs: &Inputs<'_>, len: u64, r: u64, number: u32) -> Result<Deed, ElfError>
-    requires { InFile inputs.now.file.now inputs.now.job × Keyed inputs.now.table.now }
     ensures { result ≡ plan6432 inputs.now.file.now inputs.now.builtins.now inputs.now.job len r number }
 {
     match inputs.elf().dynamic_symbol(number) {
@@ -496,7 +492,6 @@ fn plan_at(
     r_info: u64,
     addend: Option<u64>,
 ) -> Result<Deed, ElfError>
-    requires { InFile inputs.now.file.now inputs.now.job × Keyed inputs.now.table.now }
     ensures { result ≡ plan_at inputs.now.file.now image.now inputs.now.builtins.now inputs.now.job r r_info addend }
 {
     let r_type = (r_info % 0x1_0000_0000) as u32;
@@ -534,7 +529,6 @@ pub(crate) fn plan_relocation(
     used: Option<UsedHeader>,
     relocation: Relocation,
 ) -> Result<Deed, ElfError>
-    requires { InFile inputs.now.file.now inputs.now.job × Keyed inputs.now.table.now }
     ensures { result ≡ plan_of inputs.now.file.now image.now inputs.now.builtins.now inputs.now.job (place_of inputs.now.job.version2 used relocation.r_offset) relocation.r_info relocation.addend }
 {
     let Relocation {

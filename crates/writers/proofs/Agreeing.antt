@@ -22,7 +22,7 @@ use Rattle.loader.specs.declared.answer.Accepted.{Accepted}
 use Rattle.loader.specs.declared.validate.Config.{Config}
 use Rattle.loader.specs.declared.validate.Job.{Job}
 use Rattle.loader.specs.Results.{not_ok, then_both, then_ok}
-use Rattle.loader.specs.InnerContracts.{InFile}
+use Rattle.loader.specs.InFile.{InFile}
 use Rattle.loader.specs.Load.{accepted_as, held_by, on_trace, on_prepared, load_of, answer_of, image_of}
 use Rattle.loader.specs.Parts.{job_trace}
 use Rattle.loader.specs.ReadOnly.{placing}

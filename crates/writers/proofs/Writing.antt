@@ -13,7 +13,7 @@ use Rattle.loader.specs.declared.validate.Job.{Job}
 use Rattle.std.specs.Prelude.{Option, Some, None, Result, Ok, Err}
 use Rattle.loader.specs.declared.error.ElfError.{ElfError}
 use Rattle.loader.specs.Calls.{call_at, text_of, slot_count, immediate, call_row, call_by, call_deed, slot_trace}
-use Rattle.loader.specs.InnerContracts.{InFile}
+use Rattle.loader.specs.InFile.{InFile}
 use Rattle.loader.specs.Deeds.{is_in, writes}
 use Rattle.loader.specs.Demand.{info_of, addend_of}
 use Rattle.loader.specs.Functions.{row_for}

@@ -7,7 +7,7 @@ use borrow.Rule.Slice.PartMut.{put_mid}
 use Rattle.std.proofs.lemmas.Result.{err_from_is_err_and}
 use Rattle.program.specs.Table.{columns_of}
 use Rattle.program.proofs.Tables.{same_trans}
-use Rattle.loader.specs.InnerContracts.{InFile}
+use Rattle.loader.specs.InFile.{InFile}
 use Rattle.loader.specs.Load.{all_count}
 use Rattle.loader.proofs.Loading.{behind_fits, behind_front, behind_rest, load_stops, job_in_file, file_fits, cleared_lens, empty, tried}
 use Rattle.loader.proofs.attempt.Goals.{In_ok-job, After-clear_all}

@@ -23,7 +23,7 @@ called : (r : After-call_at) (x : Result (Option ℕ) ElfError) → r.call_at.re
 called r x e = sym (rw add-sub_cancel_left at r.call_at.ensures) ∙ e
 
 small : (r : After-call_at) (to : ℕ) → r.call_at.result ≡ Ok (Some to) → to < 2 ^ 24
-small r to e = to_small r.args.inputs.now.file.now r.args.inputs.now.job r.args.i to r.requires.0.0.short (r.requires.1, called r (Ok (Some to)) e)
+small r to e = to_small r.args.inputs.now.file.now r.args.inputs.now.job r.args.i to r.args.inputs.now.in_file.short (r.requires.1, called r (Ok (Some to)) e)
 
 pub is_seen-requires : goal.is_seen-requires
 is_seen-requires c = (c.requires.2.room, small (goal.at.is_seen-requires c).After-call_at _ (c.in_ok-index.was ∙ ap Ok c.in-Some.is))
@@ -36,21 +36,21 @@ returns-then-is_seen-clause-settles c =
     let i = c.args.inputs.now in
     let o = c.args.out.now in
     let r = (goal.at.returns-then-is_seen-clause-settles c).After-call_at in
-    let keyed : c.legacy_key-key.result ≡ target_key i.job c.in-Some.index = c.legacy_key-key.ensures ∙ same_key _ _ _ _ c.requires.0.1 in
+    let keyed : c.legacy_key-key.result ≡ target_key i.job c.in-Some.index = c.legacy_key-key.ensures ∙ same_key _ _ _ _ c.args.inputs.now.keyed in
     let hit = known_hit i.builtins.now i.job (rows_of (columns_of o.registry.now) o.registry.now.used) c.args.seen.now c.in-Some.index c.requires.2.known (eqb-true _ _ (rw c.is_seen.ensures at c.if-is_seen.true)) in
     settles_target i.file.now i.builtins.now i.job c.args.i o.image.now c.legacy_key-key.result c.in-Some.index (called r _ (c.in_ok-index.was ∙ ap Ok c.in-Some.is)) keyed c.store_u32.new.image (columns_of o.registry.now) (columns_of o.registry.now) o.registry.now.used o.moves _ c.store_u32.ensures
-    (targets_known i.builtins.now i.job c.in-Some.index (columns_of o.registry.now) o.registry.now.used o.moves c.requires.0.3.ready hit)
+    (targets_known i.builtins.now i.job c.in-Some.index (columns_of o.registry.now) o.registry.now.used o.moves c.requires.0.1.ready hit)
 
 pub register_target-requires : goal.register_target-requires
 register_target-requires c =
-    let keyed : c.legacy_key-key.result ≡ target_key c.args.inputs.now.job c.in-Some.index = c.legacy_key-key.ensures ∙ same_key _ _ _ _ c.requires.0.1 in
-    (keyed, c.requires.0.3, c.requires.2.alike)
+    let keyed : c.legacy_key-key.result ≡ target_key c.args.inputs.now.job c.in-Some.index = c.legacy_key-key.ensures ∙ same_key _ _ _ _ c.args.inputs.now.keyed in
+    (keyed, c.requires.0.1, c.requires.2.alike)
 
 pub returns-in_default-clause-settles : goal.returns-in_default-clause-settles
 returns-in_default-clause-settles c =
     let i = c.args.inputs.now in
     let o = c.args.out.now in
-    settles_none i.file.now i.builtins.now i.job c.args.i o.image.now (columns_of o.registry.now) o.registry.now.used o.moves (called (goal.at.returns-in_default-clause-settles c).After-call_at (Ok None) (c.in_ok-index.was ∙ ap Ok c.in_default.is)) c.requires.0.3.ready
+    settles_none i.file.now i.builtins.now i.job c.args.i o.image.now (columns_of o.registry.now) o.registry.now.used o.moves (called (goal.at.returns-in_default-clause-settles c).After-call_at (Ok None) (c.in_ok-index.was ∙ ap Ok c.in_default.is)) c.requires.0.1.ready
 
 pub returns-in_err-index-clause-settles : goal.returns-in_err-index-clause-settles
 returns-in_err-index-clause-settles c =
@@ -65,7 +65,7 @@ returns-clause-settles c =
     let o = c.args.out.now in
     let o' = c.register_target.new.out in
     let r = (goal.at.returns-clause-settles c).After-call_at in
-    let keyed : c.legacy_key-key.result ≡ target_key i.job c.in-Some.index = c.legacy_key-key.ensures ∙ same_key _ _ _ _ c.requires.0.1 in
+    let keyed : c.legacy_key-key.result ≡ target_key i.job c.in-Some.index = c.legacy_key-key.ensures ∙ same_key _ _ _ _ c.args.inputs.now.keyed in
     subst (λ (im : List ℕ). Settles (slot_trace i.file.now i.builtins.now i.job c.args.i o.image.now) im (columns_of o.registry.now) (columns_of o'.registry.now) 1 o.registry.now.used o.moves (held_of c.register_target.result o')) (sym c.register_target.ensures.image)
     (settles_target i.file.now i.builtins.now i.job c.args.i o.image.now c.legacy_key-key.result c.in-Some.index (called r _ (c.in_ok-index.was ∙ ap Ok c.in-Some.is)) keyed c.store_u32.new.image (columns_of o.registry.now) (columns_of o'.registry.now) o.registry.now.used o.moves _ c.store_u32.ensures c.register_target.ensures.targets)
 

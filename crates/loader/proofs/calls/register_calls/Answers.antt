@@ -45,10 +45,10 @@ loop-i-init c =
     let i = c.args.inputs.now in
     let o = c.args.out.now in
     let e : i.job.start + 0 ≡ 0 + i.job.start = omega arith in
-    let front : ahead (i.job.start + 0) c.copy_bytes.new.to i.file.now ≡ i.file.now = rw (e, c.copy_bytes.ensures) (ahead_more o.image.now i.file.now 0 i.job.start c.requires.2 (omega (arith, c.requires.0.text))) in (
+    let front : ahead (i.job.start + 0) c.copy_bytes.new.to i.file.now ≡ i.file.now = rw (e, c.copy_bytes.ensures) (ahead_more o.image.now i.file.now 0 i.job.start c.requires.0 (omega (arith, c.args.inputs.now.in_file.text))) in (
       keeps_all _,
-      rw front (going_start (slot_trace i.file.now i.builtins.now i.job) (slot_count i.job) i.file.now (columns_of o.registry.now) o.registry.now.used o.moves c.requires.3.0),
-      rw c.requires.3.1 (none_held i.builtins.now i.job (columns_of o.registry.now) 1024 (omega arith)),
+      rw front (going_start (slot_trace i.file.now i.builtins.now i.job) (slot_count i.job) i.file.now (columns_of o.registry.now) o.registry.now.used o.moves c.requires.1.0),
+      rw c.requires.1.1 (none_held i.builtins.now i.job (columns_of o.registry.now) 1024 (omega arith)),
       length-replicate {A = ℕ} 1024 0,
     )
 
@@ -56,8 +56,8 @@ pub copy_bytes-requires-in-loop-i : goal.copy_bytes-requires-in-loop-i
 copy_bytes-requires-in-loop-i c =
     let j = c.args.inputs.now.job in
     let bounds = ran (goal.at.copy_bytes-requires-in-loop-i c).After-run_end-to in
-    let h = text_in j.start j.length c.run_end-to.result _ c.requires.0.text bounds.1 in
-    (omega (arith, bounds.0, h, c.loop-i.invariant.0.image_as, c.copy_bytes.auto.to, c.requires.2), omega (arith, bounds.0, h))
+    let h = text_in j.start j.length c.run_end-to.result _ c.args.inputs.now.in_file.text bounds.1 in
+    (omega (arith, bounds.0, h, c.loop-i.invariant.0.image_as, c.copy_bytes.auto.to, c.requires.0), omega (arith, bounds.0, h))
 
 -- the slots up to the run's end, once their bytes are copied, whatever their answer
 ran_all : (r : After-register_slots) (a : Result (Unit {0}) ElfError) → r.register_slots.result ≡ a
@@ -70,8 +70,8 @@ ran_all r a e =
     let o = r.loop-i.out in
     let o' = r.register_slots.new.out in
     let bounds = runs _ _ _ r.loop-i-test.true r.run_end-to.ensures in
-    let was : length o.image.now ≡ length i.file.now = r.loop-i.invariant.0.image_as ∙ r.copy_bytes.auto.to ∙ r.requires.2 in
-    let same = copied i.file.now o.image.now r.copy_bytes-in-loop-i.new.to i.job.start r.loop-i.i r.run_end-to.result (omega (arith, bounds.0)) was (text_in i.job.start i.job.length r.run_end-to.result _ r.requires.0.text bounds.1) r.copy_bytes-in-loop-i.ensures in
+    let was : length o.image.now ≡ length i.file.now = r.loop-i.invariant.0.image_as ∙ r.copy_bytes.auto.to ∙ r.requires.0 in
+    let same = copied i.file.now o.image.now r.copy_bytes-in-loop-i.new.to i.job.start r.loop-i.i r.run_end-to.result (omega (arith, bounds.0)) was (text_in i.job.start i.job.length r.run_end-to.result _ r.args.inputs.now.in_file.text bounds.1) r.copy_bytes-in-loop-i.ensures in
     subst (λ (b : Result (Unit {0}) ElfError). Leads (slot_trace i.file.now i.builtins.now i.job) (slot_count i.job) r.loop-i.i r.run_end-to.result (ahead (i.job.start + 8 * r.loop-i.i) o.image.now i.file.now) (ahead (i.job.start + 8 * r.run_end-to.result) o'.image.now i.file.now) (columns_of o.registry.now) (columns_of o'.registry.now) o.registry.now.used o.moves (held_of b o')) e
     (subst (λ (im : List ℕ). Leads (slot_trace i.file.now i.builtins.now i.job) (slot_count i.job) r.loop-i.i r.run_end-to.result im (ahead (i.job.start + 8 * r.run_end-to.result) o'.image.now i.file.now) (columns_of o.registry.now) (columns_of o'.registry.now) o.registry.now.used o.moves (held_of r.register_slots.result o')) same r.register_slots.ensures.leads)
 
@@ -82,10 +82,8 @@ register_slots-requires c =
     let o = c.loop-i.out in
     let bounds = ran (goal.at.register_slots-requires c).After-run_end-to in (
       (
-        c.requires.0,
-        c.requires.1,
-        c.copy_bytes-in-loop-i.auto.to ∙ c.loop-i.invariant.0.image_as ∙ c.copy_bytes.auto.to ∙ c.requires.2,
-        in_begins_run (slot_trace i.file.now i.builtins.now i.job) (slot_count i.job) 0 (slot_count i.job) (omega arith) i.file.now (ahead (i.job.start + 8 * c.loop-i.i) o.image.now i.file.now) (columns_of o₀.registry.now) (columns_of o.registry.now) o₀.registry.now.used o₀.moves o.registry.now.used o.moves c.loop-i.i (all_begin (slot_count i.job) (columns_of o₀.registry.now) o₀.registry.now.used o₀.moves c.requires.3.0) c.loop-i.invariant.1 c.run_end-to.result (omega (arith, bounds.0)) bounds.1 i.file.now (columns_of o.registry.now),
+        c.copy_bytes-in-loop-i.auto.to ∙ c.loop-i.invariant.0.image_as ∙ c.copy_bytes.auto.to ∙ c.requires.0,
+        in_begins_run (slot_trace i.file.now i.builtins.now i.job) (slot_count i.job) 0 (slot_count i.job) (omega arith) i.file.now (ahead (i.job.start + 8 * c.loop-i.i) o.image.now i.file.now) (columns_of o₀.registry.now) (columns_of o.registry.now) o₀.registry.now.used o₀.moves o.registry.now.used o.moves c.loop-i.i (all_begin (slot_count i.job) (columns_of o₀.registry.now) o₀.registry.now.used o₀.moves c.requires.1.0) c.loop-i.invariant.1 c.run_end-to.result (omega (arith, bounds.0)) bounds.1 i.file.now (columns_of o.registry.now),
       ),
       omega (arith, bounds.0),
       bounds.1,
@@ -101,7 +99,7 @@ returns-in_err-register_slots-clause-settles c =
     let bounds = ran (goal.at.returns-in_err-register_slots-clause-settles c).After-run_end-to in
     let p = err_from_is_err_and c.from_residual.result c.from_residual.ensures.1 in
     rw (p.1, p.2) (all_lead (slot_trace i.file.now i.builtins.now i.job) (slot_count i.job) i.file.now _ (columns_of o₀.registry.now) (columns_of o'.registry.now) o₀.registry.now.used o₀.moves _
-    (in_run_stop (slot_trace i.file.now i.builtins.now i.job) (slot_count i.job) 0 (slot_count i.job) (omega arith) i.file.now (ahead (i.job.start + 8 * c.loop-i.i) o.image.now i.file.now) (columns_of o₀.registry.now) (columns_of o.registry.now) o₀.registry.now.used o₀.moves o.registry.now.used o.moves c.loop-i.i (all_begin (slot_count i.job) (columns_of o₀.registry.now) o₀.registry.now.used o₀.moves c.requires.3.0) c.loop-i.invariant.1 c.run_end-to.result (omega (arith, bounds.0)) bounds.1 _ (columns_of o'.registry.now) _ _
+    (in_run_stop (slot_trace i.file.now i.builtins.now i.job) (slot_count i.job) 0 (slot_count i.job) (omega arith) i.file.now (ahead (i.job.start + 8 * c.loop-i.i) o.image.now i.file.now) (columns_of o₀.registry.now) (columns_of o.registry.now) o₀.registry.now.used o₀.moves o.registry.now.used o.moves c.loop-i.i (all_begin (slot_count i.job) (columns_of o₀.registry.now) o₀.registry.now.used o₀.moves c.requires.1.0) c.loop-i.invariant.1 c.run_end-to.result (omega (arith, bounds.0)) bounds.1 _ (columns_of o'.registry.now) _ _
     (ran_all (goal.at.returns-in_err-register_slots-clause-settles c).After-register_slots _ c.in_err-register_slots.was)))
 
 pub loop-i-smaller : goal.loop-i-smaller
@@ -123,11 +121,11 @@ loop-i-preserved c =
       table_is = c.register_slots.ensures.keeps.table_is;
       table_as = c.register_slots.ensures.keeps.table_as;
     } in
-    let was : length o.image.now ≡ length i.file.now = c.loop-i.invariant.0.image_as ∙ c.copy_bytes.auto.to ∙ c.requires.2 in
+    let was : length o.image.now ≡ length i.file.now = c.loop-i.invariant.0.image_as ∙ c.copy_bytes.auto.to ∙ c.requires.0 in
     let len : length o'.image.now ≡ length i.file.now = c.register_slots.ensures.keeps.image_as ∙ c.copy_bytes-in-loop-i.auto.to ∙ was in
     let same : length (ahead (i.job.start + 8 * c.run_end-to.result) o'.image.now i.file.now) ≡ length (ahead (i.job.start + 8 * c.loop-i.i) o.image.now i.file.now) = ahead_length o'.image.now i.file.now (i.job.start + 8 * c.run_end-to.result) len ∙ len ∙ sym (ahead_length o.image.now i.file.now (i.job.start + 8 * c.loop-i.i) was ∙ was) in (
       keeps_on _ o o' c.loop-i.invariant.0 kept,
-      in_run (slot_trace i.file.now i.builtins.now i.job) (slot_count i.job) 0 (slot_count i.job) (omega arith) i.file.now (ahead (i.job.start + 8 * c.loop-i.i) o.image.now i.file.now) (columns_of o₀.registry.now) (columns_of o.registry.now) o₀.registry.now.used o₀.moves o.registry.now.used o.moves c.loop-i.i (all_begin (slot_count i.job) (columns_of o₀.registry.now) o₀.registry.now.used o₀.moves c.requires.3.0) c.loop-i.invariant.1 c.run_end-to.result (omega (arith, bounds.0)) bounds.1 (ahead (i.job.start + 8 * c.run_end-to.result) o'.image.now i.file.now) (columns_of o'.registry.now) o'.registry.now.used o'.moves c.register_slots.ensures.keeps.table_as same
+      in_run (slot_trace i.file.now i.builtins.now i.job) (slot_count i.job) 0 (slot_count i.job) (omega arith) i.file.now (ahead (i.job.start + 8 * c.loop-i.i) o.image.now i.file.now) (columns_of o₀.registry.now) (columns_of o.registry.now) o₀.registry.now.used o₀.moves o.registry.now.used o.moves c.loop-i.i (all_begin (slot_count i.job) (columns_of o₀.registry.now) o₀.registry.now.used o₀.moves c.requires.1.0) c.loop-i.invariant.1 c.run_end-to.result (omega (arith, bounds.0)) bounds.1 (ahead (i.job.start + 8 * c.run_end-to.result) o'.image.now i.file.now) (columns_of o'.registry.now) o'.registry.now.used o'.moves c.register_slots.ensures.keeps.table_as same
           (ran_all (goal.at.loop-i-preserved c).After-register_slots (Ok tt) c.in_ok-register_slots.was),
       subst (StillHeld i c.register_slots.new.seen o') c.in_ok-register_slots.was c.register_slots.ensures.held,
       c.register_slots.auto.seen ∙ c.loop-i.invariant.3,
@@ -136,8 +134,8 @@ loop-i-preserved c =
 pub copy_bytes-requires-2 : goal.copy_bytes-requires-2
 copy_bytes-requires-2 c =
     let j = c.args.inputs.now.job in
-    let h = text_in j.start j.length (slot_count j) _ c.requires.0.text (omega arith) in
-    (omega (arith, h, c.loop-i.invariant.0.image_as, c.copy_bytes.auto.to, c.requires.2), omega (arith, h))
+    let h = text_in j.start j.length (slot_count j) _ c.args.inputs.now.in_file.text (omega arith) in
+    (omega (arith, h, c.loop-i.invariant.0.image_as, c.copy_bytes.auto.to, c.requires.0), omega (arith, h))
 
 pub returns-clause-settles : goal.returns-clause-settles
 returns-clause-settles c =
@@ -145,7 +143,7 @@ returns-clause-settles c =
     let o₀ = c.args.out.now in
     let o = c.loop-i.out in
     let end : c.loop-i.i ≡ slot_count i.job = omega (arith, c.loop-i.invariant.1.passed, c.loop-i-test.false) in
-    let was : length o.image.now ≡ length i.file.now = c.loop-i.invariant.0.image_as ∙ c.copy_bytes.auto.to ∙ c.requires.2 in
-    let im : c.copy_bytes-2.new.to ≡ ahead (i.job.start + 8 * c.loop-i.i) o.image.now i.file.now = rest i.file.now o.image.now c.copy_bytes-2.new.to i.job.start c.loop-i.i (slot_count i.job) end was (text_in i.job.start i.job.length (slot_count i.job) _ c.requires.0.text (omega arith)) c.copy_bytes-2.ensures in
+    let was : length o.image.now ≡ length i.file.now = c.loop-i.invariant.0.image_as ∙ c.copy_bytes.auto.to ∙ c.requires.0 in
+    let im : c.copy_bytes-2.new.to ≡ ahead (i.job.start + 8 * c.loop-i.i) o.image.now i.file.now = rest i.file.now o.image.now c.copy_bytes-2.new.to i.job.start c.loop-i.i (slot_count i.job) end was (text_in i.job.start i.job.length (slot_count i.job) _ c.args.inputs.now.in_file.text (omega arith)) c.copy_bytes-2.ensures in
     subst (λ (x : List ℕ). Settles (calls_trace i.file.now i.builtins.now i.job i.file.now) x (columns_of o₀.registry.now) (columns_of o.registry.now) (slot_count i.job) o₀.registry.now.used o₀.moves (holding o.registry.now.used o.moves)) (sym im)
-    (going_done (slot_trace i.file.now i.builtins.now i.job) (slot_count i.job) i.file.now (ahead (i.job.start + 8 * c.loop-i.i) o.image.now i.file.now) (columns_of o₀.registry.now) (columns_of o.registry.now) o₀.registry.now.used o₀.moves o.registry.now.used o.moves c.loop-i.i c.requires.3.0 c.loop-i.invariant.1 c.loop-i-test.false)
+    (going_done (slot_trace i.file.now i.builtins.now i.job) (slot_count i.job) i.file.now (ahead (i.job.start + 8 * c.loop-i.i) o.image.now i.file.now) (columns_of o₀.registry.now) (columns_of o.registry.now) o₀.registry.now.used o₀.moves o.registry.now.used o.moves c.loop-i.i c.requires.1.0 c.loop-i.invariant.1 c.loop-i-test.false)

@@ -23,7 +23,7 @@ use Rattle.loader.proofs.calls.register_slots.Goals as goal
 pub next_call-i-requires : goal.next_call-i-requires
 next_call-i-requires c =
     let j = c.args.inputs.now.job in
-    (c.requires.1, text_in j.start j.length c.args.to _ c.requires.0.0.text c.requires.2, c.requires.0.0.short)
+    (c.requires.1, text_in j.start j.length c.args.to _ c.args.inputs.now.in_file.text c.requires.2, c.args.inputs.now.in_file.short)
 
 pub loop-i-init : goal.loop-i-init
 loop-i-init c =
@@ -32,8 +32,8 @@ loop-i-init c =
     let step : ℕ → List ℕ → Trace = slot_trace i.file.now i.builtins.now i.job in
     let im = ahead (i.job.start + 8 * c.args.to) o.image.now i.file.now in (
       keeps_all o,
-      calls_ahead i.file.now i.builtins.now i.job c.requires.0.0 c.args.from c.args.to c.requires.2 im im (columns_of o.registry.now) (columns_of o.registry.now) o.registry.now.used o.moves o.registry.now.used o.moves c.args.from c.next_call-i.result c.requires.0.3
-          (in_start step (slot_count i.job) c.args.from c.args.to c.requires.2 im (columns_of o.registry.now) o.registry.now.used o.moves c.requires.1 c.requires.0.3)
+      calls_ahead i.file.now i.builtins.now i.job c.args.inputs.now.in_file c.args.from c.args.to c.requires.2 im im (columns_of o.registry.now) (columns_of o.registry.now) o.registry.now.used o.moves o.registry.now.used o.moves c.args.from c.next_call-i.result c.requires.0.1
+          (in_start step (slot_count i.job) c.args.from c.args.to c.requires.2 im (columns_of o.registry.now) o.registry.now.used o.moves c.requires.1 c.requires.0.1)
           c.next_call-i.ensures,
       c.requires.3,
       refl,
@@ -46,10 +46,8 @@ call_step-requires c =
     let o = c.loop-i.out in
     let q : ℕ = i.job.start + 8 * c.args.to in (
       (
-        c.requires.0.0,
-        c.requires.0.1,
-        c.loop-i.invariant.0.image_as ∙ c.requires.0.2,
-        in_begins (slot_trace i.file.now i.builtins.now i.job) (slot_count i.job) c.args.from c.args.to c.requires.2 (ahead q o₀.image.now i.file.now) (ahead q o.image.now i.file.now) (columns_of o₀.registry.now) (columns_of o.registry.now) o₀.registry.now.used o₀.moves o.registry.now.used o.moves c.loop-i.i c.requires.0.3 c.loop-i.invariant.1 c.loop-i-test.true,
+        c.loop-i.invariant.0.image_as ∙ c.requires.0.0,
+        in_begins (slot_trace i.file.now i.builtins.now i.job) (slot_count i.job) c.args.from c.args.to c.requires.2 (ahead q o₀.image.now i.file.now) (ahead q o.image.now i.file.now) (columns_of o₀.registry.now) (columns_of o.registry.now) o₀.registry.now.used o₀.moves o.registry.now.used o.moves c.loop-i.i c.requires.0.1 c.loop-i.invariant.1 c.loop-i-test.true,
       ),
       omega (arith, c.loop-i-test.true, c.requires.2),
       c.loop-i.invariant.2,
@@ -64,9 +62,9 @@ stepped r a e =
     let o = r.loop-i.out in
     let o' = r.call_step.new.out in
     let q : ℕ = i.job.start + 8 * r.args.to in
-    let inside : q ≤ length i.file.now = text_in i.job.start i.job.length r.args.to _ r.requires.0.0.text r.requires.2 in
+    let inside : q ≤ length i.file.now = text_in i.job.start i.job.length r.args.to _ r.args.inputs.now.in_file.text r.requires.2 in
     subst (λ (b : Result (Unit {0}) ElfError). SettlesAs (slot_trace i.file.now i.builtins.now i.job r.loop-i.i (ahead q o.image.now i.file.now)) (ahead q o'.image.now i.file.now) 1 o o' b) e
-    (slot_ahead i.file.now q i.builtins.now i.job r.loop-i.i o.image.now o'.image.now (columns_of o.registry.now) (columns_of o'.registry.now) o.registry.now.used o.moves (held_of r.call_step.result o') (omega (arith, r.loop-i-test.true)) (omega (arith, inside, r.loop-i.invariant.0.image_as, r.requires.0.2)) r.call_step.ensures.settles)
+    (slot_ahead i.file.now q i.builtins.now i.job r.loop-i.i o.image.now o'.image.now (columns_of o.registry.now) (columns_of o'.registry.now) o.registry.now.used o.moves (held_of r.call_step.result o') (omega (arith, r.loop-i-test.true)) (omega (arith, inside, r.loop-i.invariant.0.image_as, r.requires.0.0)) r.call_step.ensures.settles)
 
 pub returns-in_err-call_step-clause-leads : goal.returns-in_err-call_step-clause-leads
 returns-in_err-call_step-clause-leads c =
@@ -76,13 +74,13 @@ returns-in_err-call_step-clause-leads c =
     let o' = c.call_step.new.out in
     let q : ℕ = i.job.start + 8 * c.args.to in
     let p = err_from_is_err_and c.from_residual.result c.from_residual.ensures.1 in
-    rw (p.1, p.2) (in_stop (slot_trace i.file.now i.builtins.now i.job) (slot_count i.job) c.args.from c.args.to c.requires.2 (ahead q o₀.image.now i.file.now) (ahead q o.image.now i.file.now) (columns_of o₀.registry.now) (columns_of o.registry.now) o₀.registry.now.used o₀.moves o.registry.now.used o.moves c.loop-i.i c.requires.0.3 c.loop-i.invariant.1 c.loop-i-test.true (ahead q o'.image.now i.file.now) (columns_of o'.registry.now) _ _
+    rw (p.1, p.2) (in_stop (slot_trace i.file.now i.builtins.now i.job) (slot_count i.job) c.args.from c.args.to c.requires.2 (ahead q o₀.image.now i.file.now) (ahead q o.image.now i.file.now) (columns_of o₀.registry.now) (columns_of o.registry.now) o₀.registry.now.used o₀.moves o.registry.now.used o.moves c.loop-i.i c.requires.0.1 c.loop-i.invariant.1 c.loop-i-test.true (ahead q o'.image.now i.file.now) (columns_of o'.registry.now) _ _
     (stepped (goal.at.returns-in_err-call_step-clause-leads c).After-call_step _ c.in_err-call_step.was))
 
 pub next_call-i-requires-in-loop-i : goal.next_call-i-requires-in-loop-i
 next_call-i-requires-in-loop-i c =
     let j = c.args.inputs.now.job in
-    (omega (arith, c.loop-i-test.true), text_in j.start j.length c.args.to _ c.requires.0.0.text c.requires.2, c.requires.0.0.short)
+    (omega (arith, c.loop-i-test.true), text_in j.start j.length c.args.to _ c.args.inputs.now.in_file.text c.requires.2, c.args.inputs.now.in_file.short)
 
 pub loop-i-smaller : goal.loop-i-smaller
 loop-i-smaller c =
@@ -95,12 +93,12 @@ loop-i-preserved c =
     let o = c.loop-i.out in
     let o' = c.call_step.new.out in
     let q : ℕ = i.job.start + 8 * c.args.to in
-    let was : length o.image.now ≡ length i.file.now = c.loop-i.invariant.0.image_as ∙ c.requires.0.2 in
+    let was : length o.image.now ≡ length i.file.now = c.loop-i.invariant.0.image_as ∙ c.requires.0.0 in
     let same : length (ahead q o'.image.now i.file.now) ≡ length (ahead q o.image.now i.file.now) = ahead_length o'.image.now i.file.now q (c.call_step.ensures.keeps.image_as ∙ was) ∙ c.call_step.ensures.keeps.image_as ∙ sym (ahead_length o.image.now i.file.now q was) in
-    let on = in_on (slot_trace i.file.now i.builtins.now i.job) (slot_count i.job) c.args.from c.args.to c.requires.2 (ahead q o₀.image.now i.file.now) (ahead q o.image.now i.file.now) (columns_of o₀.registry.now) (columns_of o.registry.now) o₀.registry.now.used o₀.moves o.registry.now.used o.moves c.loop-i.i c.requires.0.3 c.loop-i.invariant.1 c.loop-i-test.true (ahead q o'.image.now i.file.now) (columns_of o'.registry.now) o'.registry.now.used o'.moves c.call_step.ensures.keeps.table_as same
+    let on = in_on (slot_trace i.file.now i.builtins.now i.job) (slot_count i.job) c.args.from c.args.to c.requires.2 (ahead q o₀.image.now i.file.now) (ahead q o.image.now i.file.now) (columns_of o₀.registry.now) (columns_of o.registry.now) o₀.registry.now.used o₀.moves o.registry.now.used o.moves c.loop-i.i c.requires.0.1 c.loop-i.invariant.1 c.loop-i-test.true (ahead q o'.image.now i.file.now) (columns_of o'.registry.now) o'.registry.now.used o'.moves c.call_step.ensures.keeps.table_as same
     (stepped (goal.at.loop-i-preserved c).After-call_step (Ok tt) c.in_ok-call_step.was) in (
       keeps_on o₀ o o' c.loop-i.invariant.0 c.call_step.ensures.keeps,
-      calls_ahead i.file.now i.builtins.now i.job c.requires.0.0 c.args.from c.args.to c.requires.2 (ahead q o₀.image.now i.file.now) (ahead q o'.image.now i.file.now) (columns_of o₀.registry.now) (columns_of o'.registry.now) o₀.registry.now.used o₀.moves _ _ (c.loop-i.i + 1) c.next_call-i-in-loop-i.result c.requires.0.3 on c.next_call-i-in-loop-i.ensures,
+      calls_ahead i.file.now i.builtins.now i.job c.args.inputs.now.in_file c.args.from c.args.to c.requires.2 (ahead q o₀.image.now i.file.now) (ahead q o'.image.now i.file.now) (columns_of o₀.registry.now) (columns_of o'.registry.now) o₀.registry.now.used o₀.moves _ _ (c.loop-i.i + 1) c.next_call-i-in-loop-i.result c.requires.0.1 on c.next_call-i-in-loop-i.ensures,
       subst (StillHeld i c.call_step.new.seen o') c.in_ok-call_step.was c.call_step.ensures.held,
       c.call_step.auto.seen ∙ c.loop-i.invariant.3,
     )
@@ -111,4 +109,4 @@ returns-clause-leads c =
     let o₀ = c.args.out.now in
     let o = c.loop-i.out in
     let q : ℕ = i.job.start + 8 * c.args.to in
-    in_done (slot_trace i.file.now i.builtins.now i.job) (slot_count i.job) c.args.from c.args.to c.requires.2 (ahead q o₀.image.now i.file.now) (ahead q o.image.now i.file.now) (columns_of o₀.registry.now) (columns_of o.registry.now) o₀.registry.now.used o₀.moves o.registry.now.used o.moves c.loop-i.i c.requires.0.3 c.loop-i.invariant.1 c.loop-i-test.false
+    in_done (slot_trace i.file.now i.builtins.now i.job) (slot_count i.job) c.args.from c.args.to c.requires.2 (ahead q o₀.image.now i.file.now) (ahead q o.image.now i.file.now) (columns_of o₀.registry.now) (columns_of o.registry.now) o₀.registry.now.used o₀.moves o.registry.now.used o.moves c.loop-i.i c.requires.0.1 c.loop-i.invariant.1 c.loop-i-test.false

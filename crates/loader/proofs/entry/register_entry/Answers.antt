@@ -21,14 +21,14 @@ returns-in_err-deed-clause-settles c =
     rw (p.1, p.2) (entry_refused c.args.inputs.now.builtins.now c.args.inputs.now.job c.args.out.now.image.now (columns_of c.args.out.now.registry.now) c.args.out.now.registry.now.used c.args.out.now.moves _ (sym c.entry_deed.ensures ∙ c.in_err-deed.was))
 
 pub forget_entrypoint-requires : goal.forget_entrypoint-requires
-forget_entrypoint-requires c = begins_fewer 1 1 (columns_of c.args.out.now.registry.now) c.args.out.now.registry.now.used c.args.out.now.moves c.requires.2
+forget_entrypoint-requires c = begins_fewer 1 1 (columns_of c.args.out.now.registry.now) c.args.out.now.registry.now.used c.args.out.now.moves c.requires
 
 pub perform-requires : goal.perform-requires
 perform-requires c =
     let o = c.args.out.now in
     let o₁ = c.forget_entrypoint.new.out in (
       subst (DeedFits _) (sym c.entry_deed.ensures ∙ c.in_ok-deed.was) (entry_fits _ c.args.inputs.now.builtins.now c.args.inputs.now.job),
-      begins_then (forget_trace c.args.inputs.now.job.version2 o.image.now) (λ (im : List ℕ). deed_trace (entry_deed c.args.inputs.now.builtins.now c.args.inputs.now.job) im) o.image.now o.image.now (columns_of o.registry.now) (columns_of o₁.registry.now) (columns_of o₁.registry.now) 1 1 o.registry.now.used o.moves o₁.registry.now.used o₁.moves c.forget_entrypoint.ensures.keeps.table_as (c.forget_entrypoint.ensures.forgets o.image.now) c.requires.2,
+      begins_then (forget_trace c.args.inputs.now.job.version2 o.image.now) (λ (im : List ℕ). deed_trace (entry_deed c.args.inputs.now.builtins.now c.args.inputs.now.job) im) o.image.now o.image.now (columns_of o.registry.now) (columns_of o₁.registry.now) (columns_of o₁.registry.now) 1 1 o.registry.now.used o.moves o₁.registry.now.used o₁.moves c.forget_entrypoint.ensures.keeps.table_as (c.forget_entrypoint.ensures.forgets o.image.now) c.requires,
     )
 
 pub returns-clause-settles : goal.returns-clause-settles

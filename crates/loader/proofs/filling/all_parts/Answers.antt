@@ -11,16 +11,14 @@ use Rattle.loader.proofs.filling.all_parts.Goals as goal
 pub calls_and_relocations-requires : goal.calls_and_relocations-requires
 calls_and_relocations-requires c =
     let i = c.args.inputs.now in
-    (c.requires.0, c.requires.1, c.requires.2, (first_begins (writing_trace i.file.now i.builtins.now i.job i.file.now) (naming_trace i.file.now i.builtins.now i.job) c.args.out.now c.args.out.now (writing_count i.job) (naming_count i.file.now i.job) c.requires.3.0, c.requires.3.1))
+    (c.requires.0, (first_begins (writing_trace i.file.now i.builtins.now i.job i.file.now) (naming_trace i.file.now i.builtins.now i.job) c.args.out.now c.args.out.now (writing_count i.job) (naming_count i.file.now i.job) c.requires.1.0, c.requires.1.1))
 
 pub labels_and_entry-requires : goal.labels_and_entry-requires
 labels_and_entry-requires c =
     let i = c.args.inputs.now in (
-      c.requires.0,
-      c.requires.1,
-      c.calls_and_relocations.ensures.keeps.image_as ∙ c.requires.2,
+      c.calls_and_relocations.ensures.keeps.image_as ∙ c.requires.0,
       part_begins (writing_trace i.file.now i.builtins.now i.job i.file.now) (naming_trace i.file.now i.builtins.now i.job) c.args.out.now c.calls_and_relocations.new.out (writing_count i.job) (naming_count i.file.now i.job) c.calls_and_relocations.ensures.keeps _ c.in_ok-calls_and_relocations.was
-          c.calls_and_relocations.ensures.settles c.requires.3.0,
+          c.calls_and_relocations.ensures.settles c.requires.1.0,
     )
 
 pub returns-in_err-calls_and_relocations-clause-settles : goal.returns-in_err-calls_and_relocations-clause-settles

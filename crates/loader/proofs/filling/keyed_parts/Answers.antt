@@ -3,8 +3,8 @@
 use Rattle.loader.proofs.Rowing.{none_keyed, first_keyed}
 use Rattle.loader.proofs.filling.keyed_parts.Goals as goal
 
-pub all_parts-requires : goal.all_parts-requires
-all_parts-requires c = (c.requires.0, none_keyed, c.requires.1, c.requires.2)
+pub invariant_of-all_parts : goal.invariant_of-all_parts
+invariant_of-all_parts c = record { in_file = c.requires.0; keyed = none_keyed }
 
-pub all_parts-requires-2 : goal.all_parts-requires-2
-all_parts-requires-2 c = (c.requires.0, first_keyed _ _ c.key_table-table.ensures, c.requires.1, c.requires.2)
+pub invariant_of-all_parts-2 : goal.invariant_of-all_parts-2
+invariant_of-all_parts-2 c = record { in_file = c.requires.0; keyed = first_keyed _ _ c.key_table-table.ensures }

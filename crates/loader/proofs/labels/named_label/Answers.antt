@@ -9,7 +9,7 @@ use Rattle.loader.proofs.labels.named_label.Goals as goal
 pub label_as-requires : goal.label_as-requires
 label_as-requires c =
     let n = name_within _ _ _ _ _ _ (sym (rw c.elf.ensures at c.symbol_name.ensures) ∙ c.in-Ok.is) in
-    (c.requires.1, omega (arith, c.requires.0.short, n), omega (arith, n))
+    (omega (arith, c.args.inputs.now.in_file.short, n), omega (arith, n))
 
 pub returns-in-Ok : goal.returns-in-Ok
 returns-in-Ok c =

@@ -15,21 +15,21 @@ use Rattle.loader.proofs.relocating.apply_relocations.Goals as goal
 pub loop-i-init : goal.loop-i-init
 loop-i-init c =
     let i = c.args.inputs.now in
-    (keeps_all c.args.out.now, over_start (relocation_trace i.file.now i.builtins.now i.job) (relocation_count i.job) c.args.out.now c.requires.3, none_before i.file.now i.job.layout i.job.version2)
+    (keeps_all c.args.out.now, over_start (relocation_trace i.file.now i.builtins.now i.job) (relocation_count i.job) c.args.out.now c.requires.1, none_before i.file.now i.job.layout i.job.version2)
 
 pub returns-in_err-deed-clause-settles : goal.returns-in_err-deed-clause-settles
 returns-in_err-deed-clause-settles c =
     let i = c.args.inputs.now in
     let o = c.loop-i.out in
     let p = err_from_is_err_and c.from_residual.result c.from_residual.ensures.1 in
-    rw (p.1, p.2) (over_stop (relocation_trace i.file.now i.builtins.now i.job) (relocation_count i.job) c.args.out.now o c.loop-i.i c.requires.3 c.loop-i.invariant.1 c.loop-i-test.true o _ _ refl
+    rw (p.1, p.2) (over_stop (relocation_trace i.file.now i.builtins.now i.job) (relocation_count i.job) c.args.out.now o c.loop-i.i c.requires.1 c.loop-i.invariant.1 c.loop-i-test.true o _ _ refl
     (relocation_settles i.file.now i.builtins.now i.job c.loop-i.i c.loop-i.header c.used_header-header.result c.relocation_at-r.result c.loop-i.invariant.2 (rw c.elf-elf.ensures at c.relocation_at-r.ensures) (rw c.elf-elf.ensures at c.used_header-header.ensures) o.image.now o.image.now (columns_of o.registry.now) (columns_of o.registry.now) o.registry.now.used o.moves _ (sym c.in_err-deed.was ∙ rw c.image.ensures at c.plan_relocation.ensures) (refuses _ o.image.now o.image.now (columns_of o.registry.now) (columns_of o.registry.now) 1 o.registry.now.used o.moves)))
 
 pub perform-requires : goal.perform-requires
 perform-requires c =
     let i = c.args.inputs.now in (
       relocation_fits i.file.now c.loop-i.out.image.now i.builtins.now i.job c.used_header-header.result c.relocation_at-r.result (sym c.in_ok-deed.was ∙ rw c.image.ensures at c.plan_relocation.ensures),
-      over_begins (relocation_trace i.file.now i.builtins.now i.job) (relocation_count i.job) c.args.out.now c.loop-i.out c.loop-i.i c.requires.3 c.loop-i.invariant.1 c.loop-i-test.true,
+      over_begins (relocation_trace i.file.now i.builtins.now i.job) (relocation_count i.job) c.args.out.now c.loop-i.out c.loop-i.i c.requires.1 c.loop-i.invariant.1 c.loop-i-test.true,
     )
 
 -- the turn's trace
@@ -44,13 +44,13 @@ pub returns-in_err-perform-clause-settles : goal.returns-in_err-perform-clause-s
 returns-in_err-perform-clause-settles c =
     let i = c.args.inputs.now in
     let p = err_from_is_err_and c.from_residual-in_err-perform.result c.from_residual-in_err-perform.ensures.1 in
-    rw (p.1, p.2) (over_stop (relocation_trace i.file.now i.builtins.now i.job) (relocation_count i.job) c.args.out.now c.loop-i.out c.loop-i.i c.requires.3 c.loop-i.invariant.1 c.loop-i-test.true c.perform.new.self _ _ c.in_err-perform.was (turned (goal.at.returns-in_err-perform-clause-settles c).After-perform))
+    rw (p.1, p.2) (over_stop (relocation_trace i.file.now i.builtins.now i.job) (relocation_count i.job) c.args.out.now c.loop-i.out c.loop-i.i c.requires.1 c.loop-i.invariant.1 c.loop-i-test.true c.perform.new.self _ _ c.in_err-perform.was (turned (goal.at.returns-in_err-perform-clause-settles c).After-perform))
 
 pub loop-i-preserved : goal.loop-i-preserved
 loop-i-preserved c =
     let i = c.args.inputs.now in (
       keeps_on c.args.out.now c.loop-i.out c.perform.new.self c.loop-i.invariant.0 c.perform.ensures.keeps,
-      over_on (relocation_trace i.file.now i.builtins.now i.job) (relocation_count i.job) c.args.out.now c.loop-i.out c.loop-i.i c.requires.3 c.loop-i.invariant.1 c.loop-i-test.true c.perform.new.self c.perform.ensures.keeps _ c.in_ok-perform.was
+      over_on (relocation_trace i.file.now i.builtins.now i.job) (relocation_count i.job) c.args.out.now c.loop-i.out c.loop-i.i c.requires.1 c.loop-i.invariant.1 c.loop-i-test.true c.perform.new.self c.perform.ensures.keeps _ c.in_ok-perform.was
           (turned (goal.at.loop-i-preserved c).After-perform),
       header_next i.file.now i.builtins.now i.job c.loop-i.i c.loop-i.header c.used_header-header.result c.relocation_at-r.result c.loop-i.invariant.2 (rw c.elf-elf.ensures at c.relocation_at-r.ensures) (rw c.elf-elf.ensures at c.used_header-header.ensures),
     )
@@ -58,4 +58,4 @@ loop-i-preserved c =
 pub returns-clause-settles : goal.returns-clause-settles
 returns-clause-settles c =
     let i = c.args.inputs.now in
-    over_done (relocation_trace i.file.now i.builtins.now i.job) (relocation_count i.job) c.args.out.now c.loop-i.out c.loop-i.i c.requires.3 c.loop-i.invariant.1 c.loop-i-test.false
+    over_done (relocation_trace i.file.now i.builtins.now i.job) (relocation_count i.job) c.args.out.now c.loop-i.out c.loop-i.i c.requires.1 c.loop-i.invariant.1 c.loop-i-test.false

@@ -9,7 +9,7 @@ use Rattle.loader.proofs.relocations.named_call.Goals as goal
 pub call_by_name-requires : goal.call_by_name-requires
 call_by_name-requires c =
     let n = name_within _ _ _ _ _ _ (sym (rw c.elf.ensures at c.dynamic_symbol_name.ensures) ∙ c.in-Ok.is) in
-    (c.requires.1, c.requires.0.size, omega (arith, c.requires.0.short, n), omega (arith, n))
+    (omega (arith, c.args.inputs.now.in_file.short, n), omega (arith, n))
 
 pub returns-in-Ok : goal.returns-in-Ok
 returns-in-Ok c =
