@@ -3,9 +3,14 @@ use Rattle.std.specs.Prelude.{ℕ}
 use Rattle.elf_parser.specs.declared.error.ElfParserError.{ElfParserError}
 use Rattle.elf_parser.specs.declared.error.ElfParserError.TheVariants.{InvalidFileHeader, InvalidProgramHeader, InvalidSectionHeader, StringTooLong, OutOfBounds, InvalidSize, Overlap, SectionNotInOrder, NoSectionNameStringTable, InvalidDynamicSectionTable, InvalidAlignment, NoStringTable, NoDynamicStringTable, NoSuchIndex, NotASection, StringUnterminated}
 use Rattle.elf_parser.specs.declared.error.Report.{Report}
+use Rattle.program.specs.declared.SymbolHashCollision.{SymbolHashCollision as Taken}
 use Rattle.elf_parser.specs.Errors as parser
 use Rattle.loader.specs.declared.error.ElfError.{ElfError}
 use Rattle.loader.specs.declared.error.ElfError.TheVariants.{FailedToParse, EntrypointOutOfBounds, InvalidEntrypoint, UnresolvedSymbol, RelativeJumpOutOfBounds, SymbolHashCollision, WrongAbi, WrongMachine, NotOneTextSection, WritableSectionNotSupported, InvalidVirtualAddress, UnknownRelocation, WrongType, UnknownSymbol, ValueOutOfBounds, UnsupportedSBPFVersion, FileTooLong, BufferShort, BuiltinsNotAscending, TableFull, TextOutsideReadOnly, AddendNegative}
+
+-- a built-in has the key of a function
+abbrev pub from_collision : Taken → ElfError
+from_collision taken = SymbolHashCollision taken.key
 
 -- a parse's refusal in a load: its number, but 5 becomes 33
 abbrev pub from_parser : ElfParserError → ElfError

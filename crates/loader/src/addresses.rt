@@ -1,7 +1,7 @@
 // A choice, and addresses in the machine.
-ghost use Rattle.std.specs.Prelude.{◌≡◌};
+ghost use Rattle.std.specs.Prelude.{◌≡◌, ◌&&◌, leb, ltb};
 ghost use Rattle.ebpf.specs.Choice.{◌if◌else◌};
-ghost use Rattle.loader.specs.Addresses.{machine_addr};
+ghost use Rattle.loader.specs.Addresses.{machine_addr, sum_up_to};
 
 use ebpf::MM_PROGRAM_START;
 
@@ -26,4 +26,11 @@ pub(crate) fn machine_addr(version2: bool, sh_addr: u64) -> u64
         return sh_addr;
     }
     sh_addr.saturating_add(MM_PROGRAM_START)
+}
+
+// Whether an address is one of the text's.
+pub(crate) fn in_addresses(sh_addr: u64, sh_size: u64, a: u64) -> bool
+    ensures { result ≡ (leb sh_addr a && ltb a (sum_up_to sh_addr sh_size)) }
+{
+    (sh_addr <= a) & (a < sh_addr.saturating_add(sh_size))
 }

@@ -1,8 +1,9 @@
 // Why a load is refused.
 ghost use Rattle.std.specs.Prelude.{◌≡◌};
-ghost use Rattle.loader.specs.Errors.{from_parser, report_of};
+ghost use Rattle.loader.specs.Errors.{from_collision, from_parser, report_of};
 
 use elf_parser::{ElfParserError, Place, Report};
+use program::SymbolHashCollision;
 
 #[derive(Clone, Copy)]
 pub enum ElfError {
@@ -68,6 +69,15 @@ fn with_name(number: u32, value: u64, place: Place) -> Report
         value,
         start: place.start as u64,
         length: place.length as u64,
+    }
+}
+
+// A built-in has the key of a function.
+impl From<SymbolHashCollision> for ElfError {
+    ghost from_gives = { λ taken r. r ≡ from_collision taken };
+
+    fn from(taken: SymbolHashCollision) -> ElfError {
+        ElfError::SymbolHashCollision { key: taken.key }
     }
 }
 

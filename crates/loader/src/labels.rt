@@ -3,11 +3,11 @@ ghost use Rattle.std.specs.Prelude.{◌≡◌, ◌≤◌, ◌^◌};
 ghost use Rattle.elf_parser.specs.Names.{symbol_name};
 ghost use Rattle.loader.specs.Labels.{label_row, label_as, named_label, label_of, label_deed, label_symbols};
 
+use crate::addresses::in_addresses;
 use crate::deeds::Deed;
 use crate::error::ElfError;
 use crate::functions::{row_for, symbol_function};
 use crate::inputs::Inputs;
-use crate::relocations::in_addresses;
 use elf_parser::types::Elf64Sym;
 use elf_parser::{Entries, NO_ENTRIES, Place, bytes_at, entry};
 use program::{Row, SymbolHashCollision};
@@ -15,10 +15,7 @@ use program::{Row, SymbolHashCollision};
 pub(crate) fn label_row(row: Result<Row, SymbolHashCollision>) -> Result<Deed, ElfError>
     ensures { result ≡ label_row row }
 {
-    match row {
-        Err(taken) => Err(ElfError::SymbolHashCollision { key: taken.key }),
-        Ok(row) => Ok(Deed::RegisterOnly { row }),
-    }
+    Ok(Deed::RegisterOnly { row: row? })
 }
 
 // A function whose name is `part`, which stands at `place`.
@@ -80,8 +77,5 @@ pub(crate) fn label_symbols(inputs: &Inputs<'_>) -> Entries
     if !inputs.job.labels {
         return NO_ENTRIES;
     }
-    match inputs.elf().symbol_table() {
-        Ok(symbols) => symbols,
-        Err(_) => NO_ENTRIES,
-    }
+    inputs.elf().symbol_table().unwrap_or(NO_ENTRIES)
 }

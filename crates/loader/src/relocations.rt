@@ -1,19 +1,20 @@
 // What a relocation asks for: the place that it means, the bytes that it writes there, and the function
 // that it registers. Reads only; the caller registers and writes.
-ghost use Rattle.std.specs.Prelude.{◌≡◌, Bool, true, false, ◌&&◌, ◌≤◌, ◌<◌, ◌^◌, leb, ltb};
+ghost use Rattle.std.specs.Prelude.{◌≡◌, Ok, Bool, true, false, ◌&&◌, ◌≤◌, ◌<◌, ◌^◌, leb, ltb};
 ghost use Rattle.ebpf.specs.LittleEndian.{join};
 ghost use Rattle.elf_parser.specs.Records.{dynamic_relocation_of, dynamic_rela_of};
 ghost use Rattle.elf_parser.specs.Names.{dynamic_symbol_name};
 ghost use Rattle.loader.specs.Addresses.{sum_up_to};
 ghost use Rattle.loader.specs.Relocations.{relocation_or, rela_or, relocation_at, header_at, contains, first_from, used_header, place_of, within, program_address, immediate_at, halves_deed, word_deed, symbol_address, plan6464, relative_text, relative_value, is_negative, plan_relative, register_deed, function_call, builtin_call, call_by_name, named_call, plan6432, plan_at, plan_of};
 
+use crate::addresses::in_addresses;
 use crate::deeds::Deed;
 use crate::error::ElfError;
 use crate::functions::{row_for, symbol_function};
 use crate::inputs::Inputs;
 use ebpf::little_endian::read;
 use ebpf::{MM_PROGRAM_START, hash_symbol_name};
-use elf_parser::types::Elf64Sym;
+use elf_parser::types::{Elf64Rel, Elf64Rela, Elf64Sym};
 use elf_parser::{Elf64, Place, bytes_at, past};
 use program::{FunctionName, Row, SymbolHashCollision, is_builtin};
 
@@ -32,21 +33,43 @@ pub struct Relocation {
     pub addend: Option<u64>,
 }
 
+const BLANK: Relocation = Relocation {
+    r_offset: 0,
+    r_info: 0,
+    addend: None,
+};
+
+impl From<Elf64Rel> for Relocation {
+    ghost from_gives = { λ r x. x ≡ relocation_or (Ok r) };
+
+    fn from(r: Elf64Rel) -> Relocation {
+        Relocation {
+            r_offset: r.r_offset,
+            r_info: r.r_info,
+            addend: None,
+        }
+    }
+}
+
+impl From<Elf64Rela> for Relocation {
+    ghost from_gives = { λ r x. x ≡ rela_or (Ok r) };
+
+    fn from(r: Elf64Rela) -> Relocation {
+        Relocation {
+            r_offset: r.r_offset,
+            r_info: r.r_info,
+            addend: Some(r.r_addend),
+        }
+    }
+}
+
 // The relocation number `index` of the older table; a blank one where there is none.
 fn plain_relocation(elf: &Elf64<'_>, index: u32) -> Relocation
     ensures { result ≡ relocation_or (dynamic_relocation_of elf.now.file.now elf.now.layout index) }
 {
     match elf.dynamic_relocation(index) {
-        Ok(r) => Relocation {
-            r_offset: r.r_offset,
-            r_info: r.r_info,
-            addend: None,
-        },
-        Err(_) => Relocation {
-            r_offset: 0,
-            r_info: 0,
-            addend: None,
-        },
+        Ok(r) => Relocation::from(r),
+        Err(_) => BLANK,
     }
 }
 
@@ -56,16 +79,8 @@ fn addend_relocation(elf: &Elf64<'_>, index: u32) -> Relocation
     ensures { result ≡ rela_or (dynamic_rela_of elf.now.file.now elf.now.layout index) }
 {
     match elf.dynamic_rela(index) {
-        Ok(r) => Relocation {
-            r_offset: r.r_offset,
-            r_info: r.r_info,
-            addend: Some(r.r_addend),
-        },
-        Err(_) => Relocation {
-            r_offset: 0,
-            r_info: 0,
-            addend: None,
-        },
+        Ok(r) => Relocation::from(r),
+        Err(_) => BLANK,
     }
 }
 
@@ -110,10 +125,7 @@ fn header_at(elf: &Elf64<'_>, index: u32) -> Option<UsedHeader>
 fn does_contain(used: Option<UsedHeader>, a: u64) -> bool
     ensures { result ≡ contains used a }
 {
-    match used {
-        Some(h) => (h.p_vaddr <= a) & (a < h.end),
-        None => false,
-    }
+    used.is_some_and(|h| (h.p_vaddr <= a) & (a < h.end))
 }
 
 // The first program header that contains an address.
@@ -231,10 +243,7 @@ fn word_deed(len: u64, at: u64, value: u64) -> Result<Deed, ElfError>
 fn is_negative(addend: Option<u64>) -> bool
     ensures { result ≡ is_negative addend }
 {
-    match addend {
-        Some(a) => 0x8000_0000_0000_0000 <= a,
-        None => false,
-    }
+    addend.is_some_and(|a| 0x8000_0000_0000_0000 <= a)
 }
 
 // Type 1: the address of a symbol, plus the addend or the four bytes that are there.
@@ -361,29 +370,19 @@ fn relative_elsewhere(
     word_deed(image.len() as u64, r, value)
 }
 
-// Whether an address is one of the text's.
-pub(crate) fn in_addresses(sh_addr: u64, sh_size: u64, a: u64) -> bool
-    ensures { result ≡ (leb sh_addr a && ltb a (sum_up_to sh_addr sh_size)) }
-{
-    (sh_addr <= a) & (a < sh_addr.saturating_add(sh_size))
-}
-
 // A function to register, and the place of its key.
+#[tactic(auto, using(ebpf::specs::Choice::choices))]
 fn register_deed(len: u64, at: u64, row: Result<Row, SymbolHashCollision>) -> Result<Deed, ElfError>
     ensures { result ≡ register_deed len at row }
 {
-    match row {
-        Err(taken) => Err(ElfError::SymbolHashCollision { key: taken.key }),
-        Ok(row) => {
-            if past(len, at, 4) {
-                return Ok(Deed::RegisterOutside { row });
-            }
-            Ok(Deed::Register {
-                row,
-                at: at as usize,
-            })
-        }
+    let row = row?;
+    if past(len, at, 4) {
+        return Ok(Deed::RegisterOutside { row });
     }
+    Ok(Deed::Register {
+        row,
+        at: at as usize,
+    })
 }
 
 // A call of a function symbol.

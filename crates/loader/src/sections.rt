@@ -21,10 +21,7 @@ const BLANK: Elf64Shdr = Elf64Shdr {
 pub(crate) fn section_at(elf: &Elf64<'_>, index: u32) -> Elf64Shdr
     ensures { result ≡ section_at elf.now.file.now elf.now.layout index }
 {
-    match elf.section_header(index) {
-        Ok(h) => h,
-        Err(_) => BLANK,
-    }
+    elf.section_header(index).unwrap_or(BLANK)
 }
 
 #[tactic(auto, using(crate::specs::Sections::front_tested))]

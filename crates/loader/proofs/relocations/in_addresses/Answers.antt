@@ -1,6 +1,0 @@
--- `loader::relocations::in_addresses` meets its contract: two tests.
--- Assumes nothing.
-use Rattle.loader.proofs.relocations.in_addresses.Goals as goal
-
-pub returns : goal.returns
-returns c = rw (← c.saturating_add.ensures)
