@@ -136,7 +136,7 @@ def words(text):
 
 
 def read_names():
-    """names.txt: `CRATE OLD -> NEW: why` (a new name), `CRATE OLD: why` (gone), `* OLD now NEW` (a spelling),
+    """names.txt: `CRATE OLD -> NEW: why` (a new name; NEW is `CRATE/NAME` where it stands in another crate), `CRATE OLD: why` (gone), `* OLD now NEW` (a spelling),
     `~ CRATE NAME` (a law that only shares its name with what a page names)."""
     renamed, gone, spelled = {}, {}, []
     for line in open(NAMES):
@@ -234,12 +234,17 @@ def crate_lists(crate, old, new, everywhere, names, cited, open_items):
                 continue
             kinds = [kind] + [k for k in KINDS if kind in k for k in k]
             now, why = renamed.get((crate, name), (name, ''))
-            found = next((new[k][now] for k in kinds if now in new[k]), None)
+            if '/' in now:
+                there, now = now.split('/')
+                found = next((everywhere[there][k][now] for k in kinds if now in everywhere[there][k]), None)
+                now = 'of %s, %s' % (there, now)
+            else:
+                found = next((new[k][now] for k in kinds if now in new[k]), None)
             if found is None and now != name:
                 now, why = name, ''
                 found = next((new[k][now] for k in kinds if now in new[k]), None)
             if found is None:
-                found = [x for c in everywhere for k in kinds for x in c[k].get(now, []) if words(x[1]) == words(places[0][1])]
+                found = [x for c in everywhere.values() for k in kinds for x in c[k].get(now, []) if words(x[1]) == words(places[0][1])]
             if not found:
                 missing.append((places, why_gone(name, places[0][0])))
                 continue
@@ -286,9 +291,9 @@ def main():
     cited, open_items, out = named_in_pages(before), [], []
     empty = {'functions': {}, 'private': {}, 'types': {}, 'definitions': {}, 'theorems': {}, 'laws': {}, 'own': {}}
     order = [re.split(r'[ :]', l)[0] for l in open('crates.txt') if l.strip() and not l.startswith('#')]
-    for crate in order:
+    for crate in order + sorted(set(old) - set(order)):
         if crate in old:
-            everywhere = [new[c] for c in new if c != crate]
+            everywhere = {c: new[c] for c in new if c != crate}
             out += crate_lists(crate, old[crate], new.get(crate, empty), everywhere, names, cited, open_items)
     top = [HEADING, '', '`python3 tools/places/changes.py --write` made this section: old is the commit in the first line, new the sources beside this page. '
            'Parameters of the modules around a definition or theorem stand above it. What differs only by another spelling of a constructor or a type is named '

@@ -6,14 +6,14 @@ use crate::consts::{
     DT_HASH, DT_NULL, DT_NUM, DT_REL, DT_RELA, DT_RELAENT, DT_RELASZ, DT_RELENT, DT_RELSZ,
     DT_SYMTAB, PT_DYNAMIC, SHT_DYNAMIC,
 };
+use crate::elf64::Elf64;
 use crate::error::ElfParserError;
-use crate::layout::Layout;
 use crate::program_headers::header_for_vaddr;
 use crate::records::{Entries, NO_ENTRIES, slice_from_bytes, symbol_table_in};
 use crate::types::{Elf64Dyn, Elf64Phdr, Elf64Shdr, Record, nth_record};
 
 // The two header tables.
-#[derive(Clone, Copy)]
+#[derive(Clone, Copy, PartialEq, Eq, Debug)]
 pub struct Tables {
     pub program_headers: Entries,
     pub section_headers: Entries,
@@ -21,7 +21,7 @@ pub struct Tables {
 
 // What the dynamic table leads to: the relocations, those that bring an addend, and the symbols; and the
 // address of the symbols' hash table, which a parse does not look at.
-#[derive(Clone, Copy)]
+#[derive(Clone, Copy, PartialEq, Eq, Debug)]
 pub struct Linked {
     pub relocations: Entries,
     pub relas: Entries,
@@ -146,24 +146,26 @@ fn ends_past(len: u64, table: Entries, width: u64) -> bool
     (len - table.offset) / width < table.count
 }
 
-// Where what has an address starts in the file, by a layout. In one that no parse made the header tables
-// may lie outside the file.
-#[tactic(auto, using(ebpf::specs::Choice::choices), unfolding(crate::specs::Dynamic::file_offset))]
-pub fn file_offset(file: &[u8], layout: Layout, vaddr: u64) -> Result<Option<u64>, ElfParserError>
-    ensures { result ≡ file_offset file.now layout vaddr }
-{
-    let t = Tables {
-        program_headers: layout.program_headers,
-        section_headers: layout.section_headers,
-    };
-    let len = file.len() as u64;
-    if ends_past(len, t.program_headers, 56) {
-        return Err(ElfParserError::OutOfBounds);
+impl Elf64<'_> {
+    // Where what has an address starts in the file, by a layout. In one that no parse made the header
+    // tables may lie outside the file.
+    #[tactic(auto, using(ebpf::specs::Choice::choices), unfolding(crate::specs::Dynamic::file_offset))]
+    pub fn file_offset(&self, vaddr: u64) -> Result<Option<u64>, ElfParserError>
+        ensures { result ≡ file_offset self.now.file.now self.now.layout vaddr }
+    {
+        let t = Tables {
+            program_headers: self.layout.program_headers,
+            section_headers: self.layout.section_headers,
+        };
+        let len = self.file.len() as u64;
+        if ends_past(len, t.program_headers, 56) {
+            return Err(ElfParserError::OutOfBounds);
+        }
+        if ends_past(len, t.section_headers, 64) {
+            return Err(ElfParserError::OutOfBounds);
+        }
+        relocation_offset(self.file, t, vaddr)
     }
-    if ends_past(len, t.section_headers, 64) {
-        return Err(ElfParserError::OutOfBounds);
-    }
-    relocation_offset(file, t, vaddr)
 }
 
 // The relocations of `width` bytes each that fill `size` bytes from `offset` on.

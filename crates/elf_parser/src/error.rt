@@ -2,7 +2,9 @@
 ghost use Rattle.std.specs.Prelude.{◌≡◌};
 ghost use Rattle.elf_parser.specs.Errors.{report_of};
 
-#[derive(Clone, Copy)]
+use crate::parts::Place;
+
+#[derive(Clone, Copy, PartialEq, Eq, Debug)]
 pub enum ElfParserError {
     InvalidFileHeader,
     InvalidProgramHeader,
@@ -26,7 +28,7 @@ pub enum ElfParserError {
 }
 
 // A refusal in numbers: its number, its value, and the place of the name that it speaks of.
-#[derive(Clone, Copy)]
+#[derive(Clone, Copy, PartialEq, Eq, Debug)]
 pub struct Report {
     pub number: u32,
     pub value: u64,
@@ -45,14 +47,14 @@ fn plain(number: u32) -> Report
     }
 }
 
-fn named(number: u32, start: usize, length: usize) -> Report
-    ensures { result ≡ record { number = number; value = 0; start = start; length = length } }
+fn named(number: u32, place: Place) -> Report
+    ensures { result ≡ record { number = number; value = 0; start = place.start; length = place.length } }
 {
     Report {
         number,
         value: 0,
-        start: start as u64,
-        length: length as u64,
+        start: place.start as u64,
+        length: place.length as u64,
     }
 }
 
@@ -64,7 +66,7 @@ impl From<ElfParserError> for Report {
             ElfParserError::InvalidFileHeader => plain(1),
             ElfParserError::InvalidProgramHeader => plain(2),
             ElfParserError::InvalidSectionHeader => plain(3),
-            ElfParserError::StringTooLong { start, length } => named(4, start, length),
+            ElfParserError::StringTooLong { start, length } => named(4, Place { start, length }),
             ElfParserError::OutOfBounds => plain(5),
             ElfParserError::InvalidSize => plain(6),
             ElfParserError::Overlap => plain(7),
@@ -76,7 +78,9 @@ impl From<ElfParserError> for Report {
             ElfParserError::NoDynamicStringTable => plain(13),
             ElfParserError::NoSuchIndex => plain(45),
             ElfParserError::NotASection => plain(46),
-            ElfParserError::StringUnterminated { start, length } => named(49, start, length),
+            ElfParserError::StringUnterminated { start, length } => {
+                named(49, Place { start, length })
+            }
         }
     }
 }

@@ -1,8 +1,9 @@
 #![tactic(auto)]
-// Reading an ELF-64 file: the port of src/elf_parser. Every function takes the file and plain
-// numbers. What a parse leaves is a `Layout`; everything else is read from the file again.
+// Reading an ELF-64 file: the port of src/elf_parser. What a parse leaves is a `Layout`, plain numbers;
+// everything else is read from the file again, by the methods of `Elf64`, a file with its layout.
 pub mod consts;
 mod dynamic;
+mod elf64;
 pub mod error;
 mod header;
 mod layout;
@@ -15,14 +16,10 @@ mod section_names;
 mod strings;
 pub mod types;
 
-pub use dynamic::file_offset;
+pub use elf64::Elf64;
 pub use error::{ElfParserError, Report};
 pub use layout::{Layout, parse};
-pub use names::{dynamic_symbol_name, section_name, symbol_name};
 pub use parts::{Place, bytes_at, part_of, past};
-pub use records::{
-    Entries, NO_ENTRIES, dynamic_rela, dynamic_relocation, dynamic_symbol, entry, file_range,
-    program_header, section_contents, section_header, section_place, symbol_table,
-};
+pub use records::{Entries, NO_ENTRIES, entry};
 pub use strings::get_string_in_section;
 pub use types::file_header;

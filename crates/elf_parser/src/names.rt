@@ -3,8 +3,8 @@ ghost use Rattle.std.specs.Prelude.{◌≡◌};
 ghost use Rattle.elf_parser.specs.Names.{name_by, section_name, symbol_name, dynamic_symbol_name};
 
 use crate::consts::{SECTION_NAME_LENGTH_MAXIMUM, SYMBOL_NAME_LENGTH_MAXIMUM};
+use crate::elf64::Elf64;
 use crate::error::ElfParserError;
-use crate::layout::Layout;
 use crate::parts::{Place, past};
 use crate::strings::get_string_in_section;
 use crate::types::record_at;
@@ -28,42 +28,42 @@ fn name_by(
     get_string_in_section(file, record_at(file, at as usize), offset, most)
 }
 
-pub fn section_name(file: &[u8], layout: Layout, sh_name: u32) -> Result<Place, ElfParserError>
-    ensures { result ≡ section_name file.now layout sh_name }
-{
-    name_by(
-        file,
-        layout.shstrtab,
-        sh_name,
-        SECTION_NAME_LENGTH_MAXIMUM,
-        ElfParserError::NoSectionNameStringTable,
-    )
-}
+// Kept: three of one shape, since each kind of name has its own table, limit and refusal; what they share is
+// `name_by`.
+impl Elf64<'_> {
+    pub fn section_name(&self, sh_name: u32) -> Result<Place, ElfParserError>
+        ensures { result ≡ section_name self.now.file.now self.now.layout sh_name }
+    {
+        name_by(
+            self.file,
+            self.layout.shstrtab,
+            sh_name,
+            SECTION_NAME_LENGTH_MAXIMUM,
+            ElfParserError::NoSectionNameStringTable,
+        )
+    }
 
-pub fn symbol_name(file: &[u8], layout: Layout, st_name: u32) -> Result<Place, ElfParserError>
-    ensures { result ≡ symbol_name file.now layout st_name }
-{
-    name_by(
-        file,
-        layout.strtab,
-        st_name,
-        SYMBOL_NAME_LENGTH_MAXIMUM,
-        ElfParserError::NoStringTable,
-    )
-}
+    pub fn symbol_name(&self, st_name: u32) -> Result<Place, ElfParserError>
+        ensures { result ≡ symbol_name self.now.file.now self.now.layout st_name }
+    {
+        name_by(
+            self.file,
+            self.layout.strtab,
+            st_name,
+            SYMBOL_NAME_LENGTH_MAXIMUM,
+            ElfParserError::NoStringTable,
+        )
+    }
 
-pub fn dynamic_symbol_name(
-    file: &[u8],
-    layout: Layout,
-    st_name: u32,
-) -> Result<Place, ElfParserError>
-    ensures { result ≡ dynamic_symbol_name file.now layout st_name }
-{
-    name_by(
-        file,
-        layout.dynstr,
-        st_name,
-        SYMBOL_NAME_LENGTH_MAXIMUM,
-        ElfParserError::NoDynamicStringTable,
-    )
+    pub fn dynamic_symbol_name(&self, st_name: u32) -> Result<Place, ElfParserError>
+        ensures { result ≡ dynamic_symbol_name self.now.file.now self.now.layout st_name }
+    {
+        name_by(
+            self.file,
+            self.layout.dynstr,
+            st_name,
+            SYMBOL_NAME_LENGTH_MAXIMUM,
+            ElfParserError::NoDynamicStringTable,
+        )
+    }
 }

@@ -5,7 +5,7 @@ ghost use Rattle.elf_parser.specs.ProgramHeaders.{load_step, loads_check, contai
 use crate::consts::PT_LOAD;
 use crate::error::ElfParserError;
 use crate::records::Entries;
-use crate::types::{Elf64Phdr, nth_record};
+use crate::types::{Elf64Phdr, nth_record, over_records};
 
 // The checks of one program header; `low` is the address of the last PT_LOAD header before it. What it
 // answers is that of the next.
@@ -33,10 +33,10 @@ pub(crate) fn check_program_headers(file: &[u8], table: Entries) -> Result<(), E
     requires { table.offset + 56 * table.count ≤ length file.now }
     ensures { result ≡ loads_check file.now table.count table.offset }
 {
-    let mut low = 0;
-    for i in 0..table.count {
-        low = load_step(file.len() as u64, nth_record(file, table, i), low)?;
-    }
+    let len = file.len() as u64;
+    over_records(file, table, 0, |_, h: Elf64Phdr, low| {
+        load_step(len, h, low)
+    })?;
     Ok(())
 }
 

@@ -5,13 +5,13 @@ ghost use Rattle.elf_parser.specs.Records.{entry_at, entry_of, program_header_of
 ghost use Rattle.elf_parser.specs.Parts.{part_of};
 
 use crate::consts::{SHT_DYNSYM, SHT_NOBITS, SHT_NULL, SHT_SYMTAB};
+use crate::elf64::Elf64;
 use crate::error::ElfParserError;
-use crate::layout::Layout;
 use crate::parts::{Place, part_of, past};
 use crate::types::{Elf64Phdr, Elf64Rel, Elf64Rela, Elf64Shdr, Elf64Sym, Record, record_at};
 
 // Entries of one kind that stand one after another in the file.
-#[derive(Clone, Copy)]
+#[derive(Clone, Copy, PartialEq, Eq, Debug)]
 pub struct Entries {
     pub offset: u64,
     pub count: u64,
@@ -46,41 +46,6 @@ pub fn entry<T: Record>(file: &[u8], table: Entries, index: u32) -> Result<T, El
 {
     let at = entry_at(file.len() as u64, table, T::SIZE as u64, index)?;
     Ok(record_at(file, at))
-}
-
-pub fn program_header(file: &[u8], layout: Layout, index: u32) -> Result<Elf64Phdr, ElfParserError>
-    ensures { result ≡ program_header_of file.now layout index }
-{
-    entry(file, layout.program_headers, index)
-}
-
-pub fn section_header(file: &[u8], layout: Layout, index: u32) -> Result<Elf64Shdr, ElfParserError>
-    ensures { result ≡ section_header_of file.now layout index }
-{
-    entry(file, layout.section_headers, index)
-}
-
-pub fn dynamic_symbol(file: &[u8], layout: Layout, index: u32) -> Result<Elf64Sym, ElfParserError>
-    ensures { result ≡ dynamic_symbol_of file.now layout index }
-{
-    entry(file, layout.dynamic_symbols, index)
-}
-
-pub fn dynamic_relocation(
-    file: &[u8],
-    layout: Layout,
-    index: u32,
-) -> Result<Elf64Rel, ElfParserError>
-    ensures { result ≡ dynamic_relocation_of file.now layout index }
-{
-    entry(file, layout.dynamic_relocations, index)
-}
-
-// A relocation of the kind that brings an addend.
-pub fn dynamic_rela(file: &[u8], layout: Layout, index: u32) -> Result<Elf64Rela, ElfParserError>
-    ensures { result ≡ dynamic_rela_of file.now layout index }
-{
-    entry(file, layout.dynamic_relas, index)
 }
 
 // Entries of `width` bytes that fill `size` bytes from `offset` on.
@@ -123,21 +88,6 @@ pub(crate) fn symbol_table_in(len: u64, header: Elf64Shdr) -> Result<Entries, El
     slice_from_bytes(len, header.sh_offset, header.sh_size, 24)
 }
 
-// The symbols of `.symtab`: none where the file has no such section.
-#[tactic(auto, using(ebpf::specs::Choice::choices), unfolding(crate::specs::Records::symbol_table_of, crate::specs::Records::symbols_at))]
-pub fn symbol_table(file: &[u8], layout: Layout) -> Result<Entries, ElfParserError>
-    ensures { result ≡ symbol_table_of file.now layout }
-{
-    let Some(header_at) = layout.symtab else {
-        return Ok(NO_ENTRIES);
-    };
-    let len = file.len() as u64;
-    if past(len, header_at, 64) {
-        return Err(ElfParserError::OutOfBounds);
-    }
-    symbol_table_in(len, record_at(file, header_at as usize))
-}
-
 // A section of type SHT_NOBITS has no bytes in the file.
 #[tactic(auto, using(ebpf::specs::Choice::choices), unfolding(crate::specs::Records::file_range))]
 fn range_in_file(len: u64, header: Elf64Shdr) -> Result<Place, ElfParserError>
@@ -158,14 +108,6 @@ fn range_in_file(len: u64, header: Elf64Shdr) -> Result<Place, ElfParserError>
     })
 }
 
-// Where the bytes of section `index` stand in the file.
-pub fn file_range(file: &[u8], layout: Layout, index: u32) -> Result<Place, ElfParserError>
-    ensures { result ≡ file_range_of file.now layout index }
-{
-    let header = section_header(file, layout, index)?;
-    range_in_file(file.len() as u64, header)
-}
-
 // A header of type SHT_NULL is no section's: its other fields have no meaning.
 #[tactic(auto, using(ebpf::specs::Choice::choices), unfolding(crate::specs::Records::contents_place))]
 fn contents_in_file(len: u64, header: Elf64Shdr) -> Result<Place, ElfParserError>
@@ -177,17 +119,74 @@ fn contents_in_file(len: u64, header: Elf64Shdr) -> Result<Place, ElfParserError
     range_in_file(len, header)
 }
 
-// Where the contents of section `index` stand.
-pub fn section_place(file: &[u8], layout: Layout, index: u32) -> Result<Place, ElfParserError>
-    ensures { result ≡ section_place_of file.now layout index }
-{
-    let header = section_header(file, layout, index)?;
-    contents_in_file(file.len() as u64, header)
-}
+impl<'a> Elf64<'a> {
+    pub fn program_header(&self, index: u32) -> Result<Elf64Phdr, ElfParserError>
+        ensures { result ≡ program_header_of self.now.file.now self.now.layout index }
+    {
+        entry(self.file, self.layout.program_headers, index)
+    }
 
-// The contents of section `index`; none where they are refused.
-pub fn section_contents(file: &[u8], layout: Layout, index: u32) -> &[u8]
-    ensures { result.now ≡ part_of file.now (section_place_of file.now layout index) }
-{
-    part_of(file, section_place(file, layout, index))
+    pub fn section_header(&self, index: u32) -> Result<Elf64Shdr, ElfParserError>
+        ensures { result ≡ section_header_of self.now.file.now self.now.layout index }
+    {
+        entry(self.file, self.layout.section_headers, index)
+    }
+
+    pub fn dynamic_symbol(&self, index: u32) -> Result<Elf64Sym, ElfParserError>
+        ensures { result ≡ dynamic_symbol_of self.now.file.now self.now.layout index }
+    {
+        entry(self.file, self.layout.dynamic_symbols, index)
+    }
+
+    // The dynamic relocation number `index`, without an addend and with one.
+    pub fn dynamic_relocation(&self, index: u32) -> Result<Elf64Rel, ElfParserError>
+        ensures { result ≡ dynamic_relocation_of self.now.file.now self.now.layout index }
+    {
+        entry(self.file, self.layout.dynamic_relocations, index)
+    }
+
+    pub fn dynamic_rela(&self, index: u32) -> Result<Elf64Rela, ElfParserError>
+        ensures { result ≡ dynamic_rela_of self.now.file.now self.now.layout index }
+    {
+        entry(self.file, self.layout.dynamic_relas, index)
+    }
+
+    // The symbols of `.symtab`: none where the file has no such section.
+    #[tactic(auto, using(ebpf::specs::Choice::choices), unfolding(crate::specs::Records::symbol_table_of, crate::specs::Records::symbols_at))]
+    pub fn symbol_table(&self) -> Result<Entries, ElfParserError>
+        ensures { result ≡ symbol_table_of self.now.file.now self.now.layout }
+    {
+        let Some(header_at) = self.layout.symtab else {
+            return Ok(NO_ENTRIES);
+        };
+        let len = self.file.len() as u64;
+        if past(len, header_at, 64) {
+            return Err(ElfParserError::OutOfBounds);
+        }
+        symbol_table_in(len, record_at(self.file, header_at as usize))
+    }
+
+    // Where the bytes of section `index` stand in the file.
+    // Kept: two lines that `section_place` has too, with another check; a function over the check would have more.
+    pub fn file_range(&self, index: u32) -> Result<Place, ElfParserError>
+        ensures { result ≡ file_range_of self.now.file.now self.now.layout index }
+    {
+        let header = self.section_header(index)?;
+        range_in_file(self.file.len() as u64, header)
+    }
+
+    // Where the contents of section `index` stand.
+    pub fn section_place(&self, index: u32) -> Result<Place, ElfParserError>
+        ensures { result ≡ section_place_of self.now.file.now self.now.layout index }
+    {
+        let header = self.section_header(index)?;
+        contents_in_file(self.file.len() as u64, header)
+    }
+
+    // The contents of section `index`, as a part of the file; none where they are refused.
+    pub fn section_contents(&self, index: u32) -> &'a [u8]
+        ensures { result.now ≡ part_of self.now.file.now (section_place_of self.now.file.now self.now.layout index) }
+    {
+        part_of(self.file, self.section_place(index))
+    }
 }

@@ -6,10 +6,10 @@ ghost use Rattle.elf_parser.specs.SectionHeaders.{section_check, section_step, s
 use crate::consts::SHT_NOBITS;
 use crate::error::ElfParserError;
 use crate::records::Entries;
-use crate::types::{Elf64Shdr, nth_record};
+use crate::types::{Elf64Shdr, over_records};
 
 // Where the two header tables stand.
-#[derive(Clone, Copy)]
+#[derive(Clone, Copy, PartialEq, Eq, Debug)]
 pub struct Ranges {
     pub phoff: u64,
     pub phend: u64,
@@ -71,9 +71,9 @@ pub(crate) fn check_section_headers(
     requires { table.offset + 64 * table.count ≤ length file.now }
     ensures { result ≡ sections_check file.now t table.count table.offset }
 {
-    let mut low = 0;
-    for i in 0..table.count {
-        low = section_step(file.len() as u64, nth_record(file, table, i), low, t)?;
-    }
+    let len = file.len() as u64;
+    over_records(file, table, 0, |_, h: Elf64Shdr, low| {
+        section_step(len, h, low, t)
+    })?;
     Ok(())
 }

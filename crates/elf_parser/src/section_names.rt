@@ -7,10 +7,10 @@ use crate::error::ElfParserError;
 use crate::parts::bytes_at;
 use crate::records::Entries;
 use crate::strings::get_string_in_section;
-use crate::types::{Elf64Shdr, nth_record};
+use crate::types::{Elf64Shdr, over_records};
 
 // Which of the names that the reader knows a section has.
-#[derive(Clone, Copy)]
+#[derive(Clone, Copy, PartialEq, Eq, Debug)]
 pub enum Role {
     SymbolTable,
     SymbolNames,
@@ -18,7 +18,7 @@ pub enum Role {
 }
 
 // Where the headers of those sections stand in the file.
-#[derive(Clone, Copy)]
+#[derive(Clone, Copy, PartialEq, Eq, Debug)]
 pub struct Named {
     pub symtab: Option<u64>,
     pub strtab: Option<u64>,
@@ -97,14 +97,12 @@ pub(crate) fn find_named(
     requires { table.offset + 64 * table.count ≤ length file.now }
     ensures { result ≡ names_of file.now names table.count table.offset }
 {
-    let mut n = Named {
+    let none = Named {
         symtab: None,
         strtab: None,
         dynstr: None,
     };
-    for i in 0..table.count {
-        let at = table.offset + 64 * i;
-        n = name_step(file, names, nth_record(file, table, i), at, n)?;
-    }
-    Ok(n)
+    over_records(file, table, none, |at, h: Elf64Shdr, n| {
+        name_step(file, names, h, at, n)
+    })
 }

@@ -44,6 +44,7 @@ fn check_string(
 }
 
 // Why a name has no end: the section ends before the limit does, or the name is too long.
+// Kept: `cut` says which of two refusals it is, and chooses no step.
 #[tactic(auto, using(ebpf::specs::Choice::choices), unfolding(crate::specs::Strings::no_zero))]
 fn no_zero(cut: bool, start: usize, length: usize) -> ElfParserError
     ensures { result ≡ no_zero cut start length }
@@ -61,7 +62,7 @@ fn first_zero(part: &[u8]) -> Option<usize>
     part.iter().position(|byte| *byte == 0)
 }
 
-// The name from `start` on, which ends at its first zero byte before `end`.
+// The name from `start` on, which ends at its first zero byte before `end`. `cut` goes into a refusal alone.
 #[tactic(auto, using(crate::specs::Strings::zero_found, crate::specs::Strings::zero_missing))]
 fn name_from(file: &[u8], start: usize, end: usize, cut: bool) -> Result<Place, ElfParserError>
     requires { (start ≤ end) × (end ≤ length file.now) }

@@ -1,13 +1,16 @@
 // The records of a file, with the fields that are asked for, and their readers at a place.
-ghost use Rattle.std.specs.Prelude.{◌≡◌, ℕ, ◌+◌, ◌*◌, ◌≤◌, ◌<◌, List, length, take, drop};
+ghost use Rattle.std.specs.Prelude.{◌≡◌, ℕ, ◌+◌, ◌*◌, ◌≤◌, ◌<◌, List, Result, length, take, drop};
 ghost use Rattle.std.proofs.Common.{lit<, lit≤};
 ghost use Rattle.elf_parser.specs.Types.{file_header, program_header, section_header, sym, rel, rela, dynamic};
+ghost use Rattle.elf_parser.specs.declared.error.ElfParserError.{ElfParserError};
+ghost use Rattle.elf_parser.specs.Loops.{over};
 ghost use Rattle.elf_parser.specs.Fields.{program_header_part, section_header_part, sym_part, rel_part, rela_part, dynamic_part};
 
+use crate::error::ElfParserError;
 use crate::records::Entries;
 use ebpf::little_endian::read;
 
-#[derive(Clone, Copy)]
+#[derive(Clone, Copy, PartialEq, Eq, Debug)]
 pub struct Elf64Ehdr {
     pub ei_osabi: u8,
     pub e_type: u16,
@@ -21,7 +24,7 @@ pub struct Elf64Ehdr {
     pub e_shstrndx: u16,
 }
 
-#[derive(Clone, Copy)]
+#[derive(Clone, Copy, PartialEq, Eq, Debug)]
 pub struct Elf64Phdr {
     pub p_type: u32,
     pub p_offset: u64,
@@ -30,7 +33,7 @@ pub struct Elf64Phdr {
     pub p_memsz: u64,
 }
 
-#[derive(Clone, Copy)]
+#[derive(Clone, Copy, PartialEq, Eq, Debug)]
 pub struct Elf64Shdr {
     pub sh_name: u32,
     pub sh_type: u32,
@@ -40,21 +43,21 @@ pub struct Elf64Shdr {
     pub sh_size: u64,
 }
 
-#[derive(Clone, Copy)]
+#[derive(Clone, Copy, PartialEq, Eq, Debug)]
 pub struct Elf64Sym {
     pub st_name: u32,
     pub st_info: u8,
     pub st_value: u64,
 }
 
-#[derive(Clone, Copy)]
+#[derive(Clone, Copy, PartialEq, Eq, Debug)]
 pub struct Elf64Rel {
     pub r_offset: u64,
     pub r_info: u64,
 }
 
 // The addend is signed: its bits as an unsigned number, negative from 2^63 on.
-#[derive(Clone, Copy)]
+#[derive(Clone, Copy, PartialEq, Eq, Debug)]
 pub struct Elf64Rela {
     pub r_offset: u64,
     pub r_info: u64,
@@ -62,7 +65,7 @@ pub struct Elf64Rela {
 }
 
 // An entry of the dynamic table: its tag and its value.
-#[derive(Clone, Copy)]
+#[derive(Clone, Copy, PartialEq, Eq, Debug)]
 pub struct Elf64Dyn {
     pub d_tag: u64,
     pub d_val: u64,
@@ -265,4 +268,26 @@ pub(crate) fn nth_record<T: Record>(file: &[u8], table: Entries, i: u64) -> T
     ensures { result ≡ T.at file.now (table.offset + T.SIZE * i) }
 {
     record_at(file, table.offset as usize + T::SIZE * i as usize)
+}
+
+// What is left of a state after the records of a table, in turn: `step` goes from one to the next, with the
+// place where the record starts, up to the first that refuses.
+pub(crate) fn over_records<T: Record, S: Copy, F: Fn(u64, T, S) -> Result<S, ElfParserError>>(
+    file: &[u8],
+    table: Entries,
+    first: S,
+    step: F,
+) -> Result<S, ElfParserError>
+    ghost stepped: { ℕ → S → Result S ElfParserError }
+    requires inside { table.offset + T.SIZE * table.count ≤ length file.now }
+    requires callable { F.IsAlwaysCallable step }
+    requires steps { (at : ℕ) (x : S) (r : Result S ElfParserError) → F.post step at (T.at file.now at) x r → r ≡ stepped at x }
+    ensures { result ≡ over stepped T.SIZE table.count table.offset first }
+{
+    let mut state = first;
+    for i in 0..table.count {
+        let at = table.offset + T::SIZE as u64 * i;
+        state = step(at, nth_record(file, table, i), state)?;
+    }
+    Ok(state)
 }

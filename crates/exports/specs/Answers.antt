@@ -9,7 +9,6 @@ use Rattle.elf_parser.specs.Errors.{report_of}
 use Rattle.elf_parser.specs.Parse.{parsed}
 use Rattle.hash_table.specs.declared.BadHashTable.{BadHashTable}
 use Rattle.program.specs.Table.{Lent, Shared}
-use Rattle.loader.specs.declared.get_bytes.PartPlace.{PartPlace}
 use Rattle.loader.specs.declared.error.ElfError.{ElfError}
 use Rattle.loader.specs.declared.answer.Accepted.{Accepted}
 use Rattle.loader.specs.declared.validate.Config.{Config}
@@ -168,7 +167,7 @@ pub record GivesLoad (file builtins : Shared) (settings : ℕ) (image ro keys in
   pub gives : Gives (load_answer (answer_of (load_of_lent file builtins (config_of settings) image ro keys indices kinds starts lengths))) answer r
 
 -- the text's place: its start and its length
-abbrev pub text_answer : Result PartPlace ElfError → Answer
+abbrev pub text_answer : Result Place ElfError → Answer
 text_answer (Ok p) = accepted (p.start ∷ p.length ∷ [])
 text_answer (Err e) = reported (load.report_of e)
 

@@ -19,9 +19,7 @@ use answers::{
     give, give_row, parse_answer, place_answer, refused, symbol_answer, table_answer, word_or_none,
 };
 use ebpf::hash_symbol_name;
-use elf_parser::{
-    dynamic_symbol_name, parse, section_name, section_place, symbol_name, symbol_table,
-};
+use elf_parser::{Elf64, parse};
 use hash_table::find_symbol;
 use loader::{load, text_place};
 use loading::{config_of, load_answer, text_answer};
@@ -62,7 +60,7 @@ pub fn sbpf_parse(file: &[u8], answer: &mut [u64]) -> u32
 pub fn sbpf_section_place(file: &[u8], index: u32, answer: &mut [u64]) -> u32
     ensures { GivesAsked file (λ f l. place_answer (section_place_of f l index)) answer result }
 {
-    let place = parse(file).and_then(|layout| section_place(file, layout, index));
+    let place = parse(file).and_then(|layout| Elf64 { file, layout }.section_place(index));
     give(answer, place_answer(place))
 }
 
@@ -70,7 +68,7 @@ pub fn sbpf_section_place(file: &[u8], index: u32, answer: &mut [u64]) -> u32
 pub fn sbpf_section_name(file: &[u8], sh_name: u32, answer: &mut [u64]) -> u32
     ensures { GivesAsked file (λ f l. place_answer (section_name f l sh_name)) answer result }
 {
-    let place = parse(file).and_then(|layout| section_name(file, layout, sh_name));
+    let place = parse(file).and_then(|layout| Elf64 { file, layout }.section_name(sh_name));
     give(answer, place_answer(place))
 }
 
@@ -78,7 +76,7 @@ pub fn sbpf_section_name(file: &[u8], sh_name: u32, answer: &mut [u64]) -> u32
 pub fn sbpf_symbol_name(file: &[u8], st_name: u32, answer: &mut [u64]) -> u32
     ensures { GivesAsked file (λ f l. place_answer (symbol_name f l st_name)) answer result }
 {
-    let place = parse(file).and_then(|layout| symbol_name(file, layout, st_name));
+    let place = parse(file).and_then(|layout| Elf64 { file, layout }.symbol_name(st_name));
     give(answer, place_answer(place))
 }
 
@@ -86,7 +84,7 @@ pub fn sbpf_symbol_name(file: &[u8], st_name: u32, answer: &mut [u64]) -> u32
 pub fn sbpf_dynamic_symbol_name(file: &[u8], st_name: u32, answer: &mut [u64]) -> u32
     ensures { GivesAsked file (λ f l. place_answer (dynamic_symbol_name f l st_name)) answer result }
 {
-    let place = parse(file).and_then(|layout| dynamic_symbol_name(file, layout, st_name));
+    let place = parse(file).and_then(|layout| Elf64 { file, layout }.dynamic_symbol_name(st_name));
     give(answer, place_answer(place))
 }
 
@@ -94,7 +92,7 @@ pub fn sbpf_dynamic_symbol_name(file: &[u8], st_name: u32, answer: &mut [u64]) -
 pub fn sbpf_symbol_table(file: &[u8], answer: &mut [u64]) -> u32
     ensures { GivesAsked file (λ f l. table_answer (symbol_table_of f l)) answer result }
 {
-    let table = parse(file).and_then(|layout| symbol_table(file, layout));
+    let table = parse(file).and_then(|layout| Elf64 { file, layout }.symbol_table());
     give(answer, table_answer(table))
 }
 
@@ -103,7 +101,10 @@ pub fn sbpf_find_symbol(file: &[u8], name: &[u8], answer: &mut [u64]) -> u32
     ensures { GivesAsked file (λ f l. symbol_answer (find_symbol f l name.now)) answer result }
 {
     match parse(file) {
-        Ok(layout) => give(answer, symbol_answer(find_symbol(file, layout, name))),
+        Ok(layout) => give(
+            answer,
+            symbol_answer(find_symbol(&Elf64 { file, layout }, name)),
+        ),
         Err(e) => give(answer, refused(e)),
     }
 }

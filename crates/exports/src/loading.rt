@@ -3,7 +3,8 @@ ghost use Rattle.std.specs.Prelude.{◌≡◌, ◌<◌};
 ghost use Rattle.exports.specs.Answers.{config_of, loaded_with, load_answer, text_answer};
 
 use crate::answers::{Answer, answer_with, reported};
-use loader::{Accepted, Config, ElfError, PartPlace, report_of};
+use elf_parser::Place;
+use loader::{Accepted, Config, ElfError, report_of};
 
 // The settings of a load by their bits.
 pub(crate) fn config_of(settings: u32) -> Config
@@ -53,11 +54,11 @@ pub(crate) fn load_answer(a: Result<Accepted, ElfError>) -> Answer
     }
 }
 
-pub(crate) fn text_answer(p: Result<PartPlace, ElfError>) -> Answer
+pub(crate) fn text_answer(p: Result<Place, ElfError>) -> Answer
     ensures { result ≡ text_answer p }
 {
     match p {
-        Ok(PartPlace { start, length }) => answer_with(0, &[0, 0, 0, start, length]),
+        Ok(place) => answer_with(0, &[0, 0, 0, place.start as u64, place.length as u64]),
         Err(e) => reported(report_of(e)),
     }
 }

@@ -1,14 +1,12 @@
 #![tactic(auto)]
 // A dynamic symbol by its name, through the gABI's hash table: bucket count, chain count, buckets and
-// chains, numbers of 32 bits each. Every function takes the file and its layout, also one that no parse made.
+// chains, numbers of 32 bits each. Every function takes the file with its layout, also one that no parse made.
 ghost use Rattle.std.specs.Prelude.{◌≡◌, ◌+◌, ◌%◌, ◌<◌, length};
 ghost use Rattle.hash_table.specs.Hash.{sum_with, high_bits, without_high, hash_with, elf_hash};
 ghost use Rattle.hash_table.specs.Find.{table_at, hash_table_of, Usable, number_at, bucket_at, chain_at, name_at, carries_at, carries, link_at, walked, find_symbol};
 
 use ebpf::little_endian::read;
-use elf_parser::{
-    ElfParserError, Layout, Place, bytes_at, dynamic_symbol, dynamic_symbol_name, file_offset, past,
-};
+use elf_parser::{Elf64, ElfParserError, Place, bytes_at, past};
 use std::ops::ControlFlow;
 
 // (h << 4) + byte, modulo 2^32.
@@ -53,7 +51,7 @@ pub fn elf_hash(name: &[u8]) -> u32
 }
 
 // A hash table: where its buckets start, how many they are, and how many chains there are behind them.
-#[derive(Clone, Copy)]
+#[derive(Clone, Copy, PartialEq, Eq, Debug)]
 struct HashTable {
     buckets: usize,
     nbucket: u32,
@@ -61,7 +59,7 @@ struct HashTable {
 }
 
 // The hash table cannot be used: 48.
-#[derive(Clone, Copy)]
+#[derive(Clone, Copy, PartialEq, Eq, Debug)]
 pub struct BadHashTable;
 
 // The table at a place in the file, with as many chains as there are symbols.
@@ -94,15 +92,15 @@ fn table_at(file: &[u8], symbols: u64, at: u64) -> Result<HashTable, BadHashTabl
 
 // The table that tag 4 leads to.
 #[tactic(auto, using(ebpf::specs::Choice::choices), unfolding(crate::specs::Find::hash_table_of))]
-fn hash_table(file: &[u8], layout: Layout) -> Result<HashTable, BadHashTable>
-    ensures { result ≡ hash_table_of file.now layout }
+fn hash_table(elf: &Elf64<'_>) -> Result<HashTable, BadHashTable>
+    ensures { result ≡ hash_table_of elf.now.file.now elf.now.layout }
 {
-    let vaddr = layout.hash_table;
+    let vaddr = elf.layout.hash_table;
     if vaddr == 0 {
         return Err(BadHashTable);
     }
-    match file_offset(file, layout, vaddr) {
-        Ok(Some(at)) => table_at(file, layout.dynamic_symbols.count, at),
+    match elf.file_offset(vaddr) {
+        Ok(Some(at)) => table_at(elf.file, elf.layout.dynamic_symbols.count, at),
         _ => Err(BadHashTable),
     }
 }
@@ -142,11 +140,11 @@ fn chain_at(file: &[u8], t: HashTable, index: u32) -> u32
 }
 
 // Where the name of a dynamic symbol stands.
-fn name_at(file: &[u8], layout: Layout, index: u32) -> Result<Place, ElfParserError>
-    ensures { result ≡ name_at file.now layout index }
+fn name_at(elf: &Elf64<'_>, index: u32) -> Result<Place, ElfParserError>
+    ensures { result ≡ name_at elf.now.file.now elf.now.layout index }
 {
-    let symbol = dynamic_symbol(file, layout, index)?;
-    dynamic_symbol_name(file, layout, symbol.st_name)
+    let symbol = elf.dynamic_symbol(index)?;
+    elf.dynamic_symbol_name(symbol.st_name)
 }
 
 // Whether the bytes at a place are the name.
@@ -165,23 +163,22 @@ fn carries_at(
 }
 
 // Whether a symbol carries the name, which is refused where its own cannot be read.
-fn carries_name(file: &[u8], layout: Layout, name: &[u8], index: u32) -> Result<bool, BadHashTable>
-    ensures { result ≡ carries file.now layout name.now index }
+fn carries_name(elf: &Elf64<'_>, name: &[u8], index: u32) -> Result<bool, BadHashTable>
+    ensures { result ≡ carries elf.now.file.now elf.now.layout name.now index }
 {
-    carries_at(file, name_at(file, layout, index), name)
+    carries_at(elf.file, name_at(elf, index), name)
 }
 
 // One link of a chain: the end of the walk, or where it goes on.
 #[tactic(auto, using(ebpf::specs::Choice::choices), unfolding(crate::specs::Find::link_at))]
 fn link_at(
-    file: &[u8],
-    layout: Layout,
+    elf: &Elf64<'_>,
     name: &[u8],
     t: HashTable,
     index: u32,
 ) -> Result<ControlFlow<Option<u32>, u32>, BadHashTable>
-    requires { Usable (length file.now) t }
-    ensures { result ≡ link_at file.now layout name.now t index }
+    requires { Usable (length elf.now.file.now) t }
+    ensures { result ≡ link_at elf.now.file.now elf.now.layout name.now t index }
 {
     if index == 0 {
         return Ok(ControlFlow::Break(None));
@@ -189,27 +186,21 @@ fn link_at(
     if t.nchain <= index {
         return Err(BadHashTable);
     }
-    if carries_name(file, layout, name, index)? {
+    if carries_name(elf, name, index)? {
         return Ok(ControlFlow::Break(Some(index)));
     }
-    Ok(ControlFlow::Continue(chain_at(file, t, index)))
+    Ok(ControlFlow::Continue(chain_at(elf.file, t, index)))
 }
 
 // The walk along a chain from a symbol on: a chain has no more links than there are symbols, and the end.
 #[tactic(auto, using(crate::specs::Find::walked_is, crate::specs::Find::walked_end), unfolding(crate::specs::Find::on_link))]
-fn walk(
-    file: &[u8],
-    layout: Layout,
-    name: &[u8],
-    t: HashTable,
-    first: u32,
-) -> Result<Option<u32>, BadHashTable>
-    requires { Usable (length file.now) t }
-    ensures { result ≡ walked file.now layout name.now t (t.nchain + 1) first }
+fn walk(elf: &Elf64<'_>, name: &[u8], t: HashTable, first: u32) -> Result<Option<u32>, BadHashTable>
+    requires { Usable (length elf.now.file.now) t }
+    ensures { result ≡ walked elf.now.file.now elf.now.layout name.now t (t.nchain + 1) first }
 {
     let mut index = first;
     for _ in 0..t.nchain as u64 + 1 {
-        match link_at(file, layout, name, t, index)? {
+        match link_at(elf, name, t, index)? {
             ControlFlow::Break(found) => return Ok(found),
             ControlFlow::Continue(next) => index = next,
         }
@@ -219,10 +210,10 @@ fn walk(
 
 // The dynamic symbol with a name: the first on the name's chain that carries it, if one does.
 #[tactic(auto, using(crate::specs::Find::table_lies))]
-pub fn find_symbol(file: &[u8], layout: Layout, name: &[u8]) -> Result<Option<u32>, BadHashTable>
-    ensures { result ≡ find_symbol file.now layout name.now }
+pub fn find_symbol(elf: &Elf64<'_>, name: &[u8]) -> Result<Option<u32>, BadHashTable>
+    ensures { result ≡ find_symbol elf.now.file.now elf.now.layout name.now }
 {
-    let t = hash_table(file, layout)?;
-    let first = bucket_at(file, t, elf_hash(name));
-    walk(file, layout, name, t, first)
+    let t = hash_table(elf)?;
+    let first = bucket_at(elf.file, t, elf_hash(name));
+    walk(elf, name, t, first)
 }

@@ -1,12 +1,13 @@
--- Numbers that ascend, and the sections' survey, as loops meet them. Assumes nothing.
-use mathlib.Core.Path.{◌≡◌, refl, sym, ap, ◌∙◌}
+-- Numbers that ascend, as std tests each and the next; and the sections' survey, as a loop meets it. Assumes nothing.
+use mathlib.Core.Path.{◌≡◌, refl, sym}
 use mathlib.Core.Bool.{Bool, true, false}
 use mathlib.Core.List.{List, [], ◌∷◌}
-use Prim.Native.Nat.{ℕ, suc, ◌+◌, ◌-◌, ◌≤◌, ◌<◌}
+use Prim.Native.Nat.{ℕ, zero, suc, ◌+◌, ◌≤◌, ◌<◌}
 use native.Mathlib.Omega.{arith}
-use lib.ListN.{length, get_or, drop}
-use lib.Seq.{drop-cons, drop-length}
-use borrow.Author.Tests.{le-leb, lt-leb}
+use lib.Dec.{leb, ltb}
+use lib.ListN.{length, get_or}
+use borrow.Author.Tests.{le-leb, lt-leb, ltb-true, ltb-false}
+use Rattle.std.specs.List.{IsAllAdjacentAnswer}
 use Rattle.ebpf.specs.Choice.{◌if◌else◌, yes, no_go}
 use Rattle.elf_parser.specs.declared.layout.Layout.{Layout}
 use Rattle.elf_parser.specs.SectionNames.{same_bytes}
@@ -14,31 +15,36 @@ use Rattle.loader.specs.declared.sections.Survey.{Survey}
 use Rattle.loader.specs.Sections.{section_at, name_of, dot_text, survey_step}
 use Rattle.loader.specs.Validate.{ascends}
 
-module _ (s : List ℕ) (i : ℕ) (p : 1 ≤ i) where
-  pair : i < length s → drop (i - 1) s ≡ get_or s (i - 1) 0 ∷ (get_or s i 0 ∷ drop (suc i) s)
-  pair q =
-      let k : suc (i - 1) ≡ i = omega arith in
-      drop-cons s (i - 1) 0 (omega arith) ∙ rw k (ap (λ (l : List ℕ). get_or s (i - 1) 0 ∷ l) (drop-cons s i 0 q))
+after : (k : ℕ) → suc k + 1 ≡ suc (k + 1)
+after k = omega arith
 
-  pub ascends_next : i < length s → get_or s (i - 1) 0 < get_or s i 0 → ascends (drop (i - 1) s) ≡ ascends (drop i s)
-  unfolding ascends
-  ascends_next q h = rw (pair q, drop-cons s i 0 q) (sym (no_go _ _ _ _ (lt-leb (get_or s i 0) (get_or s (i - 1) 0) h) refl))
+abbrev Below : List ℕ → ℕ → ℕ → Bool → Type 0
+Below s k d b = b ≡ ltb (get_or s k d) (get_or s (k + 1) d)
 
-  pub ascends_stop : i < length s → get_or s i 0 ≤ get_or s (i - 1) 0 → ascends (drop (i - 1) s) ≡ false
-  unfolding ascends
-  ascends_stop q h = rw (pair q) (sym (yes _ _ _ (le-leb (get_or s i 0) (get_or s (i - 1) 0) h)))
-
-  pub ascends_end : i ≡ length s → ascends (drop (i - 1) s) ≡ true
-  unfolding ascends
-  ascends_end q =
-      let k : suc (i - 1) ≡ i = omega arith in
-      let e : drop (i - 1) s ≡ get_or s (i - 1) 0 ∷ [] = drop-cons s (i - 1) 0 (omega arith) ∙ rw (k, q, drop-length s) refl in
-      rw e refl
-
-pub ascends_none : (s : List ℕ) → length s ≡ 0 → ascends s ≡ true
+each_below : (s : List ℕ) → ((k d : ℕ) → k + 1 < length s → Below s k d true) → ascends s ≡ true
 unfolding ascends
-ascends_none [] e = refl
-ascends_none (x ∷ s) e = absurd (omega arith)
+each_below [] h = refl
+each_below (x ∷ []) h = refl
+each_below (x ∷ y ∷ s) h =
+    let first : x < y = ltb-true x y (sym (h 0 0 (omega arith))) in
+    let rest : ascends (y ∷ s) ≡ true = each_below (y ∷ s) (λ k d q. rw (after k) at (h (suc k) d (omega (arith, q)))) in
+    sym (no_go _ _ _ _ (lt-leb y x first) (sym rest))
+
+one_above : (s : List ℕ) (k : ℕ) → k + 1 < length s → ((d : ℕ) → Below s k d false) → ascends s ≡ false
+unfolding ascends ◌if◌else◌
+one_above [] k q h = absurd (omega (arith, q))
+one_above (x ∷ []) k q h = absurd (omega (arith, q))
+one_above (x ∷ y ∷ s) zero q h = sym (yes _ _ _ (le-leb y x (ltb-false x y (sym (h 0)))))
+one_above (x ∷ y ∷ s) (suc k) q h = go (leb y x) (one_above (y ∷ s) k (omega (arith, q)) (λ d. rw (after k) at (h d)))
+  where
+    go : (b : Bool) → ascends (y ∷ s) ≡ false → (false if b else ascends (y ∷ s)) ≡ false
+    go true e = refl
+    go false e = e
+
+-- each number is below the next exactly if they ascend
+pub sorted_below : (s : List ℕ) (r : Bool) → IsAllAdjacentAnswer (λ x y b. b ≡ ltb x y) s r → r ≡ ascends s
+sorted_below s true h = sym (each_below s h)
+sorted_below s false h = sym (one_above s h.0 h.1 h.2)
 
 at_most_one : (b : Bool) (x i : ℕ) → x ≤ i → (x + 1 if b else x) ≤ i + 1
 unfolding ◌if◌else◌

@@ -1,6 +1,6 @@
 -- Parts of a load one after another, and a loop of parts of one kind: for every part.
 -- Assumes nothing.
-use mathlib.Core.Path.{◌≡◌, refl, sym, ap, ◌∙◌}
+use mathlib.Core.Path.{◌≡◌, refl, sym, ap, subst, ◌∙◌}
 use mathlib.Core.List.{List}
 use Prim.Native.Nat.{ℕ, suc, ◌+◌, ◌-◌, ◌*◌, ◌≤◌, ◌<◌, ◌^◌}
 use native.Mathlib.Omega.{arith}
@@ -197,6 +197,10 @@ module _ (step : ℕ → List ℕ → Trace) (n : ℕ) where
 abbrev pub GoingOver : (ℕ → List ℕ → Trace) → ℕ → Outputs → Outputs → ℕ → Type 0
 GoingOver step n o₀ o i = Going step n o₀.image.now o.image.now (columns_of o₀.registry.now) (columns_of o.registry.now) o₀.registry.now.used o₀.moves o.registry.now.used o.moves i
 
+-- what a part leaves, with its answer as it is known
+pub answered : (T : Trace) (n : ℕ) (o o' : Outputs) (a b : Result (Unit {0}) ElfError) → SettlesTo T n o o' a → a ≡ b → SettlesTo T n o o' b
+answered T n o o' a b did is = subst (λ (x : Result (Unit {0}) ElfError). SettlesTo T n o o' x) is did
+
 pub over_start : (step : ℕ → List ℕ → Trace) (n : ℕ) (o : Outputs) → Begins n o → GoingOver step n o o 0
 over_start step n o b = going_start step n o.image.now (columns_of o.registry.now) o.registry.now.used o.moves b
 
@@ -208,11 +212,11 @@ module _ (step : ℕ → List ℕ → Trace) (n : ℕ) (o₀ o : Outputs) (i : �
   over_begins = going_begins step n o₀.image.now o.image.now (columns_of o₀.registry.now) (columns_of o.registry.now) o₀.registry.now.used o₀.moves o.registry.now.used o.moves i begins going
 
   module _ (more : i < n) (o' : Outputs) where
-    pub over_stop : (r : ElfError) → SettlesTo (step i o.image.now) 1 o o' (Err r) → SettlesTo (each step n 0 o₀.image.now) n o₀ o' (Err r)
-    over_stop = going_stop step n o₀.image.now o.image.now (columns_of o₀.registry.now) (columns_of o.registry.now) o₀.registry.now.used o₀.moves o.registry.now.used o.moves i begins going more o'.image.now (columns_of o'.registry.now)
+    pub over_stop : (a : Result (Unit {0}) ElfError) (r : ElfError) → a ≡ Err r → SettlesTo (step i o.image.now) 1 o o' a → SettlesTo (each step n 0 o₀.image.now) n o₀ o' (Err r)
+    over_stop a r is did = going_stop step n o₀.image.now o.image.now (columns_of o₀.registry.now) (columns_of o.registry.now) o₀.registry.now.used o₀.moves o.registry.now.used o.moves i begins going more o'.image.now (columns_of o'.registry.now) r (answered (step i o.image.now) 1 o o' a (Err r) did is)
 
-    pub over_on : Keeps o o' → SettlesTo (step i o.image.now) 1 o o' (Ok tt) → GoingOver step n o₀ o' (i + 1)
-    over_on keeps did = going_on step n o₀.image.now o.image.now (columns_of o₀.registry.now) (columns_of o.registry.now) o₀.registry.now.used o₀.moves o.registry.now.used o.moves i begins going more o'.image.now (columns_of o'.registry.now) o'.registry.now.used o'.moves keeps.table_as keeps.image_as did
+    pub over_on : Keeps o o' → (a : Result (Unit {0}) ElfError) → a ≡ Ok tt → SettlesTo (step i o.image.now) 1 o o' a → GoingOver step n o₀ o' (i + 1)
+    over_on keeps a is did = going_on step n o₀.image.now o.image.now (columns_of o₀.registry.now) (columns_of o.registry.now) o₀.registry.now.used o₀.moves o.registry.now.used o.moves i begins going more o'.image.now (columns_of o'.registry.now) o'.registry.now.used o'.moves keeps.table_as keeps.image_as (answered (step i o.image.now) 1 o o' a (Ok tt) did is)
 
 -- slices kept, and kept again
 pub keeps_all : (o : Outputs) → Keeps o o
@@ -229,15 +233,15 @@ keeps_on o o₁ o' p q = record {
 
 -- two parts over a load's outputs
 module _ (T : Trace) (K : List ℕ → Trace) (o o₁ : Outputs) (n m : ℕ) where
-  pub part_stop : (r : ElfError) → SettlesTo T n o o₁ (Err r) → SettlesTo (and_then T K) (n + m) o o₁ (Err r)
-  part_stop r did = settles_stop T K o₁.image.now o₁.image.now (columns_of o.registry.now) (columns_of o₁.registry.now) (columns_of o₁.registry.now) n (n + m) o.registry.now.used o.moves r did
+  pub part_stop : (a : Result (Unit {0}) ElfError) (r : ElfError) → a ≡ Err r → SettlesTo T n o o₁ a → SettlesTo (and_then T K) (n + m) o o₁ (Err r)
+  part_stop a r is did = settles_stop T K o₁.image.now o₁.image.now (columns_of o.registry.now) (columns_of o₁.registry.now) (columns_of o₁.registry.now) n (n + m) o.registry.now.used o.moves r (answered T n o o₁ a (Err r) did is)
 
   pub first_begins : Begins (n + m) o → Begins n o
   first_begins b = begins_fewer n m (columns_of o.registry.now) o.registry.now.used o.moves b
 
-  module _ (keeps : Keeps o o₁) (did : SettlesTo T n o o₁ (Ok tt)) where
+  module _ (keeps : Keeps o o₁) (a : Result (Unit {0}) ElfError) (is : a ≡ Ok tt) (did : SettlesTo T n o o₁ a) where
     pub part_begins : Begins (n + m) o → Begins m o₁
-    part_begins = begins_then T K o₁.image.now o₁.image.now (columns_of o.registry.now) (columns_of o₁.registry.now) (columns_of o₁.registry.now) n m o.registry.now.used o.moves o₁.registry.now.used o₁.moves keeps.table_as did
+    part_begins = begins_then T K o₁.image.now o₁.image.now (columns_of o.registry.now) (columns_of o₁.registry.now) (columns_of o₁.registry.now) n m o.registry.now.used o.moves o₁.registry.now.used o₁.moves keeps.table_as (answered T n o o₁ a (Ok tt) did is)
 
-    pub part_then : (o' : Outputs) (a : Result (Unit {0}) ElfError) → SettlesTo (K o₁.image.now) m o₁ o' a → SettlesTo (and_then T K) (n + m) o o' a
-    part_then o' a next = settles_then T K o₁.image.now o'.image.now (columns_of o.registry.now) (columns_of o₁.registry.now) (columns_of o'.registry.now) n m o.registry.now.used o.moves o₁.registry.now.used o₁.moves keeps.table_as did (held_of a o') next
+    pub part_then : (o' : Outputs) (b : Result (Unit {0}) ElfError) → SettlesTo (K o₁.image.now) m o₁ o' b → SettlesTo (and_then T K) (n + m) o o' b
+    part_then o' b next = settles_then T K o₁.image.now o'.image.now (columns_of o.registry.now) (columns_of o₁.registry.now) (columns_of o'.registry.now) n m o.registry.now.used o.moves o₁.registry.now.used o₁.moves keeps.table_as (answered T n o o₁ a (Ok tt) did is) (held_of b o') next

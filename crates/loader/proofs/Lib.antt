@@ -6,6 +6,7 @@ pub mod Rowing
 pub mod Ascents
 pub mod Slots
 pub mod Eights
+pub mod Addressed
 pub mod Ahead
 pub mod Answered
 pub mod Targeting

@@ -28,7 +28,7 @@ use Rattle.loader.specs.Validate.{is_version2, prepared}
 use Rattle.loader.specs.Load.{all_count, placed_by, after_placing, Cleared, placed_bytes, HeldBytes, answer_by, answer_for, Loading, refuses, held_by, on_trace, on_prepared, load_of, Loaded, Tried}
 use Rattle.loader.specs.InnerContracts.{outcome, InFile, BeginsIn, Keeps, Settles, SettlesTo, held_of}
 use Rattle.loader.specs.declared.deeds.Outputs.{Outputs}
-use Rattle.loader.proofs.Going.{settles_stop, settles_then}
+use Rattle.loader.proofs.Going.{settles_stop, settles_then, answered}
 use Rattle.loader.proofs.Readied.{readied, placed_as}
 use Rattle.loader.proofs.Front.{copied_front}
 
@@ -60,11 +60,11 @@ module _ (T : Trace) (im : List ℕ) (t u : Slices) (n used moves : ℕ) where
 -- ---- all parts
 
 module _ (file builtins : List ℕ) (j : Job) (im im₁ : List ℕ) (t u : Slices) (n m used moves : ℕ) where
-  pub parts_stop : (r : ElfError) → Settles (writing_trace file builtins j im) im₁ t u n used moves (Err r) → Settles (job_trace file builtins j im) im₁ t u (n + m) used moves (Err r)
+  parts_stop : (r : ElfError) → Settles (writing_trace file builtins j im) im₁ t u n used moves (Err r) → Settles (job_trace file builtins j im) im₁ t u (n + m) used moves (Err r)
   unfolding job_trace
   parts_stop r did = settles_stop (writing_trace file builtins j im) (λ (im₁ : List ℕ). and_then (naming_trace file builtins j im₁) (placed_trace j.placing)) im₁ im₁ t u u n (n + m) used moves r did
 
-  pub parts_all : (im₂ : List ℕ) (v : Slices) (used' moves' : ℕ) (a b : Result Held ElfError)
+  parts_all : (im₂ : List ℕ) (v : Slices) (used' moves' : ℕ) (a b : Result Held ElfError)
       → SameLens t u
       → Settles (writing_trace file builtins j im) im₁ t u n used moves (holding used' moves')
       → Settles (naming_trace file builtins j im₁) im₂ u v m used' moves' a
@@ -77,42 +77,38 @@ module _ (file builtins : List ℕ) (j : Job) (im im₁ : List ℕ) (t u : Slice
       (settles_placed (naming_trace file builtins j im₁) im₂ u v m used' moves' j.placing a second))
 
 -- where the placing does not refuse
-pub placed_held : (p : Result Placing ElfError) (x : Placing) (used moves : ℕ) → p ≡ Ok x → holding used moves ≡ placed_by p used moves
+placed_held : (p : Result Placing ElfError) (x : Placing) (used moves : ℕ) → p ≡ Ok x → holding used moves ≡ placed_by p used moves
 placed_held p (Borrowed offset start n) used moves e = rw e refl
 placed_held p (Owned offset lowest n) used moves e = rw e refl
 
-pub placed_not : (p : Result Placing ElfError) (r : ElfError) (used moves : ℕ) → p ≡ Err r → Err r ≡ placed_by p used moves
+placed_not : (p : Result Placing ElfError) (r : ElfError) (used moves : ℕ) → p ≡ Err r → Err r ≡ placed_by p used moves
 placed_not p r used moves e = rw e refl
 
 -- over a load's outputs
 module _ (file builtins : List ℕ) (j : Job) (im : List ℕ) (o o₁ : Outputs) (n m : ℕ) where
-  pub job_stop : (r : ElfError) → SettlesTo (writing_trace file builtins j im) n o o₁ (Err r) → SettlesTo (job_trace file builtins j im) (n + m) o o₁ (Err r)
-  job_stop r did = parts_stop file builtins j im o₁.image.now (columns_of o.registry.now) (columns_of o₁.registry.now) n m o.registry.now.used o.moves r did
+  pub job_stop : (a : Result (Unit {0}) ElfError) (r : ElfError) → a ≡ Err r → SettlesTo (writing_trace file builtins j im) n o o₁ a → SettlesTo (job_trace file builtins j im) (n + m) o o₁ (Err r)
+  job_stop a r is did =
+      parts_stop file builtins j im o₁.image.now (columns_of o.registry.now) (columns_of o₁.registry.now) n m o.registry.now.used o.moves r (answered (writing_trace file builtins j im) n o o₁ a (Err r) did is)
 
-  pub job_all : (o₂ : Outputs) (a b : Result (Unit {0}) ElfError)
-      → Keeps o o₁
-      → SettlesTo (writing_trace file builtins j im) n o o₁ (Ok tt)
-      → SettlesTo (naming_trace file builtins j o₁.image.now) m o₁ o₂ a
-      → held_of b o₂ ≡ after_placing (held_of a o₂) j.placing
-      → SettlesTo (job_trace file builtins j im) (n + m) o o₂ b
-  job_all o₂ a b keeps first second e =
-      parts_all file builtins j im o₁.image.now (columns_of o.registry.now) (columns_of o₁.registry.now) n m o.registry.now.used o.moves o₂.image.now (columns_of o₂.registry.now) o₁.registry.now.used o₁.moves (held_of a o₂) (held_of b o₂) keeps.table_as first second e
+  -- behind a first pair of parts that was held
+  module _ (keeps : Keeps o o₁) (a₁ : Result (Unit {0}) ElfError) (is₁ : a₁ ≡ Ok tt) (first : SettlesTo (writing_trace file builtins j im) n o o₁ a₁)
+      (o₂ : Outputs) (a₂ : Result (Unit {0}) ElfError) (second : SettlesTo (naming_trace file builtins j o₁.image.now) m o₁ o₂ a₂) where
+    job_all : (a b : Result (Unit {0}) ElfError) → a₂ ≡ a → held_of b o₂ ≡ after_placing (held_of a o₂) j.placing → SettlesTo (job_trace file builtins j im) (n + m) o o₂ b
+    job_all a b is₂ e =
+        parts_all file builtins j im o₁.image.now (columns_of o.registry.now) (columns_of o₁.registry.now) n m o.registry.now.used o.moves o₂.image.now (columns_of o₂.registry.now) o₁.registry.now.used o₁.moves (held_of a o₂) (held_of b o₂) keeps.table_as
+        (answered (writing_trace file builtins j im) n o o₁ a₁ (Ok tt) first is₁)
+        (answered (naming_trace file builtins j o₁.image.now) m o₁ o₂ a₂ a second is₂)
+        e
 
-  -- the second pair of parts is refused; or the placing is
-  pub job_refused : (o₂ : Outputs) (r : ElfError)
-      → Keeps o o₁
-      → SettlesTo (writing_trace file builtins j im) n o o₁ (Ok tt)
-      → SettlesTo (naming_trace file builtins j o₁.image.now) m o₁ o₂ (Err r)
-      → SettlesTo (job_trace file builtins j im) (n + m) o o₂ (Err r)
-  job_refused o₂ r keeps first second = job_all o₂ (Err r) (Err r) keeps first second refl
+    -- the second pair of parts is refused; or the placing is; or neither
+    pub job_refused : (r : ElfError) → a₂ ≡ Err r → SettlesTo (job_trace file builtins j im) (n + m) o o₂ (Err r)
+    job_refused r is₂ = job_all (Err r) (Err r) is₂ refl
 
-  pub job_unplaced : (o₂ : Outputs) (r : ElfError)
-      → Keeps o o₁
-      → SettlesTo (writing_trace file builtins j im) n o o₁ (Ok tt)
-      → SettlesTo (naming_trace file builtins j o₁.image.now) m o₁ o₂ (Ok tt)
-      → j.placing ≡ Err r
-      → SettlesTo (job_trace file builtins j im) (n + m) o o₂ (Err r)
-  job_unplaced o₂ r keeps first second e = job_all o₂ (Ok tt) (Err r) keeps first second (placed_not j.placing r o₂.registry.now.used o₂.moves e)
+    pub job_unplaced : (r : ElfError) → a₂ ≡ Ok tt → j.placing ≡ Err r → SettlesTo (job_trace file builtins j im) (n + m) o o₂ (Err r)
+    job_unplaced r is₂ e = job_all (Ok tt) (Err r) is₂ (placed_not j.placing r o₂.registry.now.used o₂.moves e)
+
+    pub job_placed : (p : Placing) → a₂ ≡ Ok tt → j.placing ≡ Ok p → SettlesTo (job_trace file builtins j im) (n + m) o o₂ (Ok tt)
+    job_placed p is₂ e = job_all (Ok tt) (Ok tt) is₂ (placed_held j.placing p o₂.registry.now.used o₂.moves e)
 
 -- ---- in an empty table
 

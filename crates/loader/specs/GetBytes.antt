@@ -1,12 +1,13 @@
 -- The read-only bytes of an accepted load, and the text among them: `get_ro_section`, `get_text_bytes`.
-use Rattle.std.specs.Prelude.{ℕ, ◌+◌, ◌-◌, ◌≤◌, ◌≡◌, List, [], length, take, drop, ltb, Result, Ok, Err}
-use Rattle.std.proofs.Common.{arith, ltb-false}
+use Rattle.std.specs.Prelude.{ℕ, ◌+◌, ◌-◌, ◌≤◌, ◌≡◌, List, [], length, take, drop, ltb, Bool, true, false, Result, Ok, Err, refl}
+use Rattle.std.specs.Borrow.{Bor}
+use Rattle.std.proofs.Common.{arith, ap, ◌∙◌, ltb-false}
 use Rattle.ebpf.specs.Choice.{◌if◌else◌, not_first, row_rest}
 use Rattle.program.specs.Table.{Shared}
 use Rattle.loader.specs.declared.error.ElfError.{ElfError}
 use Rattle.loader.specs.declared.error.ElfError.TheVariants.{TextOutsideReadOnly}
 use Rattle.loader.specs.declared.answer.Accepted.{Accepted}
-use Rattle.loader.specs.declared.get_bytes.PartPlace.{PartPlace}
+use Rattle.elf_parser.specs.declared.parts.Place.{Place}
 use Rattle.loader.specs.Results.{not_ok}
 use Rattle.loader.specs.Addresses.{MM_PROGRAM_START}
 
@@ -15,18 +16,18 @@ abbrev pub text_at : ℕ → ℕ → ℕ
 text_at addr offset = (addr - MM_PROGRAM_START) - offset
 
 -- the place of n bytes from `start` on
-abbrev pub bytes_at : ℕ → ℕ → Result PartPlace ElfError
+abbrev pub bytes_at : ℕ → ℕ → Result Place ElfError
 bytes_at start n = Ok (record { start = start; length = n })
 
 -- the read-only bytes, n from `start` on, lie in the `lent` ones, and the text, `size` bytes at `addr`, lies in them
-unfoldable pub text_place : ℕ → ℕ → ℕ → ℕ → ℕ → ℕ → Result PartPlace ElfError
+unfoldable pub text_place : ℕ → ℕ → ℕ → ℕ → ℕ → ℕ → Result Place ElfError
 text_place lent offset start n addr size =
     Err TextOutsideReadOnly if ltb lent (start + n) else
     Err TextOutsideReadOnly if ltb n (text_at addr offset + size) else
     bytes_at (start + text_at addr offset) size
 
 -- the read-only bytes, n from `start` on, lie in the `lent` ones
-unfoldable pub ro_place : ℕ → ℕ → ℕ → Result PartPlace ElfError
+unfoldable pub ro_place : ℕ → ℕ → ℕ → Result Place ElfError
 ro_place lent start n =
     Err TextOutsideReadOnly if ltb lent (start + n) else
     bytes_at start n
@@ -39,25 +40,39 @@ abbrev pub bytes_for : Accepted → Shared → Shared → List ℕ
 bytes_for a image ro = lent_for a image.entry.now ro.entry.now
 
 -- the places that an accepted load's answer gives, in so many lent bytes
-abbrev pub ro_of : Accepted → ℕ → Result PartPlace ElfError
+abbrev pub ro_of : Accepted → ℕ → Result Place ElfError
 ro_of a lent = ro_place lent a.ro_start a.ro_length
 
-abbrev pub text_place_of : Accepted → ℕ → Result PartPlace ElfError
+abbrev pub text_place_of : Accepted → ℕ → Result Place ElfError
 text_place_of a lent = text_place lent a.ro_offset a.ro_start a.ro_length a.text_addr a.text_length
 
 -- the bytes at a place, none where it is refused
-abbrev pub part_of : List ℕ → Result PartPlace ElfError → List ℕ
+abbrev pub part_of : List ℕ → Result Place ElfError → List ℕ
 part_of s (Ok p) = take p.length (drop p.start s)
 part_of s (Err r) = []
 
+-- a place lies among so many bytes, or is refused
+abbrev pub LiesIn : ℕ → Result Place ElfError → Type 0
+LiesIn lent (Ok p) = p.start + p.length ≤ lent
+LiesIn lent (Err r) = Unit {0}
+
 -- the part that an accepted load's answer gives, of the lent image or of the lent buffer, by its place there
-abbrev pub part_for : Accepted → Shared → Shared → (ℕ → Result PartPlace ElfError) → List ℕ
+abbrev pub part_for : Accepted → Shared → Shared → (ℕ → Result Place ElfError) → List ℕ
 part_for a image ro place = part_of (bytes_for a image ro) (place (length (bytes_for a image ro)))
 
 -- ---- laws
 
+now_of : (b : Bool) (x y : Bor (List ℕ)) → (x if b else y).now ≡ (x.now if b else y.now)
+unfolding ◌if◌else◌
+now_of true x y = refl
+now_of false x y = refl
+
+-- what is lent for an accepted load holds what the image or the buffer does
+pub lent_now : (a : Accepted) (image ro lent : Bor (List ℕ)) → lent ≡ lent_for a image ro → lent.now ≡ lent_for a image.now ro.now
+lent_now a image ro lent is = ap (λ (x : Bor (List ℕ)). x.now) is ∙ now_of a.ro_copied ro image
+
 -- a place that is given lies in the lent bytes
-pub text_within : (lent offset start n addr size : ℕ) (p : PartPlace) → text_place lent offset start n addr size ≡ Ok p → p.start + p.length ≤ lent
+pub text_within : (lent offset start n addr size : ℕ) (p : Place) → text_place lent offset start n addr size ≡ Ok p → p.start + p.length ≤ lent
 unfolding text_place
 text_within lent offset start n addr size p e =
     let e1 = row_rest _ _ _ _ (not_ok _ _) e in
@@ -68,7 +83,7 @@ text_within lent offset start n addr size p e =
     let h2 = ltb-false n (text_at addr offset + size) (not_first _ _ _ _ (not_ok _ _) e1) in
     omega arith
 
-pub ro_within : (lent start n : ℕ) (p : PartPlace) → ro_place lent start n ≡ Ok p → p.start + p.length ≤ lent
+pub ro_within : (lent start n : ℕ) (p : Place) → ro_place lent start n ≡ Ok p → p.start + p.length ≤ lent
 unfolding ro_place
 ro_within lent start n p e =
     let e1 = row_rest _ _ _ _ (not_ok _ _) e in
@@ -76,3 +91,13 @@ ro_within lent start n p e =
     let k : n ≡ p.length = cc in
     let h = ltb-false lent (start + n) (not_first _ _ _ _ (not_ok _ _) e) in
     omega arith
+
+lies_by : (lent : ℕ) (a : Result Place ElfError) → ((p : Place) → a ≡ Ok p → p.start + p.length ≤ lent) → LiesIn lent a
+lies_by lent (Ok p) h = h p refl
+lies_by lent (Err r) h = tt
+
+pub text_lies : (lent offset start n addr size : ℕ) → LiesIn lent (text_place lent offset start n addr size)
+text_lies lent offset start n addr size = lies_by lent (text_place lent offset start n addr size) (text_within lent offset start n addr size)
+
+pub ro_lies : (lent start n : ℕ) → LiesIn lent (ro_place lent start n)
+ro_lies lent start n = lies_by lent (ro_place lent start n) (ro_within lent start n)

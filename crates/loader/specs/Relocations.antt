@@ -141,6 +141,16 @@ plan6464 s im l split r number addend =
     Err ValueOutOfBounds if ltb (length im) (at + 4) else
     symbol_deed (length im) split at (unwrap_or addend (le 4 im at)) number (dynamic_symbol_of s l number)
 
+-- the address that it writes
+abbrev pub address_by : ℕ → ℕ → Result Elf64Sym ElfParserError → Result ℕ ElfError
+address_by addend number (Ok y) = Ok (program_address (sum_up_to y.st_value addend))
+address_by addend number (Err e) = Err (UnknownSymbol number)
+
+unfoldable pub symbol_address : List ℕ → List ℕ → Layout → ℕ → ℕ → Option ℕ → Result ℕ ElfError
+symbol_address s im l at number addend =
+    Err ValueOutOfBounds if ltb (length im) (at + 4) else
+    address_by (unwrap_or addend (le 4 im at)) number (dynamic_symbol_of s l number)
+
 -- ---- type 8: the addend, or the address that is there
 
 -- in the text: an instruction's two halves

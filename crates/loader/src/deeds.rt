@@ -10,6 +10,7 @@ ghost use Rattle.loader.specs.InnerContracts.{entered_as, moved_by, finished_by,
 
 use crate::error::ElfError;
 use crate::validate::Job;
+use elf_parser::Elf64;
 use program::{FunctionRegistry, RegisterError, Registered, Row};
 
 #[derive(Clone, Copy)]
@@ -54,6 +55,19 @@ pub struct Inputs<'a> {
     pub job: Job,
 }
 
+impl<'a> Inputs<'a> {
+    // The file with its layout.
+    #[inline(always)]
+    pub(crate) fn elf(&self) -> Elf64<'a>
+        ensures { result ≡ record { file = self.now.file; layout = self.now.job.layout } }
+    {
+        Elf64 {
+            file: self.file,
+            layout: self.job.layout,
+        }
+    }
+}
+
 fn entry_of(deed: Deed) -> Entry
     ensures { Ok result ≡ entry_of (Ok deed) }
 {
@@ -76,13 +90,12 @@ pub(crate) fn store_u32(image: &mut [u8], at: usize, v: u32)
 }
 
 // Two halves of a number.
-#[tactic(auto, using(ebpf::specs::Choice::choices), unfolding(crate::specs::Bytes::put))]
 fn store_halves(image: &mut [u8], low: usize, high: usize, v: u64)
     requires { (low + 4 ≤ length image.old) × (high + 4 ≤ length image.old) }
     ensures { image.new ≡ put 4 (put 4 image.old low (v % 2 ^ 32)) high (v / 2 ^ 32) }
 {
-    store_u32(image, low, (v % 0x1_0000_0000) as u32);
-    store_u32(image, high, (v / 0x1_0000_0000) as u32);
+    store_u32(image, low, (v & 0xffff_ffff) as u32);
+    store_u32(image, high, (v >> 32) as u32);
 }
 
 // The bytes that a deed writes.

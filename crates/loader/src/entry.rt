@@ -8,21 +8,20 @@ use crate::deeds::{Deed, Inputs, Outputs};
 use crate::error::ElfError;
 use crate::functions::row_for;
 use crate::labels::label_row;
-use crate::validate::Job;
 use program::{ENTRYPOINT_KEY, FunctionName};
 
 // What a load does about the entry.
 #[tactic(auto, using(ebpf::specs::Choice::choices), unfolding(crate::specs::Entry::entry_deed))]
-fn entry_deed(builtins: &[u32], table: &[u32], job: Job) -> Result<Deed, ElfError>
-    requires { Keyed table.now × (job.e_entry - job.sh_addr ≤ 2 ^ 24) }
-    ensures { result ≡ entry_deed builtins.now job }
+fn entry_deed(inputs: &Inputs<'_>) -> Result<Deed, ElfError>
+    requires { Keyed inputs.now.table.now × (inputs.now.job.e_entry - inputs.now.job.sh_addr ≤ 2 ^ 24) }
+    ensures { result ≡ entry_deed inputs.now.builtins.now inputs.now.job }
 {
-    let offset = job.e_entry.saturating_sub(job.sh_addr);
+    let offset = inputs.job.e_entry.saturating_sub(inputs.job.sh_addr);
     if offset % 8 != 0 {
         return Err(ElfError::InvalidEntrypoint);
     }
     let index = (offset / 8) as u32;
-    label_row(row_for(table, builtins, job, FunctionName::Entrypoint, index))
+    label_row(row_for(inputs, FunctionName::Entrypoint, index))
 }
 
 // Version 1 removes the row under the key of the name entrypoint.
@@ -46,7 +45,7 @@ pub(crate) fn register_entry(out: &mut Outputs<'_, '_>, inputs: &Inputs<'_>) -> 
     ensures keeps { Keeps out.old out.new }
     ensures settles { SettlesTo (entry_trace inputs.now.builtins.now inputs.now.job out.old.image.now) 2 out.old out.new result }
 {
-    let deed = entry_deed(inputs.builtins, inputs.table, inputs.job)?;
+    let deed = entry_deed(inputs)?;
     forget_entrypoint(out, inputs.job.version2);
     out.perform(deed)
 }

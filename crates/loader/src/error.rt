@@ -2,7 +2,7 @@
 ghost use Rattle.std.specs.Prelude.{◌≡◌};
 ghost use Rattle.loader.specs.Errors.{from_parser, report_of};
 
-use elf_parser::{ElfParserError, Report};
+use elf_parser::{ElfParserError, Place, Report};
 
 #[derive(Clone, Copy)]
 pub enum ElfError {
@@ -60,14 +60,14 @@ fn with_value(number: u32, value: u64) -> Report
     }
 }
 
-fn with_name(number: u32, value: u64, start: usize, length: usize) -> Report
-    ensures { result ≡ record { number = number; value = value; start = start; length = length } }
+fn with_name(number: u32, value: u64, place: Place) -> Report
+    ensures { result ≡ record { number = number; value = value; start = place.start; length = place.length } }
 {
     Report {
         number,
         value,
-        start: start as u64,
-        length: length as u64,
+        start: place.start as u64,
+        length: place.length as u64,
     }
 }
 
@@ -83,35 +83,42 @@ impl From<ElfParserError> for ElfError {
     }
 }
 
-pub fn report_of(e: ElfError) -> Report
-    ensures { result ≡ report_of e }
-{
-    match e {
-        ElfError::FailedToParse(p) => Report::from(p),
-        ElfError::EntrypointOutOfBounds => with_value(20, 0),
-        ElfError::InvalidEntrypoint => with_value(21, 0),
-        ElfError::UnresolvedSymbol {
-            start,
-            length,
-            offset,
-        } => with_name(22, offset, start, length),
-        ElfError::RelativeJumpOutOfBounds { slot } => with_value(23, slot),
-        ElfError::SymbolHashCollision { key } => with_value(24, key as u64),
-        ElfError::WrongAbi => with_value(25, 0),
-        ElfError::WrongMachine => with_value(26, 0),
-        ElfError::NotOneTextSection => with_value(27, 0),
-        ElfError::WritableSectionNotSupported { start, length } => with_name(28, 0, start, length),
-        ElfError::InvalidVirtualAddress => with_value(29, 0),
-        ElfError::UnknownRelocation { number } => with_value(30, number as u64),
-        ElfError::WrongType => with_value(31, 0),
-        ElfError::UnknownSymbol { number } => with_value(32, number as u64),
-        ElfError::ValueOutOfBounds => with_value(33, 0),
-        ElfError::UnsupportedSBPFVersion => with_value(34, 0),
-        ElfError::FileTooLong => with_value(40, 0),
-        ElfError::BufferShort => with_value(41, 0),
-        ElfError::BuiltinsNotAscending => with_value(42, 0),
-        ElfError::TableFull { rows } => with_value(43, rows),
-        ElfError::TextOutsideReadOnly => with_value(44, 0),
-        ElfError::AddendNegative => with_value(47, 0),
+// A load's refusal in numbers.
+impl From<ElfError> for Report {
+    ghost from_gives = { λ e r. r ≡ report_of e };
+
+    fn from(e: ElfError) -> Report {
+        match e {
+            ElfError::FailedToParse(p) => Report::from(p),
+            ElfError::EntrypointOutOfBounds => with_value(20, 0),
+            ElfError::InvalidEntrypoint => with_value(21, 0),
+            ElfError::UnresolvedSymbol {
+                start,
+                length,
+                offset,
+            } => with_name(22, offset, Place { start, length }),
+            ElfError::RelativeJumpOutOfBounds { slot } => with_value(23, slot),
+            ElfError::SymbolHashCollision { key } => with_value(24, key as u64),
+            ElfError::WrongAbi => with_value(25, 0),
+            ElfError::WrongMachine => with_value(26, 0),
+            ElfError::NotOneTextSection => with_value(27, 0),
+            ElfError::WritableSectionNotSupported { start, length } => with_name(
+                28,
+                0,
+                Place { start, length },
+            ),
+            ElfError::InvalidVirtualAddress => with_value(29, 0),
+            ElfError::UnknownRelocation { number } => with_value(30, number as u64),
+            ElfError::WrongType => with_value(31, 0),
+            ElfError::UnknownSymbol { number } => with_value(32, number as u64),
+            ElfError::ValueOutOfBounds => with_value(33, 0),
+            ElfError::UnsupportedSBPFVersion => with_value(34, 0),
+            ElfError::FileTooLong => with_value(40, 0),
+            ElfError::BufferShort => with_value(41, 0),
+            ElfError::BuiltinsNotAscending => with_value(42, 0),
+            ElfError::TableFull { rows } => with_value(43, rows),
+            ElfError::TextOutsideReadOnly => with_value(44, 0),
+            ElfError::AddendNegative => with_value(47, 0),
+        }
     }
 }

@@ -13,7 +13,7 @@ use crate::parts::{calls_and_relocations, labels_and_entry};
 use crate::read_only::{Placing, copy_sections};
 use crate::validate::Job;
 use ebpf::key_table;
-use elf_parser::{Layout, file_header};
+use elf_parser::{Elf64, file_header};
 use program::FunctionRegistry;
 
 // Every number zero.
@@ -89,19 +89,13 @@ fn keyed_parts(
 }
 
 // The read-only sections' bytes, where they are copied.
-fn copy_placed(
-    ro: &mut [u8],
-    image: &[u8],
-    file: &[u8],
-    layout: Layout,
-    placing: Result<Placing, ElfError>,
-)
-    ensures { ro.new ≡ placed_bytes file.now layout placing image.now ro.old }
+fn copy_placed(ro: &mut [u8], image: &[u8], elf: &Elf64<'_>, placing: Result<Placing, ElfError>)
+    ensures { ro.new ≡ placed_bytes elf.now.file.now elf.now.layout placing image.now ro.old }
 {
     if let Ok(Placing::Owned { lowest, .. }) = placing {
-        let h = file_header(file);
+        let h = file_header(elf.file);
         let count = h.e_shnum as u32;
-        copy_sections(ro, image, file, layout, count, lowest);
+        copy_sections(ro, image, elf, count, lowest);
     }
 }
 
@@ -127,6 +121,10 @@ pub(crate) fn fill_all(
         moves: 0,
     };
     keyed_parts(&mut out, file, builtins, job)?;
-    copy_placed(ro, out.image(), file, job.layout, job.placing);
+    let elf = Elf64 {
+        file,
+        layout: job.layout,
+    };
+    copy_placed(ro, out.image(), &elf, job.placing);
     answer_of(&out, job)
 }

@@ -2,27 +2,25 @@
 ghost use Rattle.std.specs.Prelude.{◌≡◌, ◌≤◌, ◌^◌, length};
 ghost use Rattle.loader.specs.Functions.{Keyed, row_for, symbol_function};
 
-use crate::validate::Job;
+use crate::deeds::Inputs;
 use elf_parser::Place;
 use program::{FunctionName, Row, SymbolHashCollision, legacy_row};
 
 // By the lent table of keys, where it is right (`Keyed`).
 pub(crate) fn row_for(
-    table: &[u32],
-    builtins: &[u32],
-    job: Job,
+    inputs: &Inputs<'_>,
     name: FunctionName,
     index: u32,
 ) -> Result<Row, SymbolHashCollision>
-    requires { Keyed table.now }
-    ensures { result ≡ row_for builtins.now job name index }
+    requires { Keyed inputs.now.table.now }
+    ensures { result ≡ row_for inputs.now.builtins.now inputs.now.job name index }
 {
     legacy_row(
-        table,
-        builtins,
-        job.version2,
-        job.check_collision,
-        job.labels,
+        inputs.table,
+        inputs.builtins,
+        inputs.job.version2,
+        inputs.job.check_collision,
+        inputs.job.labels,
         name,
         index,
     )

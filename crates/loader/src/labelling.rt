@@ -15,15 +15,9 @@ pub(crate) fn register_labels(
     ensures keeps { Keeps out.old out.new }
     ensures settles { SettlesTo (labels_trace inputs.now.file.now inputs.now.builtins.now inputs.now.job out.old.image.now) (label_count inputs.now.file.now inputs.now.job) out.old out.new result }
 {
-    let Inputs {
-        file,
-        builtins,
-        table,
-        job,
-    } = *inputs;
-    let symbols = label_symbols(file, job);
+    let symbols = label_symbols(inputs);
     for i in 0..symbols.count as u32 {
-        let deed = label_deed(file, builtins, table, job, symbols, i)?;
+        let deed = label_deed(inputs, symbols, i)?;
         out.perform(deed)?;
     }
     Ok(())

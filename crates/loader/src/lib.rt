@@ -30,11 +30,11 @@ mod validate;
 
 pub use answer::Accepted;
 pub use calls::is_local_call;
-pub use error::{ElfError, report_of};
+pub use error::ElfError;
 pub use filling::clear_words;
 pub use get_bytes::{
-    PartPlace, get_ro_place, get_ro_section, get_text_bytes, get_text_place, ro_bytes, ro_place,
-    text_bytes, text_place,
+    get_ro_place, get_ro_section, get_text_bytes, get_text_place, ro_bytes, ro_place, text_bytes,
+    text_place,
 };
 pub use relocations::{Relocation, UsedHeader, is_within, r_place, relocation_at, used_header};
 pub use validate::Config;

@@ -6,7 +6,7 @@ ghost use Rattle.loader.specs.ReadOnly.{gathered};
 use crate::error::ElfError;
 use crate::read_only::{Extent, gather_next, no_extent};
 use crate::sections::{Survey, no_survey, section_at, survey_next};
-use elf_parser::{Layout, part_of, section_name};
+use elf_parser::Elf64;
 
 #[derive(Clone, Copy)]
 pub struct Overview {
@@ -16,23 +16,22 @@ pub struct Overview {
 
 // It does not stop where the gathering refuses, since the checks count first and ask for all sections.
 pub(crate) fn look_over(
-    file: &[u8],
-    layout: Layout,
+    elf: &Elf64<'_>,
     count: u32,
     version2: bool,
     reject_broken: bool,
 ) -> Overview
     requires { count ≤ 65536 }
-    ensures { (result.survey ≡ survey file.now layout count) × (result.gathering ≡ gathered file.now layout count version2 reject_broken) }
+    ensures { (result.survey ≡ survey elf.now.file.now elf.now.layout count) × (result.gathering ≡ gathered elf.now.file.now elf.now.layout count version2 reject_broken) }
 {
-    let len = file.len() as u64;
+    let len = elf.file.len() as u64;
     let mut v = no_survey();
     let mut g = Ok(no_extent());
     for i in 0..count {
-        let h = section_at(file, layout, i);
-        let name = part_of(file, section_name(file, layout, h.sh_name));
+        let h = section_at(elf, i);
+        let name = elf.part_of(elf.section_name(h.sh_name));
         let surveyed = survey_next(len, i, h, name, v);
-        let gathered = gather_next(file, layout, version2, reject_broken, i, h, name, g);
+        let gathered = gather_next(elf, version2, reject_broken, i, h, name, g);
         v = surveyed;
         g = gathered;
     }

@@ -8,7 +8,7 @@ use crate::error::ElfError;
 use crate::sections::section_at;
 use ebpf::{MM_PROGRAM_START, MM_STACK_START};
 use elf_parser::types::Elf64Shdr;
-use elf_parser::{Layout, file_range, part_of, past, section_name};
+use elf_parser::{Elf64, past};
 
 #[derive(Clone, Copy, PartialEq, Eq, Debug)]
 pub enum Placing {
@@ -154,8 +154,7 @@ pub(crate) fn no_extent() -> Extent
 // With one section more, of that header and name, read-only or not. A refusal stays.
 #[tactic(auto, using(ebpf::specs::Choice::choices))]
 pub(crate) fn gather_next(
-    file: &[u8],
-    layout: Layout,
+    elf: &Elf64<'_>,
     version2: bool,
     reject_broken: bool,
     index: u32,
@@ -163,13 +162,13 @@ pub(crate) fn gather_next(
     name: &[u8],
     g: Result<Extent, ElfError>,
 ) -> Result<Extent, ElfError>
-    ensures { result ≡ gather_next file.now layout version2 reject_broken index h name.now g }
+    ensures { result ≡ gather_next elf.now.file.now elf.now.layout version2 reject_broken index h name.now g }
 {
     let x = g?;
     if !is_read_only(name) {
         return Ok(x);
     }
-    match file_range(file, layout, index) {
+    match elf.file_range(index) {
         Ok(place) => take_section(
             version2,
             reject_broken,
@@ -294,32 +293,25 @@ fn copy_inside(ro: &mut [u8], image: &[u8], at: u64, start: usize, n: usize)
 
 // One section, read-only or not.
 #[tactic(auto, using(ebpf::specs::Choice::choices), unfolding(crate::specs::ReadOnly::copy_step))]
-fn copy_section(ro: &mut [u8], image: &[u8], file: &[u8], layout: Layout, lowest: u64, index: u32)
-    ensures { ro.new ≡ copy_step image.now file.now layout lowest index ro.old }
+fn copy_section(ro: &mut [u8], image: &[u8], elf: &Elf64<'_>, lowest: u64, index: u32)
+    ensures { ro.new ≡ copy_step image.now elf.now.file.now elf.now.layout lowest index ro.old }
 {
-    let h = section_at(file, layout, index);
-    if !is_read_only(part_of(file, section_name(file, layout, h.sh_name))) {
+    let h = section_at(elf, index);
+    if !is_read_only(elf.part_of(elf.section_name(h.sh_name))) {
         return;
     }
     let at = h.sh_addr.saturating_sub(lowest);
-    if let Ok(place) = file_range(file, layout, index) {
+    if let Ok(place) = elf.file_range(index) {
         copy_inside(ro, image, at, place.start, place.length);
     }
 }
 
 // The read-only sections' bytes in the image, one section after another, so that a later one
 // overwrites.
-pub(crate) fn copy_sections(
-    ro: &mut [u8],
-    image: &[u8],
-    file: &[u8],
-    layout: Layout,
-    count: u32,
-    lowest: u64,
-)
-    ensures { ro.new ≡ copied_from image.now file.now layout lowest count 0 ro.old }
+pub(crate) fn copy_sections(ro: &mut [u8], image: &[u8], elf: &Elf64<'_>, count: u32, lowest: u64)
+    ensures { ro.new ≡ copied_from image.now elf.now.file.now elf.now.layout lowest count 0 ro.old }
 {
     for i in 0..count {
-        copy_section(ro, image, file, layout, lowest, i);
+        copy_section(ro, image, elf, lowest, i);
     }
 }

@@ -15,30 +15,15 @@ pub(crate) fn apply_relocations(
     ensures keeps { Keeps out.old out.new }
     ensures settles { SettlesTo (relocations_trace inputs.now.file.now inputs.now.builtins.now inputs.now.job out.old.image.now) (relocation_count inputs.now.job) out.old out.new result }
 {
-    let Inputs {
-        file,
-        builtins,
-        table,
-        job,
-    } = *inputs;
-    let layout = job.layout;
-    let version2 = job.version2;
+    let elf = inputs.elf();
+    let layout = inputs.job.layout;
+    let version2 = inputs.job.version2;
     let count = (layout.dynamic_relocations.count + layout.dynamic_relas.count) as u32;
     let mut header = None;
     for i in 0..count {
-        let r = relocation_at(file, layout, i);
-        header = used_header(file, layout, version2, header, r.r_offset);
-        let deed = plan_relocation(
-            file,
-            out.image(),
-            builtins,
-            table,
-            job,
-            header,
-            r.r_offset,
-            r.r_info,
-            r.addend,
-        )?;
+        let r = relocation_at(&elf, i);
+        header = used_header(&elf, version2, header, r.r_offset);
+        let deed = plan_relocation(inputs, out.image(), header, r)?;
         out.perform(deed)?;
     }
     Ok(())

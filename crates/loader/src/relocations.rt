@@ -1,26 +1,21 @@
 // What a relocation asks for: the place that it means, the bytes that it writes there, and the function
 // that it registers. Reads only; the caller registers and writes.
-ghost use Rattle.std.specs.Prelude.{◌≡◌, false, ◌&&◌, ◌≤◌, ◌<◌, ◌^◌, leb, ltb};
+ghost use Rattle.std.specs.Prelude.{◌≡◌, Bool, true, false, ◌&&◌, ◌≤◌, ◌<◌, ◌^◌, leb, ltb};
 ghost use Rattle.ebpf.specs.LittleEndian.{join};
-ghost use Rattle.elf_parser.specs.Records.{dynamic_symbol_of, dynamic_relocation_of, dynamic_rela_of};
+ghost use Rattle.elf_parser.specs.Records.{dynamic_relocation_of, dynamic_rela_of};
 ghost use Rattle.elf_parser.specs.Names.{dynamic_symbol_name};
 ghost use Rattle.loader.specs.Addresses.{sum_up_to};
 ghost use Rattle.loader.specs.Functions.{Keyed};
 ghost use Rattle.loader.specs.InnerContracts.{InFile};
-ghost use Rattle.loader.specs.Relocations.{relocation_or, rela_or, relocation_at, header_at, contains, first_from, used_header, place_of, within, program_address, immediate_at, halves_deed, word_deed, address_deed, symbol_deed, plan6464, relative_text, relative_value, is_negative, plan_relative, register_deed, function_call, builtin_call, call_by_name, named_call, plan6432, plan_at, plan_of};
+ghost use Rattle.loader.specs.Relocations.{relocation_or, rela_or, relocation_at, header_at, contains, first_from, used_header, place_of, within, program_address, immediate_at, halves_deed, word_deed, symbol_address, plan6464, relative_text, relative_value, is_negative, plan_relative, register_deed, function_call, builtin_call, call_by_name, named_call, plan6432, plan_at, plan_of};
 
-use crate::addresses::pick;
-use crate::deeds::Deed;
+use crate::deeds::{Deed, Inputs};
 use crate::error::ElfError;
 use crate::functions::{row_for, symbol_function};
-use crate::validate::Job;
 use ebpf::little_endian::read;
 use ebpf::{MM_PROGRAM_START, hash_symbol_name};
 use elf_parser::types::Elf64Sym;
-use elf_parser::{
-    Layout, Place, bytes_at, dynamic_rela, dynamic_relocation, dynamic_symbol, dynamic_symbol_name,
-    past, program_header,
-};
+use elf_parser::{Elf64, Place, bytes_at, past};
 use program::{FunctionName, Row, SymbolHashCollision, is_builtin};
 
 const R_BPF_64_64: u32 = 1;
@@ -39,10 +34,10 @@ pub struct Relocation {
 }
 
 // The relocation number `index` of the older table; a blank one where there is none.
-fn plain_relocation(file: &[u8], layout: Layout, index: u32) -> Relocation
-    ensures { result ≡ relocation_or (dynamic_relocation_of file.now layout index) }
+fn plain_relocation(elf: &Elf64<'_>, index: u32) -> Relocation
+    ensures { result ≡ relocation_or (dynamic_relocation_of elf.now.file.now elf.now.layout index) }
 {
-    match dynamic_relocation(file, layout, index) {
+    match elf.dynamic_relocation(index) {
         Ok(r) => Relocation {
             r_offset: r.r_offset,
             r_info: r.r_info,
@@ -58,10 +53,10 @@ fn plain_relocation(file: &[u8], layout: Layout, index: u32) -> Relocation
 
 // The relocation number `index` of the table whose relocations bring an addend; a blank one where there
 // is none.
-fn addend_relocation(file: &[u8], layout: Layout, index: u32) -> Relocation
-    ensures { result ≡ rela_or (dynamic_rela_of file.now layout index) }
+fn addend_relocation(elf: &Elf64<'_>, index: u32) -> Relocation
+    ensures { result ≡ rela_or (dynamic_rela_of elf.now.file.now elf.now.layout index) }
 {
-    match dynamic_rela(file, layout, index) {
+    match elf.dynamic_rela(index) {
         Ok(r) => Relocation {
             r_offset: r.r_offset,
             r_info: r.r_info,
@@ -77,16 +72,16 @@ fn addend_relocation(file: &[u8], layout: Layout, index: u32) -> Relocation
 
 // The relocation number `index` of both tables, the older one first.
 #[tactic(auto, using(ebpf::specs::Choice::choices), unfolding(crate::specs::Relocations::relocation_at))]
-pub fn relocation_at(file: &[u8], layout: Layout, index: u32) -> Relocation
-    ensures { result ≡ relocation_at file.now layout index }
+pub fn relocation_at(elf: &Elf64<'_>, index: u32) -> Relocation
+    ensures { result ≡ relocation_at elf.now.file.now elf.now.layout index }
 {
-    let relocations = layout.dynamic_relocations;
+    let relocations = elf.layout.dynamic_relocations;
     let older = relocations.count;
     let number = index as u64;
     if number < older {
-        return plain_relocation(file, layout, index);
+        return plain_relocation(elf, index);
     }
-    addend_relocation(file, layout, (number - older) as u32)
+    addend_relocation(elf, (number - older) as u32)
 }
 
 // A program header, as far as version 2 maps by it: the addresses from `p_vaddr` up to `end` stand
@@ -100,10 +95,10 @@ pub struct UsedHeader {
 
 // The program header number `index`.
 #[tactic(auto, unfolding(crate::specs::Relocations::header_at))]
-fn header_at(file: &[u8], layout: Layout, index: u32) -> Option<UsedHeader>
-    ensures { result ≡ header_at file.now layout index }
+fn header_at(elf: &Elf64<'_>, index: u32) -> Option<UsedHeader>
+    ensures { result ≡ header_at elf.now.file.now elf.now.layout index }
 {
-    match program_header(file, layout, index) {
+    match elf.program_header(index) {
         Ok(h) => Some(UsedHeader {
             p_vaddr: h.p_vaddr,
             end: h.p_vaddr.saturating_add(h.p_memsz),
@@ -123,11 +118,11 @@ fn does_contain(used: Option<UsedHeader>, a: u64) -> bool
 }
 
 // The first program header that contains an address.
-fn first_header(file: &[u8], layout: Layout, count: u32, a: u64) -> Option<UsedHeader>
-    ensures { result ≡ first_from file.now layout a count 0 }
+fn first_header(elf: &Elf64<'_>, count: u32, a: u64) -> Option<UsedHeader>
+    ensures { result ≡ first_from elf.now.file.now elf.now.layout a count 0 }
 {
     for i in 0..count {
-        let h = header_at(file, layout, i);
+        let h = header_at(elf, i);
         if does_contain(h, a) {
             return h;
         }
@@ -139,13 +134,12 @@ fn first_header(file: &[u8], layout: Layout, count: u32, a: u64) -> Option<UsedH
 // 1 maps nothing.
 #[tactic(auto, using(ebpf::specs::Choice::choices), unfolding(crate::specs::Relocations::used_header))]
 pub fn used_header(
-    file: &[u8],
-    layout: Layout,
+    elf: &Elf64<'_>,
     version2: bool,
     used: Option<UsedHeader>,
     r_offset: u64,
 ) -> Option<UsedHeader>
-    ensures { result ≡ used_header file.now layout version2 used r_offset }
+    ensures { result ≡ used_header elf.now.file.now elf.now.layout version2 used r_offset }
 {
     if !version2 {
         return used;
@@ -153,9 +147,9 @@ pub fn used_header(
     if does_contain(used, r_offset) {
         return used;
     }
-    let headers = layout.program_headers;
+    let headers = elf.layout.program_headers;
     let count = headers.count.min(0xffff_ffff) as u32;
-    first_header(file, layout, count, r_offset)
+    first_header(elf, count, r_offset)
 }
 
 // The place in the file that a relocation means, if it means one.
@@ -234,40 +228,6 @@ fn word_deed(len: u64, at: u64, value: u64) -> Result<Deed, ElfError>
     })
 }
 
-// Type 1 at a place: an instruction's two halves, or eight bytes.
-#[tactic(auto, using(ebpf::specs::Choice::choices), unfolding(crate::specs::Relocations::address_deed))]
-fn address_deed(len: u64, split: bool, at: u64, value: u64) -> Result<Deed, ElfError>
-    ensures { result ≡ address_deed len split at value }
-{
-    if split {
-        return halves_deed(len, at, at.saturating_add(8), value);
-    }
-    word_deed(len, at, value)
-}
-
-// Type 1 once its addend is known.
-fn symbol_deed(
-    file: &[u8],
-    layout: Layout,
-    len: u64,
-    split: bool,
-    at: u64,
-    addend: u64,
-    number: u32,
-) -> Result<Deed, ElfError>
-    ensures { result ≡ symbol_deed len split at addend number (dynamic_symbol_of file.now layout number) }
-{
-    match dynamic_symbol(file, layout, number) {
-        Ok(y) => address_deed(
-            len,
-            split,
-            at,
-            program_address(y.st_value.saturating_add(addend)),
-        ),
-        Err(_) => Err(ElfError::UnknownSymbol { number }),
-    }
-}
-
 // Whether a relocation brings an addend that is negative.
 fn is_negative(addend: Option<u64>) -> bool
     ensures { result ≡ is_negative addend }
@@ -279,32 +239,55 @@ fn is_negative(addend: Option<u64>) -> bool
 }
 
 // Type 1: the address of a symbol, plus the addend or the four bytes that are there.
-#[tactic(auto, using(ebpf::specs::Choice::choices), unfolding(crate::specs::Relocations::plan6464))]
-fn plan_64_64(
-    file: &[u8],
+#[tactic(auto, using(ebpf::specs::Choice::choices), unfolding(crate::specs::Relocations::symbol_address))]
+fn symbol_address(
+    elf: &Elf64<'_>,
     image: &[u8],
-    layout: Layout,
-    split: bool,
+    at: u64,
+    number: u32,
+    addend: Option<u64>,
+) -> Result<u64, ElfError>
+    ensures { result ≡ symbol_address elf.now.file.now image.now elf.now.layout at number addend }
+{
+    if past(image.len() as u64, at, 4) {
+        return Err(ElfError::ValueOutOfBounds);
+    }
+    let addend = addend.unwrap_or(read::<u32>(image, at as usize) as u64);
+    match elf.dynamic_symbol(number) {
+        Ok(y) => Ok(program_address(y.st_value.saturating_add(addend))),
+        Err(_) => Err(ElfError::UnknownSymbol { number }),
+    }
+}
+
+// Type 1 in the text, and in version 1: an instruction's two halves.
+#[tactic(auto, using(crate::proofs::Addressed::halves_written))]
+fn halves_64_64(
+    elf: &Elf64<'_>,
+    image: &[u8],
     r: u64,
     number: u32,
     addend: Option<u64>,
 ) -> Result<Deed, ElfError>
-    ensures { result ≡ plan6464 file.now image.now layout split r number addend }
+    ensures { result ≡ plan6464 elf.now.file.now image.now elf.now.layout true r number addend }
 {
-    let len = image.len() as u64;
-    let at = pick(split, immediate_at(r), r);
-    if past(len, at, 4) {
-        return Err(ElfError::ValueOutOfBounds);
-    }
-    symbol_deed(
-        file,
-        layout,
-        len,
-        split,
-        at,
-        addend.unwrap_or(read::<u32>(image, at as usize) as u64),
-        number,
-    )
+    let at = immediate_at(r);
+    let address = symbol_address(elf, image, at, number, addend)?;
+    halves_deed(image.len() as u64, at, at.saturating_add(8), address)
+}
+
+// Type 1 elsewhere: eight bytes.
+#[tactic(auto, using(crate::proofs::Addressed::word_written))]
+fn word_64_64(
+    elf: &Elf64<'_>,
+    image: &[u8],
+    r: u64,
+    number: u32,
+    addend: Option<u64>,
+) -> Result<Deed, ElfError>
+    ensures { result ≡ plan6464 elf.now.file.now image.now elf.now.layout false r number addend }
+{
+    let address = symbol_address(elf, image, r, number, addend)?;
+    word_deed(image.len() as u64, r, address)
 }
 
 // Type 8 in the text: an instruction's two halves.
@@ -344,34 +327,39 @@ fn relative_value(version2: bool, upper: u64, whole: u64) -> u64
 fn join_halves(low: u32, high: u32) -> u64
     ensures { result ≡ join 4 low high }
 {
-    low as u64 + high as u64 * 0x1_0000_0000
+    u64::from(low) | (u64::from(high) << 32)
 }
 
-// Type 8: an address that no symbol has, the addend or the bytes that are there.
+// Type 8 in the text: the addend, or the address whose halves are there.
 #[tactic(auto, using(ebpf::specs::Choice::choices), unfolding(crate::specs::Relocations::plan_relative))]
-fn plan_relative(
+fn relative_in_text(image: &[u8], r: u64, addend: Option<u64>) -> Result<Deed, ElfError>
+    ensures { (version2 : Bool) → result ≡ plan_relative image.now version2 true r addend }
+{
+    let len = image.len() as u64;
+    let low = immediate_at(r);
+    let high = immediate_at(r.saturating_add(8));
+    let address = join_halves(read(image, low as usize), read(image, high as usize));
+    relative_text(len, low, high, addend.unwrap_or(address))
+}
+
+// Type 8 outside the text: the addend, or the bytes that are there.
+#[tactic(auto, using(ebpf::specs::Choice::choices), unfolding(crate::specs::Relocations::plan_relative))]
+fn relative_elsewhere(
     image: &[u8],
     version2: bool,
-    in_text: bool,
     r: u64,
     addend: Option<u64>,
 ) -> Result<Deed, ElfError>
     requires { is_negative addend ≡ false }
-    ensures { result ≡ plan_relative image.now version2 in_text r addend }
+    ensures { result ≡ plan_relative image.now version2 false r addend }
 {
-    let len = image.len() as u64;
     let low = immediate_at(r);
-    if in_text {
-        let high = immediate_at(r.saturating_add(8));
-        let address = join_halves(read(image, low as usize), read(image, high as usize));
-        return relative_text(len, low, high, addend.unwrap_or(address));
-    }
     let value = relative_value(
         version2,
         addend.unwrap_or(read::<u32>(image, low as usize) as u64),
         addend.unwrap_or(read::<u64>(image, r as usize)),
     );
-    word_deed(len, r, value)
+    word_deed(image.len() as u64, r, value)
 }
 
 // Whether an address is one of the text's.
@@ -402,41 +390,38 @@ fn register_deed(len: u64, at: u64, row: Result<Row, SymbolHashCollision>) -> Re
 // A call of a function symbol.
 #[tactic(auto, using(ebpf::specs::Choice::choices), unfolding(crate::specs::Relocations::function_call))]
 fn function_call(
-    builtins: &[u32],
-    table: &[u32],
-    job: Job,
+    inputs: &Inputs<'_>,
     len: u64,
     at: u64,
     name: FunctionName,
     st_value: u64,
 ) -> Result<Deed, ElfError>
-    requires { Keyed table.now × (job.sh_size ≤ 2 ^ 24) }
-    ensures { result ≡ function_call builtins.now job len at name st_value }
+    requires { Keyed inputs.now.table.now × (inputs.now.job.sh_size ≤ 2 ^ 24) }
+    ensures { result ≡ function_call inputs.now.builtins.now inputs.now.job len at name st_value }
 {
-    let sh_addr = job.sh_addr;
-    let sh_size = job.sh_size;
+    let sh_addr = inputs.job.sh_addr;
+    let sh_size = inputs.job.sh_size;
     if !in_addresses(sh_addr, sh_size, st_value) {
         return Err(ElfError::ValueOutOfBounds);
     }
     let index = ((st_value - sh_addr) / 8) as u32;
-    register_deed(len, at, row_for(table, builtins, job, name, index))
+    register_deed(len, at, row_for(inputs, name, index))
 }
 
 // A call of any other symbol: by the hash of its name.
 #[tactic(auto, using(ebpf::specs::Choice::choices), unfolding(crate::specs::Relocations::builtin_call))]
 fn builtin_call(
-    builtins: &[u32],
-    reject_broken: bool,
+    inputs: &Inputs<'_>,
     len: u64,
     at: u64,
     r: u64,
     place: Place,
     hash: u32,
 ) -> Result<Deed, ElfError>
-    ensures { result ≡ builtin_call builtins.now reject_broken len at r place.start place.length hash }
+    ensures { result ≡ builtin_call inputs.now.builtins.now inputs.now.job.reject_broken len at r place.start place.length hash }
 {
-    let known = is_builtin(builtins, hash);
-    if reject_broken & !known {
+    let known = is_builtin(inputs.builtins, hash);
+    if inputs.job.reject_broken & !known {
         return Err(ElfError::UnresolvedSymbol {
             start: place.start,
             length: place.length,
@@ -455,46 +440,36 @@ fn builtin_call(
 // A call of a symbol whose name is `part`, which stands at `place`.
 #[tactic(auto, using(ebpf::specs::Choice::choices), unfolding(crate::specs::Relocations::call_by_name))]
 fn call_by_name(
+    inputs: &Inputs<'_>,
     part: &[u8],
-    builtins: &[u32],
-    table: &[u32],
-    job: Job,
     len: u64,
     r: u64,
     y: Elf64Sym,
     place: Place,
 ) -> Result<Deed, ElfError>
-    requires { Keyed table.now × (job.sh_size ≤ 2 ^ 24) × (place.start ≤ 2 ^ 24) × (place.length ≤ 64) }
-    ensures { result ≡ call_by_name part.now builtins.now job len r y place.start place.length }
+    requires { Keyed inputs.now.table.now × (inputs.now.job.sh_size ≤ 2 ^ 24) × (place.start ≤ 2 ^ 24) × (place.length ≤ 64) }
+    ensures { result ≡ call_by_name part.now inputs.now.builtins.now inputs.now.job len r y place.start place.length }
 {
     let at = immediate_at(r);
     let st_value = y.st_value;
     if (y.st_info % 16 == 2) & (st_value != 0) {
         let name = symbol_function(part, place);
-        return function_call(builtins, table, job, len, at, name, st_value);
+        return function_call(inputs, len, at, name, st_value);
     }
     let hash = hash_symbol_name(part);
-    builtin_call(builtins, job.reject_broken, len, at, r, place, hash)
+    builtin_call(inputs, len, at, r, place, hash)
 }
 
 // A call of a symbol.
-fn named_call(
-    file: &[u8],
-    builtins: &[u32],
-    table: &[u32],
-    job: Job,
-    len: u64,
-    r: u64,
-    y: Elf64Sym,
-) -> Result<Deed, ElfError>
-    requires { InFile file.now job × Keyed table.now }
-    ensures { result ≡ named_call file.now builtins.now job len r y (dynamic_symbol_name file.now job.layout y.st_name) }
+fn named_call(inputs: &Inputs<'_>, len: u64, r: u64, y: Elf64Sym) -> Result<Deed, ElfError>
+    requires { InFile inputs.now.file.now inputs.now.job × Keyed inputs.now.table.now }
+    ensures { result ≡ named_call inputs.now.file.now inputs.now.builtins.now inputs.now.job len r y (dynamic_symbol_name inputs.now.file.now inputs.now.job.layout y.st_name) }
 {
     let number = y.st_name;
-    match dynamic_symbol_name(file, job.layout, number) {
+    match inputs.elf().dynamic_symbol_name(number) {
         Ok(place) => {
-            let part = bytes_at(file, place);
-            call_by_name(part, builtins, table, job, len, r, y, place)
+            let part = bytes_at(inputs.file, place);
+            call_by_name(inputs, part, len, r, y, place)
         }
         Err(_) => Err(ElfError::UnknownSymbol { number }),
     }
@@ -502,20 +477,12 @@ fn named_call(
 
 // Type 10: a call by the name of a symbol.
 #[tactic(auto, using(ebpf::specs::Choice::choices), unfolding(crate::specs::Relocations::plan6432))]
-fn plan_64_32(
-    file: &[u8],
-    builtins: &[u32],
-    table: &[u32],
-    job: Job,
-    len: u64,
-    r: u64,
-    number: u32,
-) -> Result<Deed, ElfError>
-    requires { InFile file.now job × Keyed table.now }
-    ensures { result ≡ plan6432 file.now builtins.now job len r number }
+fn plan_64_32(inputs: &Inputs<'_>, len: u64, r: u64, number: u32) -> Result<Deed, ElfError>
+    requires { InFile inputs.now.file.now inputs.now.job × Keyed inputs.now.table.now }
+    ensures { result ≡ plan6432 inputs.now.file.now inputs.now.builtins.now inputs.now.job len r number }
 {
-    match dynamic_symbol(file, job.layout, number) {
-        Ok(y) => named_call(file, builtins, table, job, len, r, y),
+    match inputs.elf().dynamic_symbol(number) {
+        Ok(y) => named_call(inputs, len, r, y),
         Err(_) => Err(ElfError::UnknownSymbol { number }),
     }
 }
@@ -523,35 +490,38 @@ fn plan_64_32(
 // A relocation at a place of the file, by its type.
 #[tactic(auto, using(ebpf::specs::Choice::choices), unfolding(crate::specs::Relocations::plan_at))]
 fn plan_at(
-    file: &[u8],
+    inputs: &Inputs<'_>,
     image: &[u8],
-    builtins: &[u32],
-    table: &[u32],
-    job: Job,
     r: u64,
     r_info: u64,
     addend: Option<u64>,
 ) -> Result<Deed, ElfError>
-    requires { InFile file.now job × Keyed table.now }
-    ensures { result ≡ plan_at file.now image.now builtins.now job r r_info addend }
+    requires { InFile inputs.now.file.now inputs.now.job × Keyed inputs.now.table.now }
+    ensures { result ≡ plan_at inputs.now.file.now image.now inputs.now.builtins.now inputs.now.job r r_info addend }
 {
     let r_type = (r_info % 0x1_0000_0000) as u32;
     let r_sym = (r_info / 0x1_0000_0000) as u32;
-    let in_text = is_within(job.start as u64, job.length as u64, r);
-    let version2 = job.version2;
+    let in_text = is_within(inputs.job.start as u64, inputs.job.length as u64, r);
+    let version2 = inputs.job.version2;
     let uses_addend = (r_type == R_BPF_64_64) | (r_type == R_BPF_64_RELATIVE);
     if uses_addend & is_negative(addend) {
         return Err(ElfError::AddendNegative);
     }
     if r_type == R_BPF_64_64 {
-        let layout = job.layout;
-        return plan_64_64(file, image, layout, in_text | !version2, r, r_sym, addend);
+        let elf = inputs.elf();
+        if in_text | !version2 {
+            return halves_64_64(&elf, image, r, r_sym, addend);
+        }
+        return word_64_64(&elf, image, r, r_sym, addend);
     }
     if r_type == R_BPF_64_RELATIVE {
-        return plan_relative(image, version2, in_text, r, addend);
+        if in_text {
+            return relative_in_text(image, r, addend);
+        }
+        return relative_elsewhere(image, version2, r, addend);
     }
     if r_type == R_BPF_64_32 {
-        return plan_64_32(file, builtins, table, job, image.len() as u64, r, r_sym);
+        return plan_64_32(inputs, image.len() as u64, r, r_sym);
     }
     Err(ElfError::UnknownRelocation { number: r_type })
 }
@@ -559,19 +529,19 @@ fn plan_at(
 // What a relocation asks for, `used` being the header that maps it. The bytes that it adds to are the
 // image's, which earlier relocations may have changed.
 pub(crate) fn plan_relocation(
-    file: &[u8],
+    inputs: &Inputs<'_>,
     image: &[u8],
-    builtins: &[u32],
-    table: &[u32],
-    job: Job,
     used: Option<UsedHeader>,
-    r_offset: u64,
-    r_info: u64,
-    addend: Option<u64>,
+    relocation: Relocation,
 ) -> Result<Deed, ElfError>
-    requires { InFile file.now job × Keyed table.now }
-    ensures { result ≡ plan_of file.now image.now builtins.now job (place_of job.version2 used r_offset) r_info addend }
+    requires { InFile inputs.now.file.now inputs.now.job × Keyed inputs.now.table.now }
+    ensures { result ≡ plan_of inputs.now.file.now image.now inputs.now.builtins.now inputs.now.job (place_of inputs.now.job.version2 used relocation.r_offset) relocation.r_info relocation.addend }
 {
-    let r = r_place(job.version2, used, r_offset).ok_or(ElfError::ValueOutOfBounds)?;
-    plan_at(file, image, builtins, table, job, r, r_info, addend)
+    let Relocation {
+        r_offset,
+        r_info,
+        addend,
+    } = relocation;
+    let r = r_place(inputs.job.version2, used, r_offset).ok_or(ElfError::ValueOutOfBounds)?;
+    plan_at(inputs, image, r, r_info, addend)
 }

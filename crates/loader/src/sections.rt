@@ -3,8 +3,8 @@ ghost use Rattle.std.specs.Prelude.{◌≡◌, ◌≤◌, ◌<◌};
 ghost use Rattle.loader.specs.Sections.{section_at, starts_with, unsupported, outside_file, no_survey, survey_named};
 
 use crate::addresses::pick;
+use elf_parser::Elf64;
 use elf_parser::types::Elf64Shdr;
-use elf_parser::{Layout, section_header};
 
 // A header with nothing in it.
 const BLANK: Elf64Shdr = Elf64Shdr {
@@ -18,10 +18,10 @@ const BLANK: Elf64Shdr = Elf64Shdr {
 
 // The section number `index`; a blank one where there is none.
 #[tactic(auto, unfolding(crate::specs::Sections::section_at))]
-pub(crate) fn section_at(file: &[u8], layout: Layout, index: u32) -> Elf64Shdr
-    ensures { result ≡ section_at file.now layout index }
+pub(crate) fn section_at(elf: &Elf64<'_>, index: u32) -> Elf64Shdr
+    ensures { result ≡ section_at elf.now.file.now elf.now.layout index }
 {
-    match section_header(file, layout, index) {
+    match elf.section_header(index) {
         Ok(h) => h,
         Err(_) => BLANK,
     }

@@ -11,7 +11,7 @@ use crate::sections::{Survey, section_at};
 use ebpf::{EF_SBPF_V2, MM_STACK_START};
 use elf_parser::consts::{EM_BPF, EM_SBPF, ET_DYN, SHT_NOBITS};
 use elf_parser::types::{Elf64Ehdr, Elf64Shdr};
-use elf_parser::{ElfParserError, Layout, file_header, parse, section_name};
+use elf_parser::{Elf64, ElfParserError, Layout, file_header, parse};
 
 // The settings of a load, under the Rust's names.
 #[derive(Clone, Copy)]
@@ -63,12 +63,7 @@ fn check_sizes(len: u64, image: u64, ro: u64) -> Result<(), ElfError>
 fn is_ascending(s: &[u32]) -> bool
     ensures { result ≡ ascends s.now }
 {
-    for i in 1..s.len() {
-        if s[i] <= s[i - 1] {
-            return false;
-        }
-    }
-    true
+    s.is_sorted_by(|x, y| x < y)
 }
 
 // The file header's part: ABI, machine, type, version, and version 2's limits.
@@ -101,10 +96,10 @@ fn check_header(h: Elf64Ehdr, c: Config, version2: bool) -> Result<(), ElfError>
 }
 
 // The refusal of a section that is not supported, with its name's place.
-fn writable_error(file: &[u8], layout: Layout, sh_name: u32) -> ElfError
-    ensures { result ≡ writable_error file.now layout sh_name }
+fn writable_error(elf: &Elf64<'_>, sh_name: u32) -> ElfError
+    ensures { result ≡ writable_error elf.now.file.now elf.now.layout sh_name }
 {
-    match section_name(file, layout, sh_name) {
+    match elf.section_name(sh_name) {
         Ok(place) => ElfError::WritableSectionNotSupported {
             start: place.start,
             length: place.length,
@@ -117,14 +112,14 @@ fn writable_error(file: &[u8], layout: Layout, sh_name: u32) -> ElfError
 }
 
 #[tactic(auto, using(ebpf::specs::Choice::choices), unfolding(crate::specs::Validate::sections_check))]
-fn check_sections(file: &[u8], layout: Layout, v: Survey) -> Result<(), ElfError>
-    ensures { result ≡ sections_check file.now layout v }
+fn check_sections(elf: &Elf64<'_>, v: Survey) -> Result<(), ElfError>
+    ensures { result ≡ sections_check elf.now.file.now elf.now.layout v }
 {
     if v.texts != 1 {
         return Err(ElfError::NotOneTextSection);
     }
     if v.writable {
-        return Err(writable_error(file, layout, v.writable_name));
+        return Err(writable_error(elf, v.writable_name));
     }
     if v.outside {
         return Err(ElfError::ValueOutOfBounds);
@@ -195,48 +190,41 @@ fn job_of(
 
 // The header's and the sections' checks.
 fn check_file(
-    file: &[u8],
+    elf: &Elf64<'_>,
     c: Config,
-    layout: Layout,
     h: Elf64Ehdr,
     version2: bool,
     v: Survey,
 ) -> Result<(), ElfError>
-    ensures { result ≡ file_check file.now c layout h version2 v }
+    ensures { result ≡ file_check elf.now.file.now c elf.now.layout h version2 v }
 {
     check_header(h, c, version2)?;
-    check_sections(file, layout, v)?;
-    let text = section_at(file, layout, v.text);
+    check_sections(elf, v)?;
+    let text = section_at(elf, v.text);
     check_text(version2, c.reject_broken_elfs, h.e_entry, text)
 }
 
 // A parsed file's checks, and what they leave. How the read-only sections are placed is worked out
 // here too, since it needs no byte of them; where it refuses, that counts last.
 #[tactic(auto, unfolding(crate::specs::Validate::validated, crate::specs::ReadOnly::placing))]
-fn validate(file: &[u8], c: Config, layout: Layout) -> Result<Job, ElfError>
-    ensures { result ≡ validated file.now c layout }
+fn validate(elf: &Elf64<'_>, c: Config) -> Result<Job, ElfError>
+    ensures { result ≡ validated elf.now.file.now c elf.now.layout }
 {
-    let h = file_header(file);
+    let h = file_header(elf.file);
     let version2 = h.e_flags == EF_SBPF_V2;
-    let seen = look_over(
-        file,
-        layout,
-        h.e_shnum as u32,
-        version2,
-        c.reject_broken_elfs,
-    );
+    let seen = look_over(elf, h.e_shnum as u32, version2, c.reject_broken_elfs);
     let v = seen.survey;
     let g = seen.gathering;
-    check_file(file, c, layout, h, version2, v)?;
-    let text = section_at(file, layout, v.text);
+    check_file(elf, c, h, version2, v)?;
+    let text = section_at(elf, v.text);
     let placing = place_gathered(
-        file.len() as u64,
+        elf.file.len() as u64,
         version2,
         c.reject_broken_elfs,
         c.optimize_rodata,
         g,
     );
-    Ok(job_of(c, version2, layout, h.e_entry, text, placing))
+    Ok(job_of(c, version2, elf.layout, h.e_entry, text, placing))
 }
 
 // Everything ahead of the first registration.
@@ -254,5 +242,6 @@ pub(crate) fn prepare(
     if !is_ascending(builtins) {
         return Err(ElfError::BuiltinsNotAscending);
     }
-    validate(file, c, parse(file)?)
+    let layout = parse(file)?;
+    validate(&Elf64 { file, layout }, c)
 }

@@ -8,7 +8,7 @@ ghost use Rattle.writers.specs.Asked.{Askable};
 use crate::Writer;
 use crate::calls::call_writer;
 use crate::text::{LoadedText, Text};
-use elf_parser::Layout;
+use elf_parser::{Elf64, Layout};
 use loader::{UsedHeader, is_within, r_place, relocation_at, used_header};
 
 const R_BPF_64_64: u32 = 1;
@@ -53,10 +53,13 @@ pub struct Next {
 pub(crate) fn named_next(file: &[u8], text: Text, header: Option<UsedHeader>, i: u32) -> Next
     ensures { NamesNext file.now text header i result }
 {
-    let layout = text.layout;
+    let elf = Elf64 {
+        file,
+        layout: text.layout,
+    };
     let version2 = text.loaded.version2;
-    let r = relocation_at(file, layout, i);
-    let next = used_header(file, layout, version2, header, r.r_offset);
+    let r = relocation_at(&elf, i);
+    let next = used_header(&elf, version2, header, r.r_offset);
     Next {
         header: next,
         named: named_in(text.loaded, r_place(version2, next, r.r_offset), r.r_info),

@@ -5,5 +5,5 @@ use Rattle.hash_table.proofs.walk.Given as goal
 
 abbrev pub invariant-loop : goal.invariant-loop
 invariant-loop l =
-    walked l.file l.layout l.name l.t (l.t.nchain + 1) l.first
-    ≡ walked l.file l.layout l.name l.t (l.t.nchain + 1 - l.counter) l.index
+    walked l.elf.file.now l.elf.layout l.name l.t (l.t.nchain + 1) l.first
+    ≡ walked l.elf.file.now l.elf.layout l.name l.t (l.t.nchain + 1 - l.counter) l.index

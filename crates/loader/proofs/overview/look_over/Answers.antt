@@ -13,7 +13,7 @@ use Rattle.loader.proofs.overview.look_over.Goals as goal
 pub loop-i-init : goal.loop-i-init
 loop-i-init c =
     let e : c.args.count - 0 ≡ c.args.count = omega arith in
-    (omega arith, rw c.no_survey-v.ensures (omega arith), rw (e, c.no_survey-v.ensures) refl, rw (e, c.no_extent.ensures) (gather_all c.args.file.now c.args.layout c.args.version2 c.args.reject_broken c.args.count))
+    (omega arith, rw c.no_survey-v.ensures (omega arith), rw (e, c.no_survey-v.ensures) refl, rw (e, c.no_extent.ensures) (gather_all c.args.elf.now.file.now c.args.elf.now.layout c.args.version2 c.args.reject_broken c.args.count))
 
 pub survey_next-surveyed-requires : goal.survey_next-surveyed-requires
 survey_next-surveyed-requires c = (c.loop-i.invariant.1, omega arith)
@@ -22,12 +22,12 @@ pub loop-i-preserved : goal.loop-i-preserved
 unfolding survey_step
 loop-i-preserved c =
     let e : c.args.count - (c.loop-i.i + 1) ≡ (c.args.count - c.loop-i.i) - 1 = omega arith in
-    let v : c.survey_next-surveyed.result ≡ survey_step c.args.file.now c.args.layout c.loop-i.i c.loop-i.v = c.survey_next-surveyed.ensures ∙ rw (c.part_of-name.ensures, c.section_name.ensures, c.section_at-h.ensures) refl in
-    let g : c.gather_next-gathered.result ≡ gather_next c.args.file.now c.args.layout c.args.version2 c.args.reject_broken c.loop-i.i (section_at c.args.file.now c.args.layout c.loop-i.i) (name_of c.args.file.now c.args.layout (section_at c.args.file.now c.args.layout c.loop-i.i)) c.loop-i.g = c.gather_next-gathered.ensures ∙ rw (c.part_of-name.ensures, c.section_name.ensures, c.section_at-h.ensures) refl in (
+    let v : c.survey_next-surveyed.result ≡ survey_step c.args.elf.now.file.now c.args.elf.now.layout c.loop-i.i c.loop-i.v = c.survey_next-surveyed.ensures ∙ rw (c.part_of-name.ensures, c.section_name.ensures, c.section_at-h.ensures) refl in
+    let g : c.gather_next-gathered.result ≡ gather_next c.args.elf.now.file.now c.args.elf.now.layout c.args.version2 c.args.reject_broken c.loop-i.i (section_at c.args.elf.now.file.now c.args.elf.now.layout c.loop-i.i) (name_of c.args.elf.now.file.now c.args.elf.now.layout (section_at c.args.elf.now.file.now c.args.elf.now.layout c.loop-i.i)) c.loop-i.g = c.gather_next-gathered.ensures ∙ rw (c.part_of-name.ensures, c.section_name.ensures, c.section_at-h.ensures) refl in (
       omega arith,
-      rw v (texts_step c.args.file.now c.args.layout c.loop-i.i c.loop-i.v c.loop-i.invariant.1),
-      rw (e, v) (c.loop-i.invariant.2 ∙ survey_next c.args.file.now c.args.layout (c.args.count - c.loop-i.i) c.loop-i.i c.loop-i.v (omega arith)),
-      rw (e, g) (c.loop-i.invariant.3 ∙ gather_next_lem c.args.file.now c.args.layout c.args.version2 c.args.reject_broken (c.args.count - c.loop-i.i) c.loop-i.i c.loop-i.g (omega arith)),
+      rw v (texts_step c.args.elf.now.file.now c.args.elf.now.layout c.loop-i.i c.loop-i.v c.loop-i.invariant.1),
+      rw (e, v) (c.loop-i.invariant.2 ∙ survey_next c.args.elf.now.file.now c.args.elf.now.layout (c.args.count - c.loop-i.i) c.loop-i.i c.loop-i.v (omega arith)),
+      rw (e, g) (c.loop-i.invariant.3 ∙ gather_next_lem c.args.elf.now.file.now c.args.elf.now.layout c.args.version2 c.args.reject_broken (c.args.count - c.loop-i.i) c.loop-i.i c.loop-i.g (omega arith)),
     )
 
 pub returns : goal.returns

@@ -12,5 +12,5 @@ abbrev pub invariant-loop-i : goal.invariant-loop-i
 invariant-loop-i l =
     (l.i ≤ l.count)
     × (l.v.texts ≤ l.i)
-    × (survey l.file l.layout l.count ≡ survey_from l.file l.layout (l.count - l.i) l.i l.v)
-    × (gathered l.file l.layout l.count l.version2 l.reject_broken ≡ gather_from l.file l.layout l.version2 l.reject_broken (l.count - l.i) l.i l.g)
+    × (survey l.elf.file.now l.elf.layout l.count ≡ survey_from l.elf.file.now l.elf.layout (l.count - l.i) l.i l.v)
+    × (gathered l.elf.file.now l.elf.layout l.count l.version2 l.reject_broken ≡ gather_from l.elf.file.now l.elf.layout l.version2 l.reject_broken (l.count - l.i) l.i l.g)

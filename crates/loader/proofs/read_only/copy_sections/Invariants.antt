@@ -9,4 +9,4 @@ use Rattle.loader.proofs.read_only.copy_sections.Given as goal
 
 abbrev pub invariant-loop-i : goal.invariant-loop-i
 invariant-loop-i l =
-    (l.i ≤ l.count) × (length l.ro ≡ length l.initial.ro) × (copied_from l.image l.file l.layout l.lowest l.count 0 l.initial.ro ≡ copied_from l.image l.file l.layout l.lowest (l.count - l.i) l.i l.ro)
+    (l.i ≤ l.count) × (length l.ro ≡ length l.initial.ro) × (copied_from l.image l.elf.file.now l.elf.layout l.lowest l.count 0 l.initial.ro ≡ copied_from l.image l.elf.file.now l.elf.layout l.lowest (l.count - l.i) l.i l.ro)

@@ -7,4 +7,4 @@ use Rattle.loader.proofs.relocations.first_header.Given as goal
 
 abbrev pub invariant-loop-i : goal.invariant-loop-i
 invariant-loop-i l =
-    (l.i ≤ l.count) × (first_from l.file l.layout l.a l.count 0 ≡ first_from l.file l.layout l.a (l.count - l.i) l.i)
+    (l.i ≤ l.count) × (first_from l.elf.file.now l.elf.layout l.a l.count 0 ≡ first_from l.elf.file.now l.elf.layout l.a (l.count - l.i) l.i)
