@@ -15,7 +15,7 @@ use Rattle.program.specs.declared.Row.{Row}
 use Rattle.program.specs.declared.FunctionName.{FunctionName}
 use Rattle.program.specs.declared.FunctionName.TheVariants.{Entrypoint}
 use Rattle.program.specs.Search.{index_of}
-use Rattle.program.specs.Table.{Slices, Lent, Shared, table_before, table_after, least, capacity, lookup_in, row_ascending_in, row_of_found, row_at, Ready as IsTable}
+use Rattle.program.specs.Table.{Slices, Lent, Shared, least, capacity, lookup_in, row_ascending_in, row_of_found, row_at, Ready as IsTable}
 use Rattle.program.specs.HashedLegacy.{legacy_row, collision}
 use Rattle.program.proofs.Cases.{zero_one}
 use Rattle.program.proofs.Steps.{row_below}
@@ -151,9 +151,9 @@ pub record Made (file builtins : List ℕ) (c : Config) (n m : ℕ) (t₀ : Slic
   pub keyed : Demand3 file builtins c n m t₀ im t r
   pub ascending : OnUsed r (λ used. IsTable t used)
 
-pub made : (file builtins : Shared) (c : Config) (image ro keys indices kinds starts lengths : Lent) (r : Result Accepted ElfError) → Loads file builtins c image ro keys indices kinds starts lengths r
-    → Made file.entry.now builtins.entry.now c (length image.entry.now) (length ro.entry.now) (table_before keys indices kinds starts lengths) image.exit.now (table_after keys indices kinds starts lengths) r
-made file builtins c image ro keys indices kinds starts lengths r l = record { answers = l.loaded.answers; image = l.loaded.demand_1.image; keyed = l.keyed; ascending = l.ascending }
+pub made : (file builtins : Shared) (c : Config) (image ro : Lent) (t₀ t : Slices) (r : Result Accepted ElfError) → Loads file builtins c image ro t₀ t r
+    → Made file.entry.now builtins.entry.now c (length image.entry.now) (length ro.entry.now) t₀ image.exit.now t r
+made file builtins c image ro t₀ t r l = record { answers = l.loaded.answers; image = l.loaded.demand_1.image; keyed = l.keyed; ascending = l.ascending }
 
 module _ (file builtins : List ℕ) (c : Config) (n m : ℕ) (t₀ : Slices) (im : List ℕ) (t : Slices) (a : Accepted) (l : Made file builtins c n m t₀ im t (Ok a)) where
   source : From file builtins c n m (capacity t₀) a

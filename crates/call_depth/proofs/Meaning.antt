@@ -1,12 +1,12 @@
 -- What the answers about an accepted load mean: calls by the lookup, chains, and what comes back.
 -- Assumes nothing.
-use Prim.Native.Nat.{ℕ, ◌≤◌, ◌<◌, ◌^◌, min}
+use Prim.Native.Nat.{ℕ, ◌≤◌, ◌<◌, min}
 use mathlib.Core.Path.{◌≡◌, refl, sym, ap, ◌∙◌}
 use mathlib.Core.Bool.{Bool, true, false}
 use mathlib.Core.List.{List}
 use native.Mathlib.Omega.{arith}
 use mathlib.Core.Logic.{◌↔◌}
-use lib.ListN.{length, get_or, take, get_or-eq_default}
+use lib.ListN.{length, get_or, take}
 use lib.Seq.{length-take-le, get_or-take, take-take}
 use lib.Dec.{ltb, eqb}
 use borrow.Author.Tests.{le-ltb, lt-leb}
@@ -14,15 +14,14 @@ use Rattle.std.specs.Prelude.{Option, Some, None, Result, Ok, Err}
 use Rattle.ebpf.specs.Choice.{◌if◌else◌}
 use Rattle.ebpf.specs.Instructions.{insn_at}
 use Rattle.ebpf.specs.declared.Insn.{Insn}
-use Rattle.program.specs.Search.{index_of, binary_search}
+use Rattle.program.specs.Search.{binary_search}
 use Rattle.program.specs.Table.{Slices, capacity, lookup_in, number_at, row_ascending_in, row_of_found, row_at, Ready as IsTable}
-use Rattle.program.proofs.Cases.{by_le, by_lt, zero_one}
+use Rattle.program.proofs.Cases.{by_le, by_lt, by_test, zero_one}
 use Rattle.program.proofs.Laying.{within_room}
 use Rattle.program.proofs.Tables.{lookups_agree, row_agrees}
 use Rattle.call_graph.specs.Answer.{depth_of}
 use Rattle.call_graph.specs.Profile.{Profile, Depth, CallsFunction, Answers}
 use Rattle.call_graph.specs.Ways.{Reaches, Calling}
-use Rattle.call_graph.proofs.Equation.{answer_means}
 use Rattle.call_graph.proofs.Ways.{longest_as, smallest_as, no_return}
 use Rattle.loader.specs.declared.error.ElfError.{ElfError}
 use Rattle.loader.specs.declared.answer.Accepted.{Accepted}
@@ -33,8 +32,7 @@ use Rattle.call_depth.specs.declared.error.CallDepthError.TheVariants.{Recursive
 use Rattle.call_depth.specs.Called.{calls_key, row_or, callee_by, callee_in}
 use Rattle.call_depth.specs.Asked.{CallDepth, limit_of, limited, depth_in, depth_by, depth_asked}
 use Rattle.call_depth.specs.Loads.{MeansOf}
-use Rattle.call_depth.specs.Meaning.{text_of_image, used_indices, profile_after, SlotCalls, FunctionCalls, Means}
-use Rattle.call_depth.proofs.Entries.{first_at}
+use Rattle.call_depth.specs.Meaning.{text_of_image, profile_after, SlotCalls, FunctionCalls, Means, MeansUnlessRefused, MeansAsked}
 use Rattle.call_depth.proofs.After.{found_row, Made, fits_after, entry_after}
 
 -- ---- the used rows alone find the same
@@ -116,15 +114,16 @@ means_as R S f g e limit (Err (TooDeep d)) m = (longest_as R S f g e d m.0, m.1)
 means_as R S f g e limit (Err (RecursiveCall i)) m = smallest_as R S f g e i m
 means_as R S f g e limit (Err (Refused r)) m = m
 
-limited_means : (Q : Profile) (e limit : ℕ) (d : Depth) → Answers Q e d → Means (CallsFunction Q) e limit (limited limit d)
+pub limited_means : (Q : Profile) (e limit : ℕ) (d : Depth) → Answers Q e d → MeansUnlessRefused (CallsFunction Q) e limit (limited limit d)
 unfolding ◌if◌else◌
 limited_means Q e limit (Err r) m = m
-limited_means Q e limit (Ok d) m = by_lt limit d (λ b. Means (CallsFunction Q) e limit (Err (TooDeep d) if b else Ok d)) (λ h. (m, h)) (λ h. (m, h))
+limited_means Q e limit (Ok d) m = by_lt limit d (λ b. MeansUnlessRefused (CallsFunction Q) e limit (Err (TooDeep d) if b else Ok d)) (λ h. (m, h)) (λ h. (m, h))
 
-small_front : (xs : List ℕ) (n r : ℕ) → ((i : ℕ) → get_or xs i 0 < 2 ^ 32) → n ≤ length xs → get_or (take n xs) r 0 < 2 ^ 32
-small_front xs n r h l = by_lt r n (λ _. get_or (take n xs) r 0 < 2 ^ 32)
-    (λ b. rw (get_or-take n xs r 0 b) (h r))
-    (λ b. let z : get_or (take n xs) r 0 ≡ 0 = get_or-eq_default (take n xs) 0 (omega (arith, length-take-le n xs l)) in omega (arith, z))
+-- a depth within a limit or past it is no refusal
+limited_told : (R : ℕ → ℕ → Type 0) (e limit : ℕ) (d : Depth) → MeansUnlessRefused R e limit (limited limit d) → Means R e limit (limited limit d)
+unfolding ◌if◌else◌
+limited_told R e limit (Err r) m = m
+limited_told R e limit (Ok d) m = by_test (ltb limit d) (λ b. MeansUnlessRefused R e limit (Err (TooDeep d) if b else Ok d) → Means R e limit (Err (TooDeep d) if b else Ok d)) (λ _ k. k) (λ _ k. k) m
 
 module _ (file builtins : List ℕ) (c : Config) (n m : ℕ) (t₀ : Slices) (im : List ℕ) (t : Slices) where
   module _ (a : Accepted) (l : Made file builtins c n m t₀ im t (Ok a)) where
@@ -134,27 +133,24 @@ module _ (file builtins : List ℕ) (c : Config) (n m : ℕ) (t₀ : Slices) (im
     unfolding depth_by depth_in ◌if◌else◌
     answered work limit = rw (fits_after file builtins c n m t₀ im t a l, lt-leb _ _ (entry_after file builtins c n m t₀ im t a l)) refl
 
-    profile_means : ((i : ℕ) → get_or t.indices i 0 < 2 ^ 32) → Answers (profile_after a im t) a.entry (depth_of (profile_after a im t) a.entry)
-    profile_means small =
-        let b = entry_after file builtins c n m t₀ im t a l in
-        let e : get_or (used_indices a t) (index_of a.entry (used_indices a t)) 0 ≡ a.entry = first_at a.entry (used_indices a t) b in
-        rw e at (answer_means (profile_after a im t) (index_of a.entry (used_indices a t)) b (λ r. small_front t.indices a.used r small (in_indices a im t l.ascending)))
-
-    means_accepted : (work limit : ℕ) → capacity t₀ ≤ work → ((i : ℕ) → get_or t.indices i 0 < 2 ^ 32)
-        → Means (FunctionCalls a im t) a.entry (limit_of limit) (depth_by work (capacity t₀) im t.keys t.indices a limit)
+    means_accepted : (work limit : ℕ) → capacity t₀ ≤ work → (x : CallDepth) → x ≡ depth_by work (capacity t₀) im t.keys t.indices a limit → MeansAsked (Ok a) im t limit x
+        → Means (FunctionCalls a im t) a.entry (limit_of limit) x
     unfolding ◌if◌else◌
-    means_accepted work limit h small =
-        rw (answered work limit, le-ltb work (capacity t₀) h)
-        (means_as (CallsFunction (profile_after a im t)) (FunctionCalls a im t) (calls_to a im t l.ascending) (calls_from a im t l.ascending) a.entry (limit_of limit) (limited (limit_of limit) (depth_of (profile_after a im t) a.entry))
-        (limited_means (profile_after a im t) a.entry (limit_of limit) (depth_of (profile_after a im t) a.entry) (profile_means small)))
+    means_accepted work limit h x e k =
+        let P = profile_after a im t in
+        let is : x ≡ limited (limit_of limit) (depth_of P a.entry) = e ∙ rw (answered work limit, le-ltb work (capacity t₀) h) refl in
+        rw is
+        (means_as (CallsFunction P) (FunctionCalls a im t) (calls_to a im t l.ascending) (calls_from a im t l.ascending) a.entry (limit_of limit) (limited (limit_of limit) (depth_of P a.entry))
+        (limited_told (CallsFunction P) a.entry (limit_of limit) (depth_of P a.entry) (rw is at k)))
 
-  -- WHAT IT MEANS; the numbers of the index column have 32 bits
-  pub depth_means : (r : Result Accepted ElfError) → Made file builtins c n m t₀ im t r → (work limit : ℕ) → ((i : ℕ) → get_or t.indices i 0 < 2 ^ 32)
+  -- WHAT IT MEANS of a load, in the words of the request
+  pub depth_means : (r : Result Accepted ElfError) → Made file builtins c n m t₀ im t r → (work limit : ℕ)
       → (x : CallDepth)
       → x ≡ depth_asked work (capacity t₀) im t.keys t.indices r limit
+      → MeansAsked r im t limit x
       → MeansOf r im t (capacity t₀) work limit x
-  depth_means (Ok a) l work limit small x e = λ h. rw e (means_accepted a l work limit h small)
-  depth_means (Err r) l work limit small x e = tt
+  depth_means (Ok a) l work limit x e k = λ h. means_accepted a l work limit h x e k
+  depth_means (Err r) l work limit x e k = tt
 
 -- 50 EXACTLY WHERE A FUNCTION THAT IS REACHED REACHES ITSELF
 pub recursive_iff : (R : ℕ → ℕ → Type 0) (e limit : ℕ) (x : CallDepth) → Means R e limit x → ((i : ℕ) × (x ≡ Err (RecursiveCall i))) ↔ ((j : ℕ) × Reaches R e j × Calling R j j)

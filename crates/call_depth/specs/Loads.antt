@@ -1,6 +1,6 @@
 -- What `load_call_depth` promises.
 use Rattle.std.specs.Prelude.{ℕ, ◌≤◌, ◌≡◌, List, length, Result, Ok, Err}
-use Rattle.program.specs.Table.{Slices, Lent, Shared, table_before, table_after, capacity}
+use Rattle.program.specs.Table.{Slices, Lent, Shared, capacity}
 use Rattle.loader.specs.declared.error.ElfError.{ElfError}
 use Rattle.loader.specs.declared.answer.Accepted.{Accepted}
 use Rattle.loader.specs.declared.validate.Config.{Config}
@@ -14,9 +14,10 @@ abbrev pub MeansOf : Result Accepted ElfError → List ℕ → Slices → ℕ �
 MeansOf (Ok a) im t rows work limit x = rows ≤ work → Means (FunctionCalls a im t) a.entry (limit_of limit) x
 MeansOf (Err r) im t rows work limit x = Unit {0}
 
--- all that `load` promises, whatever comes of the question, and how deep the profile calls. What `work` holds afterwards is left free
-pub record LoadsAndMeasures (file builtins : Shared) (c : Config) (image ro keys indices kinds starts lengths work : Lent) (limit : ℕ) (r : LoadDepth) : Type 0 where
-  pub loads : Loads file builtins c image ro keys indices kinds starts lengths r.load
-  pub measures : r.depth ≡ depth_asked (length work.entry.now) (capacity (table_before keys indices kinds starts lengths)) image.exit.now keys.exit.now indices.exit.now r.load limit
+-- all that `load` promises, whatever comes of the question, and how deep the profile calls; the table holds t at the call, and t' on return. What `work`
+-- holds afterwards is left free
+pub record LoadsAndMeasures (file builtins : Shared) (c : Config) (image ro : Lent) (t t' : Slices) (work : Lent) (limit : ℕ) (r : LoadDepth) : Type 0 where
+  pub loads : Loads file builtins c image ro t t' r.load
+  pub measures : r.depth ≡ depth_asked (length work.entry.now) (capacity t) image.exit.now t'.keys t'.indices r.load limit
   -- and what that means, by the calls that stand in the image and find their function in the table
-  pub means : MeansOf r.load image.exit.now (table_after keys indices kinds starts lengths) (capacity (table_before keys indices kinds starts lengths)) (length work.entry.now) limit r.depth
+  pub means : MeansOf r.load image.exit.now t' (capacity t) (length work.entry.now) limit r.depth

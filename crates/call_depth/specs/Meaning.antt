@@ -1,15 +1,16 @@
 -- What the answers say of an accepted load, in the words of the request.
-use Rattle.std.specs.Prelude.{ℕ, ◌≤◌, ◌<◌, ◌≡◌, true, List, take, drop, eqb, Some, Ok, Err}
+use Rattle.std.specs.Prelude.{ℕ, ◌≤◌, ◌<◌, ◌≡◌, true, List, take, drop, eqb, Some, Result, Ok, Err}
 use Rattle.ebpf.specs.Instructions.{insn_at}
 use Rattle.ebpf.specs.declared.Insn.{Insn}
 use Rattle.program.specs.Table.{Slices, lookup_in}
 use Rattle.call_graph.specs.Ways.{Longest, Smallest}
-use Rattle.call_graph.specs.Profile.{Profile, next_above}
+use Rattle.call_graph.specs.Profile.{Profile, CallsFunction, next_above}
+use Rattle.loader.specs.declared.error.ElfError.{ElfError}
 use Rattle.loader.specs.declared.answer.Accepted.{Accepted}
 use Rattle.loader.specs.Demand.{Finds}
 use Rattle.call_depth.specs.declared.error.CallDepthError.TheVariants.{RecursiveCall, TooDeep, Refused}
 use Rattle.call_depth.specs.Called.{calls_key, slots_in, profile_in}
-use Rattle.call_depth.specs.Asked.{CallDepth}
+use Rattle.call_depth.specs.Asked.{CallDepth, limit_of}
 
 -- the text's bytes in an image, and the indices of the used rows of a table
 abbrev pub text_of_image : Accepted → List ℕ → List ℕ
@@ -41,3 +42,15 @@ Means R e limit (Ok d) = Longest R e d × (d ≤ limit)
 Means R e limit (Err (TooDeep d)) = Longest R e d × (limit < d)
 Means R e limit (Err (RecursiveCall i)) = Smallest R e i
 Means R e limit (Err (Refused r)) = ⊥
+
+-- the same of an answer that may be a refusal, of which it says nothing
+abbrev pub MeansUnlessRefused : (ℕ → ℕ → Type 0) → ℕ → ℕ → CallDepth → Type 0
+MeansUnlessRefused R e limit (Ok d) = Longest R e d × (d ≤ limit)
+MeansUnlessRefused R e limit (Err (TooDeep d)) = Longest R e d × (limit < d)
+MeansUnlessRefused R e limit (Err (RecursiveCall i)) = Smallest R e i
+MeansUnlessRefused R e limit (Err (Refused r)) = Unit {0}
+
+-- by a load's answer, on any image and table: calls find their row by the binary search
+abbrev pub MeansAsked : Result Accepted ElfError → List ℕ → Slices → ℕ → CallDepth → Type 0
+MeansAsked (Ok a) im t limit x = MeansUnlessRefused (CallsFunction (profile_after a im t)) a.entry (limit_of limit) x
+MeansAsked (Err r) im t limit x = Unit {0}

@@ -2,16 +2,19 @@
 // How deep a loaded profile calls: the longest chain of calls from the entry, counted in functions. Asked
 // with a load, or about a load already made, by its answer, its image and its table.
 ghost use Rattle.std.specs.Prelude.{◌≡◌, ◌<◌, length, get_or};
-ghost use Rattle.program.specs.Table.{capacity, columns_in};
+ghost use Rattle.program.specs.Table.{SameColumns, SameLens, capacity, columns_in, columns_of};
+ghost use Rattle.loader.specs.Loads.{used_of};
+ghost use Rattle.call_graph.specs.Profile.{CallsFunction, Answers};
 ghost use Rattle.call_graph.specs.Answer.{depth_of};
 ghost use Rattle.call_depth.specs.Called.{profile_of, WorkLent};
 ghost use Rattle.call_depth.specs.Asked.{limit_of, limited, depth_in, fits_in, depth_by, depth_asked};
+ghost use Rattle.call_depth.specs.Meaning.{MeansUnlessRefused, MeansAsked};
 ghost use Rattle.call_depth.specs.Loads.{LoadsAndMeasures};
 
 use call_graph::Recursive;
 use elf_parser::past;
 use loader::{Accepted, Config, ElfError, load};
-use program::FunctionTable;
+use program::{FunctionRegistry, FunctionTable};
 use slots::FLAG;
 
 mod error;
@@ -43,7 +46,8 @@ impl Profile<'_> {
     // From the function of row `entry`.
     fn depth_from(self, work: &mut [u32], entry: usize) -> Result<u32, Recursive>
         requires { WorkLent self.text.now self.indices.now work.old × (entry < length self.indices.now) }
-        ensures { result ≡ depth_of (profile_of self) (get_or self.entry.indices.now entry 0) }
+        ensures is { result ≡ depth_of (profile_of self) (get_or self.entry.indices.now entry 0) }
+        ensures means { Answers (profile_of self) (get_or self.entry.indices.now entry 0) result }
     {
         self.settle(work, entry);
         let word = work[entry];
@@ -58,7 +62,8 @@ impl Profile<'_> {
     // From the function at the index `entry`.
     fn depth_in(self, work: &mut [u32], entry: u32, limit: u32) -> Result<u32, CallDepthError>
         requires { WorkLent self.text.now self.indices.now work.old }
-        ensures { result ≡ depth_in self.entry.text.now self.entry.keys.now self.entry.indices.now self.entry.version2 entry limit }
+        ensures is { result ≡ depth_in self.entry.text.now self.entry.keys.now self.entry.indices.now self.entry.version2 entry limit }
+        ensures means { MeansUnlessRefused (CallsFunction (profile_of self)) entry (limit_of limit) result }
     {
         let Some(row) = self.indices.iter().position(|index| *index == entry) else {
             return Err(CallDepthError::Refused(ElfError::ValueOutOfBounds));
@@ -105,7 +110,8 @@ fn depth_by(
     a: Accepted,
     limit: u32,
 ) -> Result<u32, CallDepthError>
-    ensures { result ≡ depth_by (length work.old) (capacity (columns_in table.entry)) image.now table.entry.keys.now table.entry.indices.now a limit }
+    ensures is { result ≡ depth_by (length work.old) (capacity (columns_in table.entry)) image.now table.entry.keys.now table.entry.indices.now a limit }
+    ensures means { MeansAsked (Ok a) image.now (columns_in table.entry) limit result }
 {
     let rows = table.rows_lent();
     if work.len() < rows {
@@ -126,7 +132,7 @@ fn depth_by(
 
 // HOW DEEP THE PROFILE CALLS that a load answered for: by its answer, which may be a refusal, and by the
 // image and the table that it left. `work` has a number for each row lent; what it holds afterwards is
-// left free.
+// left free. What the answer means is said of any image and table.
 pub fn call_depth(
     work: &mut [u32],
     image: &[u8],
@@ -134,7 +140,8 @@ pub fn call_depth(
     answer: Result<Accepted, ElfError>,
     limit: u32,
 ) -> Result<u32, CallDepthError>
-    ensures { result ≡ depth_asked (length work.old) (capacity (columns_in table.entry)) image.now table.entry.keys.now table.entry.indices.now answer limit }
+    ensures is { result ≡ depth_asked (length work.old) (capacity (columns_in table.entry)) image.now table.entry.keys.now table.entry.indices.now answer limit }
+    ensures means { MeansAsked answer image.now (columns_in table.entry) limit result }
 {
     depth_by(work, image, table, answer?, limit)
 }
@@ -147,29 +154,18 @@ pub fn load_call_depth(
     config: Config,
     image: &mut [u8],
     ro_section: &mut [u8],
-    keys: &mut [u32],
-    indices: &mut [u32],
-    kinds: &mut [u32],
-    starts: &mut [u32],
-    lengths: &mut [u32],
+    registry: &mut FunctionRegistry<'_>,
     work: &mut [u32],
     limit: u32,
 ) -> LoadDepth
-    ensures { LoadsAndMeasures file builtins config image ro_section keys indices kinds starts lengths work limit result }
+    ensures same { SameColumns registry.old registry.new }
+    ensures lens { SameLens (columns_of registry.old) (columns_of registry.new) }
+    ensures measures { LoadsAndMeasures file builtins config image ro_section (columns_of registry.old) (columns_of registry.new) work limit result }
+    ensures used { registry.new.used ≡ used_of result.load }
 {
-    let answer = load(
-        file, builtins, config, image, ro_section, keys, indices, kinds, starts, lengths,
-    );
-    let table = FunctionTable {
-        keys,
-        indices,
-        kinds,
-        starts,
-        lengths,
-        used: 0,
-    };
+    let answer = load(file, builtins, config, image, ro_section, registry);
     LoadDepth {
         load: answer,
-        depth: call_depth(work, image, table, answer, limit),
+        depth: call_depth(work, image, registry.as_table(), answer, limit),
     }
 }

@@ -4,15 +4,15 @@ use mathlib.Core.Path.{◌≡◌, refl, ap, ◌∙◌, subst}
 use mathlib.Core.List.{List}
 use lib.ListN.{length}
 use Rattle.std.specs.Prelude.{Result}
-use Rattle.program.specs.Table.{Slices, capacity}
+use Rattle.program.specs.Table.{Slices, slices, Lent, Shared, table_before, table_after, capacity}
 use Rattle.loader.specs.declared.error.ElfError.{ElfError}
 use Rattle.loader.specs.declared.answer.Accepted.{Accepted}
 use Rattle.loader.specs.declared.validate.Config.{Config}
 use Rattle.loader.specs.Load.{Loading, load_of, answer_of, Loaded}
 use Rattle.loader.specs.Demand.{Demand3}
-use Rattle.loader.specs.Loads.{OnUsed}
+use Rattle.loader.specs.Loads.{OnUsed, Loads}
 use Rattle.exports.specs.declared.answers.Answer.{Answer}
-use Rattle.exports.specs.Answers.{Given, load_answer}
+use Rattle.exports.specs.Answers.{Given, Gives, GivesLoad, config_of, load_answer}
 
 module _ (file builtins im ro : List ℕ) (t : Slices) where
   abbrev whole : Config → Loading
@@ -30,3 +30,29 @@ module _ (file builtins im ro : List ℕ) (t : Slices) where
 
     pub given_by : (b : Answer) (before after : List ℕ) (r : ℕ) → b ≡ load_answer a → Given b before after r → Given (load_answer (answer_of (whole d))) before after r
     given_by b before after r is g = subst (λ (y : Answer). Given y before after r) (is ∙ ap load_answer did.answers ∙ ap (λ (k : Config). load_answer (answer_of (whole k))) e) g
+
+-- columns as they stand one by one
+pub one_by_one : (r : Slices) (k i d s l : List ℕ) → r.keys ≡ k → r.indices ≡ i → r.kinds ≡ d → r.starts ≡ s → r.lengths ≡ l → r ≡ slices k i d s l
+one_by_one r k i d s l ek ei ed es el = λ x. record { keys = ek x; indices = ei x; kinds = ed x; starts = es x; lengths = el x }
+
+-- a load's answer given, with the columns that it left
+pub given : (file builtins : Shared) (settings : ℕ) (image ro keys indices kinds starts lengths answer : Lent) (r : ℕ) (c : Config) → c ≡ config_of settings
+    → (t : Slices) (a : Result Accepted ElfError) → Loads file builtins c image ro (table_before keys indices kinds starts lengths) t a
+    → t ≡ table_after keys indices kinds starts lengths
+    → (b : Answer)
+    → b ≡ load_answer a
+    → Gives b answer r
+    → GivesLoad file builtins settings image ro keys indices kinds starts lengths answer r
+given file builtins settings image ro keys indices kinds starts lengths answer r c e t a did left b is g =
+    let before = table_before keys indices kinds starts lengths in
+    let after = table_after keys indices kinds starts lengths in
+    let d = config_of settings in
+    let here : Loads file builtins c image ro before after a = subst (λ (u : Slices). Loads file builtins c image ro before u a) left did in
+    record {
+      loads = record {
+        loaded = loaded_by file.entry.now builtins.entry.now image.entry.now ro.entry.now before c d e image.exit.now ro.exit.now after a here.loaded;
+        keyed = keyed_by file.entry.now builtins.entry.now image.entry.now ro.entry.now before c d e image.exit.now ro.exit.now after a here.loaded here.keyed;
+        ascending = used_by file.entry.now builtins.entry.now image.entry.now ro.entry.now before c d e image.exit.now ro.exit.now after a here.loaded _ here.ascending;
+      };
+      gives = given_by file.entry.now builtins.entry.now image.entry.now ro.entry.now before c d e image.exit.now ro.exit.now after a here.loaded b answer.entry.now answer.exit.now r is g;
+    }

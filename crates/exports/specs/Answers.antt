@@ -8,7 +8,7 @@ use Rattle.elf_parser.specs.declared.layout.Layout.{Layout}
 use Rattle.elf_parser.specs.Errors.{report_of}
 use Rattle.elf_parser.specs.Parse.{parsed}
 use Rattle.hash_table.specs.declared.BadHashTable.{BadHashTable}
-use Rattle.program.specs.Table.{Lent, Shared}
+use Rattle.program.specs.Table.{Lent, Shared, table_before, table_after}
 use Rattle.loader.specs.declared.error.ElfError.{ElfError}
 use Rattle.loader.specs.declared.answer.Accepted.{Accepted}
 use Rattle.loader.specs.declared.validate.Config.{Config}
@@ -163,8 +163,10 @@ load_answer (Err e) = reported (load.report_of e)
 
 -- WHAT `sbpf_load` PROMISES: what `load` promises, with demands 1 and 3, and its answer in words
 pub record GivesLoad (file builtins : Shared) (settings : ℕ) (image ro keys indices kinds starts lengths answer : Lent) (r : ℕ) : Type 0 where
-  pub loads : Loads file builtins (config_of settings) image ro keys indices kinds starts lengths (answer_of (load_of_lent file builtins (config_of settings) image ro keys indices kinds starts lengths))
-  pub gives : Gives (load_answer (answer_of (load_of_lent file builtins (config_of settings) image ro keys indices kinds starts lengths))) answer r
+  pub loads :
+      let before = table_before keys indices kinds starts lengths in
+      Loads file builtins (config_of settings) image ro before (table_after keys indices kinds starts lengths) (answer_of (load_of_lent file builtins (config_of settings) image ro before))
+  pub gives : Gives (load_answer (answer_of (load_of_lent file builtins (config_of settings) image ro (table_before keys indices kinds starts lengths)))) answer r
 
 -- the text's place: its start and its length
 abbrev pub text_answer : Result Place ElfError → Answer

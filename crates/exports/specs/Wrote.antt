@@ -1,7 +1,7 @@
 -- Who wrote a byte, in words.
 use Rattle.std.specs.Prelude.{ℕ, ◌%◌, ◌^◌, ◌≡◌, Bool, List, [], ◌∷◌, length, get_or, ltb, eqb, Result, Ok, Err}
 use Rattle.ebpf.specs.Choice.{◌if◌else◌}
-use Rattle.program.specs.Table.{Lent, Shared, table_before, capacity}
+use Rattle.program.specs.Table.{Slices, Lent, Shared, table_before, table_after, capacity}
 use Rattle.elf_parser.specs.declared.error.ElfParserError.TheVariants.{NoSuchIndex}
 use Rattle.loader.specs.declared.error.ElfError.{ElfError}
 use Rattle.loader.specs.declared.error.ElfError.TheVariants.{FailedToParse}
@@ -93,16 +93,18 @@ abbrev pub load_wrote_answer : Result Accepted ElfError → Result Writer ElfErr
 load_wrote_answer (Ok a) wrote = accepted_wrote a wrote
 load_wrote_answer (Err e) wrote = reported (load.report_of e)
 
--- what comes of the load, and who wrote the byte
-abbrev pub load_wrote_of : Shared → Shared → Config → Lent → Lent → Lent → Lent → Lent → Lent → Lent → ℕ → LoadWrote
-load_wrote_of file builtins c image ro k i d s l offset = record {
-  load = answer_of (load_of_lent file builtins c image ro k i d s l);
-  wrote = wrote_of file.entry.now builtins.entry.now c (length image.entry.now) (length ro.entry.now) (capacity (table_before k i d s l)) offset;
+-- what comes of the load, in a table that holds t, and who wrote the byte
+abbrev pub load_wrote_of : Shared → Shared → Config → Lent → Lent → Slices → ℕ → LoadWrote
+load_wrote_of file builtins c image ro t offset = record {
+  load = answer_of (load_of_lent file builtins c image ro t);
+  wrote = wrote_of file.entry.now builtins.entry.now c (length image.entry.now) (length ro.entry.now) (capacity t) offset;
 }
 
 -- WHAT `sbpf_load_who_wrote` PROMISES
 pub record GivesLoadWrote (file builtins : Shared) (settings : ℕ) (image ro keys indices kinds starts lengths : Lent) (offset : ℕ) (answer : Lent) (r : ℕ) : Type 0 where
-  pub loads : LoadsAndTells file builtins (config_of settings) image ro keys indices kinds starts lengths offset (load_wrote_of file builtins (config_of settings) image ro keys indices kinds starts lengths offset)
+  pub loads :
+      let before = table_before keys indices kinds starts lengths in
+      LoadsAndTells file builtins (config_of settings) image ro before (table_after keys indices kinds starts lengths) offset (load_wrote_of file builtins (config_of settings) image ro before offset)
   pub gives :
-      let x : LoadWrote = load_wrote_of file builtins (config_of settings) image ro keys indices kinds starts lengths offset in
+      let x : LoadWrote = load_wrote_of file builtins (config_of settings) image ro (table_before keys indices kinds starts lengths) offset in
       Gives (load_wrote_answer x.load x.wrote) answer r

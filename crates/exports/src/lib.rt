@@ -24,7 +24,7 @@ use hash_table::find_symbol;
 use loader::{load, text_place};
 use loading::{config_of, load_answer, text_answer};
 use names::refusal_name;
-use program::{FunctionTable, index_ascending, row_ascending};
+use program::{FunctionRegistry, FunctionTable, index_ascending, row_ascending};
 use writers::load_who_wrote;
 use wrote::{load_wrote_answer, numbers_answer, who_wrote_answer};
 
@@ -196,17 +196,21 @@ pub fn sbpf_load(
 ) -> u32
     ensures { GivesLoad file builtins settings image ro keys indices kinds starts lengths answer result }
 {
+    let mut registry = FunctionRegistry {
+        keys,
+        indices,
+        kinds,
+        starts,
+        lengths,
+        used: 0,
+    };
     let a = load(
         file,
         builtins,
         config_of(settings),
         image,
         ro,
-        keys,
-        indices,
-        kinds,
-        starts,
-        lengths,
+        &mut registry,
     );
     give(answer, load_answer(a))
 }
@@ -251,17 +255,21 @@ pub fn sbpf_load_who_wrote(
 ) -> u32
     ensures { GivesLoadWrote file builtins settings image ro keys indices kinds starts lengths offset answer result }
 {
+    let mut registry = FunctionRegistry {
+        keys,
+        indices,
+        kinds,
+        starts,
+        lengths,
+        used: 0,
+    };
     let a = load_who_wrote(
         file,
         builtins,
         config_of(settings),
         image,
         ro,
-        keys,
-        indices,
-        kinds,
-        starts,
-        lengths,
+        &mut registry,
         offset,
     );
     let load = a.load;

@@ -1,10 +1,10 @@
 // The settings of a load by their bits, and what a load answers in words.
-ghost use Rattle.std.specs.Prelude.{◌≡◌, ◌<◌};
+ghost use Rattle.std.specs.Prelude.{◌≡◌};
 ghost use Rattle.exports.specs.Answers.{config_of, loaded_with, load_answer, text_answer};
 
 use crate::answers::{Answer, answer_with, reported};
-use elf_parser::Place;
-use loader::{Accepted, Config, ElfError, report_of};
+use elf_parser::{Place, Report};
+use loader::{Accepted, Config, ElfError};
 
 // The settings of a load by their bits.
 pub(crate) fn config_of(settings: u32) -> Config
@@ -50,7 +50,7 @@ pub(crate) fn load_answer(a: Result<Accepted, ElfError>) -> Answer
 {
     match a {
         Ok(a) => loaded_with(0, a, 0, 0),
-        Err(e) => reported(report_of(e)),
+        Err(e) => reported(Report::from(e)),
     }
 }
 
@@ -59,6 +59,6 @@ pub(crate) fn text_answer(p: Result<Place, ElfError>) -> Answer
 {
     match p {
         Ok(place) => answer_with(0, &[0, 0, 0, place.start as u64, place.length as u64]),
-        Err(e) => reported(report_of(e)),
+        Err(e) => reported(Report::from(e)),
     }
 }

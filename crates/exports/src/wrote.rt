@@ -4,8 +4,8 @@ ghost use Rattle.exports.specs.Wrote.{kind_of, number_in, wrote_answer, refusal_
 
 use crate::answers::{Answer, answer_with, reported, word_in};
 use crate::loading::loaded_with;
-use elf_parser::ElfParserError;
-use loader::{Accepted, ElfError, clear_words, report_of};
+use elf_parser::{ElfParserError, Report};
+use loader::{Accepted, ElfError, clear_words};
 use writers::{LoadedText, Writer, who_wrote_all_by, who_wrote_by};
 
 // Who wrote a byte, in words: the kind of the writer, and the number of the slot or of the relocation.
@@ -36,7 +36,7 @@ fn wrote_answer(wrote: Result<Writer, ElfError>) -> Answer
             let WriterWords { kind, number } = WriterWords::from(w);
             answer_with(0, &[0, 0, 0, kind, number])
         }
-        Err(e) => reported(report_of(e)),
+        Err(e) => reported(Report::from(e)),
     }
 }
 
@@ -82,7 +82,7 @@ fn filled_answer(filled: Result<(), ElfError>) -> Answer
 {
     match filled {
         Ok(()) => answer_with(0, &[0]),
-        Err(e) => reported(report_of(e)),
+        Err(e) => reported(Report::from(e)),
     }
 }
 
@@ -108,7 +108,7 @@ fn accepted_wrote(a: Accepted, wrote: Result<Writer, ElfError>) -> Answer
             loaded_with(0, a, kind, number)
         }
         Err(ElfError::FailedToParse(ElfParserError::NoSuchIndex)) => loaded_with(45, a, 0, 0),
-        Err(e) => reported(report_of(e)),
+        Err(e) => reported(Report::from(e)),
     }
 }
 
@@ -120,6 +120,6 @@ pub(crate) fn load_wrote_answer(
 {
     match load {
         Ok(a) => accepted_wrote(a, wrote),
-        Err(e) => reported(report_of(e)),
+        Err(e) => reported(Report::from(e)),
     }
 }

@@ -1,8 +1,8 @@
--- The lines of the rows that three columns hold, and of the rows that a load leaves. Assumes nothing.
-use Prim.Native.Nat.{ℕ, zero, suc, ◌+◌, ◌≤◌, ◌<◌, zero-le}
+-- The lines of the rows that columns hold, and of the rows that a load leaves. Assumes nothing.
+use Prim.Native.Nat.{ℕ, ◌+◌, ◌≤◌, ◌<◌, zero-le}
 use native.Mathlib.Numerals.{add-one}
 use native.Mathlib.Omega.{arith}
-use mathlib.Core.Path.{◌≡◌, refl, ap, ◌∙◌}
+use mathlib.Core.Path.{◌≡◌, refl, ap}
 use mathlib.Core.List.{List, [], ◌++◌}
 use lib.ListN.{length, get_or, drop, replicate, drop_of_length-le, length-replicate}
 use lib.Seq.{drop-cons}
@@ -11,8 +11,9 @@ use Rattle.std.specs.Prelude.{Result, Ok, Err}
 use Rattle.ebpf.specs.Choice.{◌if◌else◌}
 use Rattle.program.specs.declared.Row.{Row}
 use Rattle.program.specs.Rows.{Ascending}
-use Rattle.program.specs.Table.{Slices, slices, rows_of, row_at, tab, capacity, least}
-use Rattle.program.proofs.Laying.{zero_row, row_at_lem, length_rows, rows_lay}
+use Rattle.program.specs.Table.{Slices, slices, rows_of, capacity, least, Within, SameLens}
+use Rattle.program.proofs.Laying.{zero_row, row_at_lem, length_rows, rows_lay, within_room}
+use Rattle.program.proofs.Tables.{capacity_same}
 use Rattle.loader.specs.declared.read_only.Placing.TheVariants.{Borrowed, Owned}
 use Rattle.loader.specs.declared.read_only.Placing.{Placing}
 use Rattle.loader.specs.declared.answer.Accepted.{Accepted}
@@ -21,12 +22,13 @@ use Rattle.loader.specs.declared.validate.Config.{Config}
 use Rattle.loader.specs.declared.validate.Job.{Job}
 use Rattle.loader.specs.Errors.{report_of}
 use Rattle.loader.specs.Load.{Loading, load_of, on_prepared, on_trace, held_by, answer_of, rows_in, Loaded}
+use Rattle.loader.specs.Loads.{used_of}
 use Rattle.loader.specs.Parts.{job_trace}
 use Rattle.loader.specs.Trace.{Settled, accepted, refused, settle}
 use Rattle.loader.specs.Validate.{prepared}
 use Rattle.loader.proofs.Keyed.{rows_room}
 use Rattle.loader.proofs.Traces.{settle_ascends}
-use Rattle.listing.specs.Lines.{row_line, row_lines, refused_line, accepted_line, answer_lines, used_of, load_lines, listed_load, all_on, too_long, lines_of, Stored, Listing}
+use Rattle.listing.specs.Lines.{row_line, row_lines, refused_line, accepted_line, answer_lines, load_lines, listed_load, all_on, too_long, lines_of, Stored, Listing}
 use Rattle.listing.proofs.Stores.{stored_both, stored_most, sets_filled}
 
 -- ---- rows in columns
@@ -43,25 +45,14 @@ module _ (t : Slices) (n i : ℕ) where
   unfolding row_lines
   lines_end h = rw (drop_of_length-le (rows_of t n) {i = i} (rw length_rows h))
 
--- a line has nothing of a name's start and length
-lines_tab : (n : ℕ) (f g : ℕ → Row) → ((i : ℕ) → row_line (f i).key (f i).index (f i).kind ≡ row_line (g i).key (g i).index (g i).kind) → row_lines (tab n f) ≡ row_lines (tab n g)
-unfolding row_lines
-lines_tab zero f g h = refl
-lines_tab (suc n) f g h = rw (h 0, lines_tab n (λ (k : ℕ). f (suc k)) (λ (k : ℕ). g (suc k)) (λ k. h (suc k)))
-
-lines_columns : (t : Slices) (n : ℕ) → row_lines (rows_of (slices t.keys t.indices t.kinds [] []) n) ≡ row_lines (rows_of t n)
-unfolding rows_of
-lines_columns t n = lines_tab n (row_at (slices t.keys t.indices t.kinds [] [])) (row_at t) (λ i. refl)
-
 -- ---- the lines of an answer, stored
 
-module _ (answer : Result Accepted ElfError) (t : Slices) (s u : List ℕ) where
-  pub refused_stored : (e : ElfError) (r : ℕ) → answer ≡ Err e → Stored 93 (refused_line (report_of e)) s u 0 r → Stored 16221 (answer_lines answer (rows_of t (used_of answer))) s u 0 r
+module _ (answer : Result Accepted ElfError) (rows : List Row) (s u : List ℕ) where
+  pub refused_stored : (e : ElfError) (r : ℕ) → answer ≡ Err e → Stored 93 (refused_line (report_of e)) s u 0 r → Stored 16221 (answer_lines answer rows) s u 0 r
   refused_stored e r is a = rw is (stored_most 93 16221 (refused_line (report_of e)) s u 0 r (omega (arith, a.next, a.near)) a)
 
-  pub accepted_stored : (y : Accepted) (v : List ℕ) (p r : ℕ) → answer ≡ Ok y → Stored 93 (accepted_line y) s u 0 p → Stored 16128 (row_lines (rows_of t y.used)) u v p r
-      → Stored 16221 (answer_lines answer (rows_of t (used_of answer))) s v 0 r
-  accepted_stored y v p r is a b = rw is (stored_both 93 16128 (accepted_line y) (row_lines (rows_of t y.used)) s u v 0 p r a b)
+  pub accepted_stored : (y : Accepted) (v : List ℕ) (p r : ℕ) → answer ≡ Ok y → Stored 93 (accepted_line y) s u 0 p → Stored 16128 (row_lines rows) u v p r → Stored 16221 (answer_lines answer rows) s v 0 r
+  accepted_stored y v p r is a b = rw is (stored_both 93 16128 (accepted_line y) (row_lines rows) s u v 0 p r a b)
 
 -- ---- the rows of a load: the answer counts them, there are no more than n, and their keys rise
 
@@ -88,20 +79,13 @@ module _ (file builtins : List ℕ) (m cap : ℕ) where
   unfolding load_of
   counted c n = counted_prepared (prepared file builtins c n m)
 
-answer_lines_lem : (a : Result Accepted ElfError) (rs rs' : List Row) → row_lines rs ≡ row_lines rs' → answer_lines a rs ≡ answer_lines a rs'
-answer_lines_lem (Ok y) rs rs' e = rw e
-answer_lines_lem (Err r) rs rs' e = refl
-
 -- what a load leaves gives the load's lines
 module _ (x : Loading) (im ro : List ℕ) (t : Slices) (im' ro' : List ℕ) (t' : Slices) (a : Result Accepted ElfError) (did : Loaded x im ro t im' ro' t' a) (n : ℕ) (c : Counted x n) (cap : capacity t ≡ n) where
   left_used : used_of a ≤ n
   left_used = rw (did.answers, c.used) c.room
 
-  left_lines : answer_lines a (rows_of (slices t'.keys t'.indices t'.kinds [] []) (used_of a)) ≡ load_lines x
-  left_lines =
-      rw did.answers
-      (answer_lines_lem (answer_of x) _ (rows_in x)
-      (lines_columns t' (used_of (answer_of x)) ∙ rw (c.used, did.demand_1.table) (ap row_lines (rows_lay t (rows_in x) (rw cap c.room)))))
+  left_lines : answer_lines a (rows_of t' (used_of a)) ≡ load_lines x
+  left_lines = rw (did.answers, c.used, did.demand_1.table) (ap (answer_lines (answer_of x)) (rows_lay t (rows_in x) (rw cap c.room)))
 
 -- ---- the load of a listing, in the slices that it lends
 
@@ -126,11 +110,18 @@ module _ (file im ro : List ℕ) (t : Slices) (a : Result Accepted ElfError) (di
   as_listed : Loaded (listed_load file) zeros zeros none im ro t a
   as_listed = rw (length-replicate {A = ℕ} 16384 0, none_rows) at did
 
-  pub listed_used : used_of a ≤ 256
+  listed_used : used_of a ≤ 256
   listed_used = left_used (listed_load file) zeros zeros none im ro t a as_listed 256 (listed_counted file) none_rows
 
-  pub listed_stored : (s u : List ℕ) (r : ℕ) → Stored 16221 (answer_lines a (rows_of (slices t.keys t.indices t.kinds [] []) (used_of a))) s u 0 r → Stored 16221 (load_lines (listed_load file)) s u 0 r
-  listed_stored s u r b = rw (left_lines (listed_load file) zeros zeros none im ro t a as_listed 256 (listed_counted file) none_rows) at b
+  -- of the table as it is lent then: u with n used rows
+  module _ (u : Slices) (n : ℕ) (is : u ≡ t) (used : n ≡ used_of a) where
+    pub listed_within : SameLens none t → (n ≤ 256) × Within n u
+    listed_within lens =
+        let few : n ≤ 256 = rw used listed_used in
+        (few, rw is (within_room n t (rw (capacity_same none t lens, none_rows) few)))
+
+    pub listed_stored : (s v : List ℕ) (r : ℕ) → Stored 16221 (answer_lines a (rows_of u n)) s v 0 r → Stored 16221 (load_lines (listed_load file)) s v 0 r
+    listed_stored s v r b = rw (is, used, left_lines (listed_load file) zeros zeros none im ro t a as_listed 256 (listed_counted file) none_rows) at b
 
 -- ---- the lines of a file
 

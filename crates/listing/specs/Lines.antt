@@ -4,7 +4,7 @@ use Rattle.std.proofs.lemmas.List.Edits.{sets}
 use Rattle.ebpf.specs.Choice.{◌if◌else◌}
 use Rattle.elf_parser.specs.declared.error.Report.{Report}
 use Rattle.program.specs.declared.Row.{Row}
-use Rattle.program.specs.Table.{Lent, Shared, slices, rows_of}
+use Rattle.program.specs.Table.{Lent, Shared}
 use Rattle.loader.specs.declared.error.ElfError.{ElfError}
 use Rattle.loader.specs.declared.answer.Accepted.{Accepted}
 use Rattle.loader.specs.declared.validate.Config.{Config}
@@ -91,15 +91,6 @@ Stores most bytes out at r = Stored most bytes out.entry.now out.exit.now at r
 -- a slice of n bytes that holds these, as many as there is room for, and zeros behind them
 abbrev pub filled : ℕ → List ℕ → List ℕ
 filled n bytes = take n bytes ++ replicate (n - length bytes) 0
-
--- the rows that an answer counts
-abbrev pub used_of : Result Accepted ElfError → ℕ
-used_of (Ok a) = a.used
-used_of (Err e) = 0
-
--- the first n rows of three lent columns; a line has nothing of a name's start and length
-abbrev pub column_rows : Shared → Shared → Shared → ℕ → List Row
-column_rows keys indices kinds n = rows_of (slices keys.entry.now indices.entry.now kinds.entry.now [] []) n
 
 -- WHAT `list_file` PROMISES: a lent slice that held `before` holds the lines of the file, and r is the number of their bytes. These are at
 -- most 16,384, which the programs lend

@@ -7,8 +7,9 @@ ghost use Rattle.std.specs.Io.KnownBytes.{Appends};
 ghost use Rattle.listing.specs.Lines.{listed_load, lines_of, load_lines, Stores, Lists};
 
 use input::read_full;
-use lines::{ROWS, put_load};
+use lines::put_load;
 use loader::{Config, load};
+use program::FunctionRegistry;
 use std::io;
 use std::io::{Read, Write};
 use storing::{clear, put_bytes};
@@ -17,6 +18,8 @@ mod lines;
 mod storing;
 
 const LONGEST: usize = 16384;
+// The rows lent to a load.
+const ROWS: usize = 256;
 
 // A load with all settings on and no built-ins, and its lines.
 fn list_load(out: &mut [u8], file: &[u8]) -> usize
@@ -38,19 +41,23 @@ fn list_load(out: &mut [u8], file: &[u8]) -> usize
         enable_sbpf_v1: true,
         enable_sbpf_v2: true,
     };
+    let mut registry = FunctionRegistry {
+        keys: &mut keys,
+        indices: &mut indices,
+        kinds: &mut kinds,
+        starts: &mut starts,
+        lengths: &mut lengths,
+        used: 0,
+    };
     let answer = load(
         file,
         &builtins,
         config,
         &mut image,
         &mut ro_section,
-        &mut keys,
-        &mut indices,
-        &mut kinds,
-        &mut starts,
-        &mut lengths,
+        &mut registry,
     );
-    put_load(out, answer, &keys, &indices, &kinds)
+    put_load(out, answer, registry.as_table())
 }
 
 // THE LINES of a file in a lent slice, as many bytes as there is room for and zeros behind them; and

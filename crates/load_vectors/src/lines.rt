@@ -3,7 +3,7 @@ ghost use Rattle.std.specs.Prelude.{◌+◌, ◌≤◌, length};
 
 use ebpf::hash_symbol_name;
 use elf_parser::Report;
-use loader::{Accepted, ElfError, get_text_place, report_of};
+use loader::{Accepted, ElfError, get_text_place};
 use program::FunctionTable;
 use std::io;
 
@@ -39,7 +39,7 @@ fn print_text_number(
 ) -> io::Result<()> {
     match get_text_place(a, image_length, ro_length) {
         Ok(_) => print!(rt; " 0"),
-        Err(e) => print!(rt; " {}", report_of(e).number),
+        Err(e) => print!(rt; " {}", Report::from(e).number),
     }
 }
 
@@ -54,7 +54,7 @@ fn print_answer(
             print_accepted(rt, a)?;
             print_text_number(rt, a, image_length, ro_length)
         }
-        Err(e) => print_refused(rt, report_of(e)),
+        Err(e) => print_refused(rt, Report::from(e)),
     }
 }
 

@@ -7,7 +7,7 @@ use ebpf::little_endian::read;
 use input::{read_full, until_none};
 use lines::print_line;
 use loader::{Config, load};
-use program::FunctionTable;
+use program::FunctionRegistry;
 use std::io;
 use std::io::Read;
 
@@ -104,24 +104,10 @@ fn replay(
     config: Config,
     image: &mut [u8],
     ro_section: &mut [u8],
-    keys: &mut [u32],
-    indices: &mut [u32],
-    kinds: &mut [u32],
-    starts: &mut [u32],
-    lengths: &mut [u32],
+    registry: &mut FunctionRegistry<'_>,
 ) -> io::Result<()> {
-    let answer = load(
-        file, builtins, config, image, ro_section, keys, indices, kinds, starts, lengths,
-    );
-    let table = FunctionTable {
-        keys,
-        indices,
-        kinds,
-        starts,
-        lengths,
-        used: 0,
-    };
-    print_line(rt, answer, image, ro_section, table)
+    let answer = load(file, builtins, config, image, ro_section, registry);
+    print_line(rt, answer, image, ro_section, registry.as_table())
 }
 
 // Lends what the case asks for, where it asks for no more than there is.
@@ -139,6 +125,14 @@ fn lend(rt: &impl Print, c: Sizes, file: &[u8], builtins: &[u32]) -> io::Result<
     let mut kinds = [0xa5a5_a5a5u32; ROWS];
     let mut starts = [0xa6a6_a6a6u32; ROWS];
     let mut lengths = [0xa7a7_a7a7u32; ROWS];
+    let mut registry = FunctionRegistry {
+        keys: &mut keys[..c.keys],
+        indices: &mut indices[..c.indices],
+        kinds: &mut kinds[..c.kinds],
+        starts: &mut starts[..c.starts],
+        lengths: &mut lengths[..c.lengths],
+        used: 0,
+    };
     replay(
         rt,
         file,
@@ -146,11 +140,7 @@ fn lend(rt: &impl Print, c: Sizes, file: &[u8], builtins: &[u32]) -> io::Result<
         config_of(c.settings),
         &mut image[..c.image],
         &mut ro_section[..c.ro_section],
-        &mut keys[..c.keys],
-        &mut indices[..c.indices],
-        &mut kinds[..c.kinds],
-        &mut starts[..c.starts],
-        &mut lengths[..c.lengths],
+        &mut registry,
     )?;
     Ok(true)
 }

@@ -2,6 +2,8 @@
 // Who wrote a byte of an accepted load's image: the file, the call in a slot, or a relocation, whichever
 // wrote it last. Asked with a load, or about a load already made, by its answer and the file.
 ghost use Rattle.std.specs.Prelude.{◌≡◌};
+ghost use Rattle.program.specs.Table.{SameColumns, SameLens, columns_of};
+ghost use Rattle.loader.specs.Loads.{used_of};
 ghost use Rattle.writers.specs.Asked.{asked_by, asked};
 ghost use Rattle.writers.specs.Whole.{OnlyZeros, FillsBy, Fills};
 ghost use Rattle.writers.specs.Loads.{LoadsAndTells};
@@ -9,6 +11,7 @@ ghost use Rattle.writers.specs.Loads.{LoadsAndTells};
 use elf_parser::ElfParserError;
 use loader::{Accepted, Config, ElfError, clear_words, load};
 use naming::last_naming;
+use program::FunctionRegistry;
 use text::text_of;
 use whole::mark_all;
 
@@ -65,18 +68,15 @@ pub fn load_who_wrote(
     config: Config,
     image: &mut [u8],
     ro_section: &mut [u8],
-    keys: &mut [u32],
-    indices: &mut [u32],
-    kinds: &mut [u32],
-    starts: &mut [u32],
-    lengths: &mut [u32],
+    registry: &mut FunctionRegistry<'_>,
     offset: u64,
 ) -> LoadWrote
-    ensures { LoadsAndTells file builtins config image ro_section keys indices kinds starts lengths offset result }
+    ensures same { SameColumns registry.old registry.new }
+    ensures lens { SameLens (columns_of registry.old) (columns_of registry.new) }
+    ensures tells { LoadsAndTells file builtins config image ro_section (columns_of registry.old) (columns_of registry.new) offset result }
+    ensures used { registry.new.used ≡ used_of result.load }
 {
-    let answer = load(
-        file, builtins, config, image, ro_section, keys, indices, kinds, starts, lengths,
-    );
+    let answer = load(file, builtins, config, image, ro_section, registry);
     LoadWrote {
         load: answer,
         wrote: who_wrote(file, answer, offset),

@@ -26,7 +26,7 @@ impl From<Accepted> for LoadedText {
 }
 
 // The text of a load of this file, with the file's layout.
-#[derive(Clone, Copy)]
+#[derive(Clone, Copy, PartialEq, Eq, Debug)]
 pub struct Text {
     pub layout: Layout,
     pub loaded: LoadedText,

@@ -5,7 +5,7 @@ use Rattle.listing.proofs.Listed.{refused_stored, accepted_stored}
 use Rattle.listing.proofs.lines.put_load.Goals as goal
 
 pub put_rows-requires : goal.put_rows-requires
-put_rows-requires c = (omega (arith, c.put_accepted-next.ensures.near), rw c.in-Ok.is at c.requires)
+put_rows-requires c = (omega (arith, c.put_accepted-next.ensures.near), c.requires.0, c.requires.1)
 
 pub returns-in-Err : goal.returns-in-Err
 returns-in-Err c = refused_stored _ _ _ _ _ _ c.in-Err.is c.put_refused.ensures

@@ -1,14 +1,13 @@
 -- `listing::lines::put_rows` meets its contract. The loop's invariant: the lines of the rows from i on are left to store, at the next place.
 -- Assumes nothing.
 use Prim.Native.Nat.{◌+◌, ◌*◌, ◌≤◌}
-use mathlib.Core.List.{[]}
 use lib.ListN.{drop}
-use Rattle.program.specs.Table.{slices, rows_of}
+use Rattle.program.specs.Table.{columns_in, rows_of}
 use Rattle.listing.specs.Lines.{row_lines}
 use Rattle.listing.proofs.Stores.{Storing}
 use Rattle.listing.proofs.lines.put_rows.Given as goal
 
 abbrev pub invariant-loop-i : goal.invariant-loop-i
 invariant-loop-i l =
-    let rows = rows_of (slices l.keys l.indices l.kinds [] []) l.used in
+    let rows = rows_of (columns_in l.table) l.table.used in
     Storing (row_lines rows) (row_lines (drop l.i rows)) l.initial.out l.out l.at l.next × (l.next ≤ l.at + 63 * l.i)
