@@ -1,46 +1,26 @@
--- The search for the next call, by twos, fours and eights. Assumes nothing.
-use mathlib.Core.Path.{◌≡◌, refl, sym, ◌∙◌}
+-- The search for the next call, eight slots at a time. Assumes nothing.
+use mathlib.Core.Path.{◌≡◌, sym, ◌∙◌}
 use mathlib.Core.List.{List}
-use Prim.Native.Nat.{ℕ, ◌+◌, ◌-◌, ◌*◌, ◌≤◌, ◌<◌}
+use Prim.Native.Nat.{ℕ, ◌+◌, ◌-◌, ◌≤◌, ◌<◌}
 use native.Mathlib.Omega.{arith}
-use lib.ListN.{get_or}
-use Rattle.loader.specs.Calls.{next_call, PassesTo, call_here, call_later, call_none, next_again, next_first, next_behind}
+use Rattle.loader.specs.Calls.{next_call, next_first, next_behind}
 use Rattle.loader.proofs.Slots.{next_bounds}
 
-module _ (file : List ℕ) (start at : ℕ) where
-  pub two_first : get_or file (start + 8 * at) 0 ≡ 0x85 → at ≡ next_call file start 2 at
-  two_first e = sym (call_here file start at 2 (omega arith) e)
+-- what the search finds among the eight slots from number `at` on, and what it finds from number `from` on, of `count`
+module _ (file : List ℕ) (start from count at first : ℕ) (found : first ≡ next_call file start (at + 8 - at) at) (all : next_call file start (count - at) at ≡ next_call file start (count - from) from) (fit : at + 8 ≤ count) where
+  whole : 8 + (count - (at + 8)) ≡ count - at
+  whole = omega (arith, fit)
 
-  module _ (no : get_or file (start + 8 * at) 0 ≡ 0x85 → ⊥) where
-    next : start + 8 * at + 8 ≡ start + 8 * (at + 1)
-    next = omega arith
+  eight : next_call file start 8 at ≡ first
+  eight = let n : at + 8 - at ≡ 8 = omega arith in sym (rw n at found)
 
-    pub two_second : get_or file (start + 8 * at + 8) 0 ≡ 0x85 → at + 1 ≡ next_call file start 2 at
-    two_second e = sym (call_later file start at 2 1 refl no ∙ call_here file start (at + 1) 1 (omega arith) (rw next at e))
+  pub eight_here : first < at + 8 → first ≡ next_call file start (count - from) from
+  eight_here l =
+      let on = next_first file start 8 (count - (at + 8)) at (omega (arith, eight, l)) in
+      sym eight ∙ sym (rw whole at on) ∙ all
 
-    pub two_none : (get_or file (start + 8 * at + 8) 0 ≡ 0x85 → ⊥) → at + 2 ≡ next_call file start 2 at
-    two_none other =
-        let end : at + 1 + 1 ≡ at + 2 = omega arith in
-        sym (call_later file start at 2 1 refl no ∙ call_later file start (at + 1) 1 0 refl (rw next at other) ∙ call_none file start (at + 1 + 1) 0 (omega arith) ∙ end)
-
-  -- n slots, and n more
-  pub half_first : (n first : ℕ) → first ≡ next_call file start n at → first < at + n → first ≡ next_call file start (n + n) at
-  half_first n first e l = e ∙ sym (next_first file start n n at (rw e at l))
-
-  pub half_second : (n first r : ℕ) → first ≡ next_call file start n at → at + n ≤ first → r ≡ next_call file start n (at + n) → r ≡ next_call file start (n + n) at
-  half_second n first r e l is =
-      let all : next_call file start n at ≡ at + n = omega (arith, e, l, (next_bounds file start n at).1) in
-      is ∙ sym (next_behind file start n n at all)
-
--- eight slots more
-pub eight_more : (file : List ℕ) (start from count at to : ℕ) → PassesTo file start from count at → at + 8 ≤ count → to ≡ next_call file start 8 at → PassesTo file start from count to
-eight_more file start from count at to p l e =
-    let bounds = next_bounds file start 8 at in
-    let all : 8 + (count - (at + 8)) ≡ count - at = omega arith in
-    let left : at + 8 + (count - (at + 8)) ≡ count = omega arith in
-    let on = next_again file start 8 (count - (at + 8)) at in
-    record {
-      begun = omega (arith, p.begun, bounds.0, e);
-      within = omega (arith, bounds.1, e);
-      same = sym (rw (all, left, ← e) at on) ∙ p.same;
-    }
+  pub eight_none : at + 8 ≤ first → (next : ℕ) → next ≡ at + 8 → next_call file start (count - next) next ≡ next_call file start (count - from) from
+  eight_none l next e =
+      let none : next_call file start 8 at ≡ at + 8 = omega (arith, eight, l, (next_bounds file start 8 at).1) in
+      let on = next_behind file start 8 (count - (at + 8)) at none in
+      rw e (sym (rw whole at on) ∙ all)

