@@ -15,7 +15,7 @@ use crate::types::{Elf64Ehdr, Elf64Shdr, file_header, record_at};
 // Where things stand in a file: plain numbers. A section header that was found by name, or is the
 // name table's, is given by its offset in the file. The hash table of the dynamic
 // symbols is given by its address, as the dynamic table has it: a parse does not look for it.
-#[derive(Clone, Copy)]
+#[derive(Clone, Copy, PartialEq, Eq, Debug)]
 pub struct Layout {
     pub program_headers: Entries,
     pub section_headers: Entries,

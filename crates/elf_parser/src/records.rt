@@ -11,7 +11,7 @@ use crate::parts::{Place, part_of, past};
 use crate::types::{Elf64Phdr, Elf64Rel, Elf64Rela, Elf64Shdr, Elf64Sym, Record, record_at};
 
 // Entries of one kind that stand one after another in the file.
-#[derive(Clone, Copy)]
+#[derive(Clone, Copy, PartialEq, Eq, Debug)]
 pub struct Entries {
     pub offset: u64,
     pub count: u64,

@@ -12,7 +12,7 @@ use crate::error::ElfError;
 use crate::validate::Job;
 use program::{FunctionRegistry, RegisterError, Registered, Row};
 
-#[derive(Clone, Copy)]
+#[derive(Clone, Copy, PartialEq, Eq, Debug)]
 pub enum Deed {
     Skip,
     // The halves of a number, four bytes each.
@@ -31,7 +31,7 @@ pub enum Deed {
 
 // What a deed asks of the table.
 // Kept: an Option of a struct leaves the proofs no case by `outside`.
-#[derive(Clone, Copy)]
+#[derive(Clone, Copy, PartialEq, Eq, Debug)]
 pub enum Entry {
     Nothing,
     Register { row: Row, outside: bool },
@@ -46,7 +46,7 @@ pub struct Outputs<'o, 't> {
 }
 
 // What a load reads: the file, the built-in keys, the keys of the first indices, and what the checks left.
-#[derive(Clone, Copy)]
+#[derive(Clone, Copy, PartialEq, Eq, Debug)]
 pub struct Inputs<'a> {
     pub file: &'a [u8],
     pub builtins: &'a [u32],

@@ -4,7 +4,7 @@ ghost use Rattle.loader.specs.Errors.{from_parser, report_of};
 
 use elf_parser::{ElfParserError, Place, Report};
 
-#[derive(Clone, Copy)]
+#[derive(Clone, Copy, PartialEq, Eq, Debug)]
 pub enum ElfError {
     FailedToParse(ElfParserError),
     EntrypointOutOfBounds,

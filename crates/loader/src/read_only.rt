@@ -10,7 +10,7 @@ use ebpf::{MM_PROGRAM_START, MM_STACK_START};
 use elf_parser::types::Elf64Shdr;
 use elf_parser::{Layout, file_range, part_of, past, section_name};
 
-#[derive(Clone, Copy)]
+#[derive(Clone, Copy, PartialEq, Eq, Debug)]
 pub enum Placing {
     // They stay in the image: the offset of their address from the program's start, and their place.
     Borrowed {

@@ -14,7 +14,7 @@ use elf_parser::types::{Elf64Ehdr, Elf64Shdr};
 use elf_parser::{ElfParserError, Layout, file_header, parse, section_name};
 
 // The settings of a load, under the Rust's names.
-#[derive(Clone, Copy)]
+#[derive(Clone, Copy, PartialEq, Eq, Debug)]
 pub struct Config {
     pub enable_symbol_and_section_labels: bool,
     pub reject_broken_elfs: bool,
@@ -26,7 +26,7 @@ pub struct Config {
 
 // What a load needs of a file that passed the checks. `start` and `length` are the text's place in
 // the file, 0 for a text without bytes; `addr` is its address in the machine.
-#[derive(Clone, Copy)]
+#[derive(Clone, Copy, PartialEq, Eq, Debug)]
 pub struct Job {
     pub version2: bool,
     pub labels: bool,
