@@ -10,7 +10,7 @@ use crate::elf64::Elf64;
 use crate::error::ElfParserError;
 use crate::program_headers::header_for_vaddr;
 use crate::records::{Entries, NO_ENTRIES, slice_from_bytes, symbol_table_in};
-use crate::types::{Elf64Dyn, Elf64Phdr, Elf64Shdr, Record, nth_record};
+use crate::types::{Elf64Dyn, Elf64Phdr, Elf64Rel, Elf64Rela, Elf64Shdr, Record, nth_record};
 
 // The two header tables.
 #[derive(Clone, Copy, PartialEq, Eq, Debug)]
@@ -59,7 +59,7 @@ fn table_by_segment(file: &[u8], t: Tables) -> Result<Entries, ElfParserError>
         |h: Elf64Phdr| h.p_type == PT_DYNAMIC,
     ) {
         None => Err(ElfParserError::InvalidDynamicSectionTable),
-        Some(h) => slice_from_bytes(file.len() as u64, h.p_offset, h.p_filesz, 16),
+        Some(h) => slice_from_bytes::<Elf64Dyn>(file.len() as u64, h.p_offset, h.p_filesz),
     }
 }
 
@@ -75,7 +75,7 @@ fn table_by_section(file: &[u8], t: Tables) -> Result<Entries, ElfParserError>
         |h: Elf64Shdr| h.sh_type == SHT_DYNAMIC,
     ) {
         None => Ok(NO_ENTRIES),
-        Some(h) => match slice_from_bytes(file.len() as u64, h.sh_offset, h.sh_size, 16) {
+        Some(h) => match slice_from_bytes::<Elf64Dyn>(file.len() as u64, h.sh_offset, h.sh_size) {
             Ok(entries) => Ok(entries),
             Err(_) => Err(ElfParserError::InvalidDynamicSectionTable),
         },
@@ -135,15 +135,14 @@ fn relocation_offset(file: &[u8], t: Tables, vaddr: u64) -> Result<Option<u64>, 
     }
 }
 
-// Whether a table's entries, `width` bytes each, end past `len`.
-fn ends_past(len: u64, table: Entries, width: u64) -> bool
-    requires { 0 < width }
-    ensures { result ≡ ltb len (table.offset + width * table.count) }
+// Whether a table of `T` ends past `len`.
+fn ends_past<T: Record>(len: u64, table: Entries) -> bool
+    ensures { result ≡ ltb len (table.offset + T.SIZE * table.count) }
 {
     if len < table.offset {
         return true;
     }
-    (len - table.offset) / width < table.count
+    (len - table.offset) / (T::SIZE as u64) < table.count
 }
 
 impl Elf64<'_> {
@@ -158,56 +157,53 @@ impl Elf64<'_> {
             section_headers: self.layout.section_headers,
         };
         let len = self.file.len() as u64;
-        if ends_past(len, t.program_headers, 56) {
+        if ends_past::<Elf64Phdr>(len, t.program_headers) {
             return Err(ElfParserError::OutOfBounds);
         }
-        if ends_past(len, t.section_headers, 64) {
+        if ends_past::<Elf64Shdr>(len, t.section_headers) {
             return Err(ElfParserError::OutOfBounds);
         }
         relocation_offset(self.file, t, vaddr)
     }
 }
 
-// The relocations of `width` bytes each that fill `size` bytes from `offset` on.
+// The relocations of one kind that fill `size` bytes from `offset` on.
 #[tactic(auto, using(ebpf::specs::Choice::choices), unfolding(crate::specs::Dynamic::relocations_at))]
-fn relocations_at(len: u64, offset: u64, size: u64, width: u64) -> Result<Entries, ElfParserError>
-    requires { 0 < width }
-    ensures { result ≡ relocations_at len offset size width }
+fn relocations_at<T: Record>(len: u64, offset: u64, size: u64) -> Result<Entries, ElfParserError>
+    ensures { result ≡ relocations_at len offset size T.SIZE }
 {
     if u64::MAX - offset < size {
         return Err(ElfParserError::OutOfBounds);
     }
-    match slice_from_bytes(len, offset, size, width) {
+    match slice_from_bytes::<T>(len, offset, size) {
         Ok(entries) => Ok(entries),
         Err(_) => Err(ElfParserError::InvalidDynamicSectionTable),
     }
 }
 
-// The relocations of one kind, `width` bytes each, by the values of its three tags: address, size and
-// size of an entry. None where the address is 0.
+// The relocations of one kind by the values of its three tags: address, size and size of an entry. None where the address is 0.
 #[tactic(auto, using(ebpf::specs::Choice::choices), unfolding(crate::specs::Dynamic::relocations_of, crate::specs::Dynamic::relocations_by))]
-fn relocations(
+fn relocations<T: Record>(
     file: &[u8],
     t: Tables,
-    width: u64,
     vaddr: u64,
     size: u64,
     entry_size: u64,
 ) -> Result<Entries, ElfParserError>
-    requires { Inside (length file.now) t × (0 < width) }
-    ensures { result ≡ relocations_of file.now t width vaddr size entry_size }
+    requires { Inside (length file.now) t }
+    ensures { result ≡ relocations_of file.now t T.SIZE vaddr size entry_size }
 {
     if vaddr == 0 {
         return Ok(NO_ENTRIES);
     }
-    if entry_size != width {
+    if entry_size != T::SIZE as u64 {
         return Err(ElfParserError::InvalidDynamicSectionTable);
     }
     if size == 0 {
         return Err(ElfParserError::InvalidDynamicSectionTable);
     }
     match relocation_offset(file, t, vaddr)? {
-        Some(offset) => relocations_at(file.len() as u64, offset, size, width),
+        Some(offset) => relocations_at::<T>(file.len() as u64, offset, size),
         None => Err(ElfParserError::InvalidDynamicSectionTable),
     }
 }
@@ -232,18 +228,16 @@ fn linked_by(file: &[u8], t: Tables, values: &[u64; DT_NUM]) -> Result<Linked, E
     requires { Inside (length file.now) t }
     ensures { result ≡ linked_by file.now t values.now }
 {
-    let relocations_found = relocations(
+    let relocations_found = relocations::<Elf64Rel>(
         file,
         t,
-        16,
         values[DT_REL],
         values[DT_RELSZ],
         values[DT_RELENT],
     )?;
-    let relas = relocations(
+    let relas = relocations::<Elf64Rela>(
         file,
         t,
-        24,
         values[DT_RELA],
         values[DT_RELASZ],
         values[DT_RELAENT],

@@ -3,6 +3,7 @@ ghost use Rattle.std.specs.Prelude.{◌≡◌};
 ghost use Rattle.elf_parser.specs.FileHeader.{header_right, header_check, tables_check};
 
 use crate::error::ElfParserError;
+use crate::types::{Elf64Phdr, Elf64Shdr, Record};
 use ebpf::little_endian::read;
 
 // Whether the fields of the file header are those of a file that is read here. The tests are
@@ -46,7 +47,7 @@ pub(crate) fn check_tables(
 ) -> Result<(), ElfParserError>
     ensures { result ≡ tables_check len e_phoff e_phnum e_shoff e_shnum }
 {
-    let phsize = (e_phnum as u64) * 56;
+    let phsize = e_phnum as u64 * Elf64Phdr::SIZE as u64;
     if u64::MAX - e_phoff < phsize {
         return Err(ElfParserError::OutOfBounds);
     }
@@ -60,7 +61,7 @@ pub(crate) fn check_tables(
     if 0 < e_phoff % 8 {
         return Err(ElfParserError::InvalidAlignment);
     }
-    let shsize = (e_shnum as u64) * 64;
+    let shsize = e_shnum as u64 * Elf64Shdr::SIZE as u64;
     if u64::MAX - e_shoff < shsize {
         return Err(ElfParserError::OutOfBounds);
     }

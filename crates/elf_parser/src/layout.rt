@@ -10,7 +10,7 @@ use crate::program_headers::check_program_headers;
 use crate::records::Entries;
 use crate::section_headers::{Ranges, check_section_headers};
 use crate::section_names::{Named, find_named};
-use crate::types::{Elf64Ehdr, Elf64Shdr, file_header, record_at};
+use crate::types::{Elf64Ehdr, Elf64Phdr, Elf64Shdr, Record, file_header, record_at};
 
 // Where things stand in a file: plain numbers. A section header that was found by name, or is the
 // name table's, is given by its offset in the file. The hash table of the dynamic
@@ -73,9 +73,9 @@ fn check_file(file: &[u8]) -> Result<(), ElfParserError>
     check_program_headers(file, tables.program_headers)?;
     let t = Ranges {
         phoff: e_phoff,
-        phend: e_phoff + e_phnum as u64 * 56,
+        phend: e_phoff + e_phnum as u64 * Elf64Phdr::SIZE as u64,
         shoff: e_shoff,
-        shend: e_shoff + e_shnum as u64 * 64,
+        shend: e_shoff + e_shnum as u64 * Elf64Shdr::SIZE as u64,
     };
     check_section_headers(file, tables.section_headers, t)
 }
@@ -110,7 +110,7 @@ fn named_layout(file: &[u8], h: Elf64Ehdr) -> Result<Layout, ElfParserError>
     if h.e_shstrndx == 0 {
         return Err(ElfParserError::NoSectionNameStringTable);
     }
-    let names = h.e_shoff + h.e_shstrndx as u64 * 64;
+    let names = h.e_shoff + h.e_shstrndx as u64 * Elf64Shdr::SIZE as u64;
     let tables = header_tables(h);
     let n = find_named(
         file,

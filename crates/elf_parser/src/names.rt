@@ -7,7 +7,7 @@ use crate::elf64::Elf64;
 use crate::error::ElfParserError;
 use crate::parts::{Place, past};
 use crate::strings::get_string_in_section;
-use crate::types::record_at;
+use crate::types::{Elf64Shdr, Record, record_at};
 
 // The name at `offset` of the string table whose header stands at `header_at`; `missing` where
 // there is no such header.
@@ -22,7 +22,7 @@ fn name_by(
     ensures { result ≡ name_by file.now header_at offset most missing }
 {
     let at = header_at.ok_or(missing)?;
-    if past(file.len() as u64, at, 64) {
+    if past(file.len() as u64, at, Elf64Shdr::SIZE as u64) {
         return Err(ElfParserError::OutOfBounds);
     }
     get_string_in_section(file, record_at(file, at as usize), offset, most)

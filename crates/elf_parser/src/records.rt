@@ -23,12 +23,12 @@ pub const NO_ENTRIES: Entries = Entries {
     count: 0,
 };
 
-// Where the entry number `index` of a table starts, whose entries have `width` bytes.
+// Where the entry number `index` of a table of `T` starts.
 #[tactic(auto, using(ebpf::specs::Choice::choices), unfolding(crate::specs::Records::entry_at))]
-fn entry_at(len: u64, table: Entries, width: u64, index: u32) -> Result<usize, ElfParserError>
-    requires { width ≤ 64 }
-    ensures { result ≡ entry_at len table width index }
+fn entry_at<T: Record>(len: u64, table: Entries, index: u32) -> Result<usize, ElfParserError>
+    ensures { result ≡ entry_at len table T.SIZE index }
 {
+    let width = T::SIZE as u64;
     if table.count <= index as u64 {
         return Err(ElfParserError::NoSuchIndex);
     }
@@ -44,21 +44,20 @@ fn entry_at(len: u64, table: Entries, width: u64, index: u32) -> Result<usize, E
 pub fn entry<T: Record>(file: &[u8], table: Entries, index: u32) -> Result<T, ElfParserError>
     ensures { result ≡ entry_of T.SIZE T.at file.now table index }
 {
-    let at = entry_at(file.len() as u64, table, T::SIZE as u64, index)?;
+    let at = entry_at::<T>(file.len() as u64, table, index)?;
     Ok(record_at(file, at))
 }
 
-// Entries of `width` bytes that fill `size` bytes from `offset` on.
+// Records of `T` that fill `size` bytes from `offset` on.
 #[tactic(auto, using(ebpf::specs::Choice::choices), unfolding(crate::specs::Records::sliced))]
-pub(crate) fn slice_from_bytes(
+pub(crate) fn slice_from_bytes<T: Record>(
     len: u64,
     offset: u64,
     size: u64,
-    width: u64,
 ) -> Result<Entries, ElfParserError>
-    requires { 0 < width }
-    ensures { result ≡ sliced len offset size width }
+    ensures { result ≡ sliced len offset size T.SIZE }
 {
+    let width = T::SIZE as u64;
     if u64::MAX - offset < size {
         return Err(ElfParserError::OutOfBounds);
     }
@@ -85,7 +84,7 @@ pub(crate) fn symbol_table_in(len: u64, header: Elf64Shdr) -> Result<Entries, El
     if (header.sh_type != SHT_SYMTAB) & (header.sh_type != SHT_DYNSYM) {
         return Err(ElfParserError::InvalidSectionHeader);
     }
-    slice_from_bytes(len, header.sh_offset, header.sh_size, 24)
+    slice_from_bytes::<Elf64Sym>(len, header.sh_offset, header.sh_size)
 }
 
 // A section of type SHT_NOBITS has no bytes in the file.
@@ -160,7 +159,7 @@ impl<'a> Elf64<'a> {
             return Ok(NO_ENTRIES);
         };
         let len = self.file.len() as u64;
-        if past(len, header_at, 64) {
+        if past(len, header_at, Elf64Shdr::SIZE as u64) {
             return Err(ElfParserError::OutOfBounds);
         }
         symbol_table_in(len, record_at(self.file, header_at as usize))
