@@ -3,7 +3,7 @@ ghost use Rattle.std.specs.Prelude.{◌≡◌, ◌+◌, ◌*◌, length};
 ghost use Rattle.elf_parser.specs.Parse.{Room, tables_of, first_check, file_check, linked_layout, named_layout, parsed};
 
 use crate::consts::SHT_NULL;
-use crate::dynamic::{Tables, parse_dynamic};
+use crate::dynamic::{HeaderTables, Tables};
 use crate::error::ElfParserError;
 use crate::header::{check_header, check_tables};
 use crate::program_headers::check_program_headers;
@@ -68,16 +68,16 @@ fn check_file(file: &[u8]) -> Result<(), ElfParserError>
     let e_shoff = h.e_shoff;
     let e_shnum = h.e_shnum;
     check_tables(file.len() as u64, e_phoff, e_phnum, e_shoff, e_shnum)?;
-    let tables = header_tables(h);
+    let tables = HeaderTables::new(file, header_tables(h));
     check_first(record_at(file, e_shoff as usize))?;
-    check_program_headers(file, tables.program_headers)?;
+    check_program_headers(&tables.program_headers())?;
     let t = Ranges {
         phoff: e_phoff,
         phend: e_phoff + e_phnum as u64 * Elf64Phdr::SIZE as u64,
         shoff: e_shoff,
         shend: e_shoff + e_shnum as u64 * Elf64Shdr::SIZE as u64,
     };
-    check_section_headers(file, tables.section_headers, t)
+    check_section_headers(&tables.section_headers(), t)
 }
 
 // With the named sections found, the dynamic part.
@@ -86,7 +86,7 @@ fn linked_layout(file: &[u8], h: Elf64Ehdr, names: u64, n: Named) -> Result<Layo
     ensures { result ≡ linked_layout file.now h names n }
 {
     let tables = header_tables(h);
-    let d = parse_dynamic(file, tables)?;
+    let d = HeaderTables::new(file, tables).parse_dynamic()?;
     Ok(Layout {
         program_headers: tables.program_headers,
         section_headers: tables.section_headers,
@@ -111,12 +111,8 @@ fn named_layout(file: &[u8], h: Elf64Ehdr) -> Result<Layout, ElfParserError>
         return Err(ElfParserError::NoSectionNameStringTable);
     }
     let names = h.e_shoff + h.e_shstrndx as u64 * Elf64Shdr::SIZE as u64;
-    let tables = header_tables(h);
-    let n = find_named(
-        file,
-        record_at(file, names as usize),
-        tables.section_headers,
-    )?;
+    let tables = HeaderTables::new(file, header_tables(h));
+    let n = find_named(record_at(file, names as usize), &tables.section_headers())?;
     linked_layout(file, h, names, n)
 }
 

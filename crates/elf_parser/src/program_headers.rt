@@ -1,11 +1,11 @@
 // The program headers: PT_LOAD's checks, and the one that contains an address.
-ghost use Rattle.std.specs.Prelude.{◌≡◌, ◌+◌, ◌*◌, ◌≤◌, length};
+ghost use Rattle.std.specs.Prelude.{◌≡◌};
 ghost use Rattle.elf_parser.specs.ProgramHeaders.{load_step, loads_check, contains_step, header_for_vaddr};
 
 use crate::consts::PT_LOAD;
 use crate::error::ElfParserError;
-use crate::records::Entries;
-use crate::types::{Elf64Phdr, nth_record, over_records};
+use crate::table::Table;
+use crate::types::Elf64Phdr;
 
 // The checks of one program header; `low` is the address of the last PT_LOAD header before it. What it
 // answers is that of the next.
@@ -29,14 +29,11 @@ fn load_step(len: u64, h: Elf64Phdr, low: u64) -> Result<u64, ElfParserError>
 }
 
 // All program headers.
-pub(crate) fn check_program_headers(file: &[u8], table: Entries) -> Result<(), ElfParserError>
-    requires { table.offset + 56 * table.count ≤ length file.now }
-    ensures { result ≡ loads_check file.now table.count table.offset }
+pub(crate) fn check_program_headers(table: &Table<'_, Elf64Phdr>) -> Result<(), ElfParserError>
+    ensures { result ≡ loads_check table.now.file.now table.now.count table.now.offset }
 {
-    let len = file.len() as u64;
-    over_records(file, table, 0, |_, h: Elf64Phdr, low| {
-        load_step(len, h, low)
-    })?;
+    let len = table.file.len() as u64;
+    table.over(0, |_, h, low| load_step(len, h, low))?;
     Ok(())
 }
 
@@ -63,15 +60,13 @@ fn contains_step(h: Elf64Phdr, vaddr: u64) -> Result<Option<u64>, ElfParserError
 
 // The first program header that contains the address decides.
 pub(crate) fn header_for_vaddr(
-    file: &[u8],
-    table: Entries,
+    table: &Table<'_, Elf64Phdr>,
     vaddr: u64,
 ) -> Result<Option<u64>, ElfParserError>
-    requires { table.offset + 56 * table.count ≤ length file.now }
-    ensures { result ≡ header_for_vaddr file.now vaddr table.count table.offset }
+    ensures { result ≡ header_for_vaddr table.now.file.now vaddr table.now.count table.now.offset }
 {
     for i in 0..table.count {
-        if let Some(offset) = contains_step(nth_record(file, table, i), vaddr)? {
+        if let Some(offset) = contains_step(table.nth(i), vaddr)? {
             return Ok(Some(offset));
         }
     }

@@ -1,12 +1,12 @@
 // The sections that have bytes in the file: they ascend there, lie in it, and are apart from the
 // file header and both tables.
-ghost use Rattle.std.specs.Prelude.{◌≡◌, ◌+◌, ◌*◌, ◌≤◌, length};
+ghost use Rattle.std.specs.Prelude.{◌≡◌};
 ghost use Rattle.elf_parser.specs.SectionHeaders.{section_check, section_step, sections_check};
 
 use crate::consts::SHT_NOBITS;
 use crate::error::ElfParserError;
-use crate::records::Entries;
-use crate::types::{Elf64Shdr, over_records};
+use crate::table::Table;
+use crate::types::Elf64Shdr;
 
 // Where the two header tables stand.
 #[derive(Clone, Copy, PartialEq, Eq, Debug)]
@@ -64,16 +64,12 @@ fn section_step(len: u64, h: Elf64Shdr, low: u64, t: Ranges) -> Result<u64, ElfP
 
 // All section headers.
 pub(crate) fn check_section_headers(
-    file: &[u8],
-    table: Entries,
+    table: &Table<'_, Elf64Shdr>,
     t: Ranges,
 ) -> Result<(), ElfParserError>
-    requires { table.offset + 64 * table.count ≤ length file.now }
-    ensures { result ≡ sections_check file.now t table.count table.offset }
+    ensures { result ≡ sections_check table.now.file.now t table.now.count table.now.offset }
 {
-    let len = file.len() as u64;
-    over_records(file, table, 0, |_, h: Elf64Shdr, low| {
-        section_step(len, h, low, t)
-    })?;
+    let len = table.file.len() as u64;
+    table.over(0, |_, h, low| section_step(len, h, low, t))?;
     Ok(())
 }
