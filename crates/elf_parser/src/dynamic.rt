@@ -1,6 +1,6 @@
 // The dynamic table: where it stands, its 35 values, and what they lead to.
 ghost use Rattle.std.specs.Prelude.{◌≡◌, ◌+◌, ◌*◌, ltb, length};
-ghost use Rattle.elf_parser.specs.Dynamic.{Inside, from_segment, from_section, dynamic_table, with_tag, dynamic_values, relocation_offset, file_offset, relocations_at, relocations_of, symbols_of, linked_by, dynamic_of};
+ghost use Rattle.elf_parser.specs.Dynamic.{Inside, section_with_addr, from_segment, from_section, dynamic_table, with_tag, dynamic_values, relocation_offset, file_offset, relocations_at, relocations_of, symbols_of, linked_by, dynamic_of};
 
 use crate::consts::{
     DT_HASH, DT_NULL, DT_NUM, DT_REL, DT_RELA, DT_RELAENT, DT_RELASZ, DT_RELENT, DT_RELSZ,
@@ -61,13 +61,8 @@ fn dynamic_values(table: &Table<'_, Elf64Dyn>) -> [u64; DT_NUM]
 fn relocations_at<T: Record>(len: u64, offset: u64, size: u64) -> Result<Entries, ElfParserError>
     ensures { result ≡ relocations_at len offset size T.SIZE }
 {
-    if u64::MAX - offset < size {
-        return Err(ElfParserError::OutOfBounds);
-    }
-    match slice_from_bytes::<T>(len, offset, size) {
-        Ok(entries) => Ok(entries),
-        Err(_) => Err(ElfParserError::InvalidDynamicSectionTable),
-    }
+    offset.checked_add(size).ok_or(ElfParserError::OutOfBounds)?;
+    slice_from_bytes::<T>(len, offset, size).map_err(|_| ElfParserError::InvalidDynamicSectionTable)
 }
 
 // The header tables of a file, which lie in it.
@@ -103,13 +98,11 @@ impl<'a> HeaderTables<'a> {
     fn table_by_segment(&self) -> Result<Entries, ElfParserError>
         ensures { result ≡ from_segment self.now.file.now self.now.tables }
     {
-        match self
+        let h = self
             .program_headers()
             .first_with(|h| h.p_type == PT_DYNAMIC)
-        {
-            None => Err(ElfParserError::InvalidDynamicSectionTable),
-            Some(h) => slice_from_bytes::<Elf64Dyn>(self.file.len() as u64, h.p_offset, h.p_filesz),
-        }
+            .ok_or(ElfParserError::InvalidDynamicSectionTable)?;
+        slice_from_bytes::<Elf64Dyn>(self.file.len() as u64, h.p_offset, h.p_filesz)
     }
 
     // The dynamic table by the first SHT_DYNAMIC header: no entries where there is none.
@@ -122,17 +115,15 @@ impl<'a> HeaderTables<'a> {
             .first_with(|h| h.sh_type == SHT_DYNAMIC)
         {
             None => Ok(NO_ENTRIES),
-            Some(h) => match slice_from_bytes::<Elf64Dyn>(
+            Some(h) => slice_from_bytes::<Elf64Dyn>(
                 self.file.len() as u64,
                 h.sh_offset,
                 h.sh_size,
-            ) {
-                Ok(entries) => Ok(entries),
-                Err(_) => Err(ElfParserError::InvalidDynamicSectionTable),
-            },
+            ).map_err(|_| ElfParserError::InvalidDynamicSectionTable),
         }
     }
 
+    // Kept: `or_else` was tried, and the proof didn't close: nothing is known of what its closure gives.
     #[tactic(auto, using(ebpf::specs::Choice::choices), unfolding(crate::specs::Dynamic::or_else))]
     fn dynamic_table(&self) -> Result<Entries, ElfParserError>
         ensures { result ≡ dynamic_table self.now.file.now self.now.tables }
@@ -143,6 +134,13 @@ impl<'a> HeaderTables<'a> {
         }
     }
 
+    // The first section header with an address.
+    fn section_with_addr(&self, vaddr: u64) -> Option<Elf64Shdr>
+        ensures { result ≡ section_with_addr self.now.file.now self.now.tables vaddr }
+    {
+        self.section_headers().first_with(|h| h.sh_addr == vaddr)
+    }
+
     // Where what has an address starts in the file: by the first program header that contains it, else by
     // the first section header with that address.
     fn relocation_offset(&self, vaddr: u64) -> Result<Option<u64>, ElfParserError>
@@ -151,10 +149,7 @@ impl<'a> HeaderTables<'a> {
         if let Some(offset) = header_for_vaddr(&self.program_headers(), vaddr)? {
             return Ok(Some(offset));
         }
-        match self.section_headers().first_with(|h| h.sh_addr == vaddr) {
-            Some(h) => Ok(Some(h.sh_offset)),
-            None => Ok(None),
-        }
+        Ok(self.section_with_addr(vaddr).map(|h| h.sh_offset))
     }
 
     // The relocations of one kind by the values of its three tags: address, size and size of an entry.
@@ -177,10 +172,10 @@ impl<'a> HeaderTables<'a> {
         if size == 0 {
             return Err(ElfParserError::InvalidDynamicSectionTable);
         }
-        match self.relocation_offset(vaddr)? {
-            Some(offset) => relocations_at::<T>(self.file.len() as u64, offset, size),
-            None => Err(ElfParserError::InvalidDynamicSectionTable),
-        }
+        let offset = self
+            .relocation_offset(vaddr)?
+            .ok_or(ElfParserError::InvalidDynamicSectionTable)?;
+        relocations_at::<T>(self.file.len() as u64, offset, size)
     }
 
     // The dynamic symbols by the value of DT_SYMTAB: none where it is 0.
@@ -191,10 +186,10 @@ impl<'a> HeaderTables<'a> {
         if vaddr == 0 {
             return Ok(NO_ENTRIES);
         }
-        match self.section_headers().first_with(|h| h.sh_addr == vaddr) {
-            Some(h) => symbol_table_in(self.file.len() as u64, h),
-            None => Err(ElfParserError::InvalidDynamicSectionTable),
-        }
+        let h = self
+            .section_with_addr(vaddr)
+            .ok_or(ElfParserError::InvalidDynamicSectionTable)?;
+        symbol_table_in(self.file.len() as u64, h)
     }
 
     // What the values lead to: each table in turn, up to the first that is refused.

@@ -48,10 +48,9 @@ pub(crate) fn check_tables(
     ensures { result ≡ tables_check len e_phoff e_phnum e_shoff e_shnum }
 {
     let phsize = e_phnum as u64 * Elf64Phdr::SIZE as u64;
-    if u64::MAX - e_phoff < phsize {
-        return Err(ElfParserError::OutOfBounds);
-    }
-    let phend = e_phoff + phsize;
+    let phend = e_phoff
+        .checked_add(phsize)
+        .ok_or(ElfParserError::OutOfBounds)?;
     if (e_phoff < 64) & (0 < phend) {
         return Err(ElfParserError::Overlap);
     }
@@ -62,10 +61,9 @@ pub(crate) fn check_tables(
         return Err(ElfParserError::InvalidAlignment);
     }
     let shsize = e_shnum as u64 * Elf64Shdr::SIZE as u64;
-    if u64::MAX - e_shoff < shsize {
-        return Err(ElfParserError::OutOfBounds);
-    }
-    let shend = e_shoff + shsize;
+    let shend = e_shoff
+        .checked_add(shsize)
+        .ok_or(ElfParserError::OutOfBounds)?;
     if (e_shoff < 64) & (0 < shend) {
         return Err(ElfParserError::Overlap);
     }

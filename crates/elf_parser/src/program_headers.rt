@@ -4,6 +4,7 @@ ghost use Rattle.elf_parser.specs.ProgramHeaders.{load_step, loads_check, contai
 
 use crate::consts::PT_LOAD;
 use crate::error::ElfParserError;
+use crate::parts::past;
 use crate::table::Table;
 use crate::types::Elf64Phdr;
 
@@ -19,10 +20,7 @@ fn load_step(len: u64, h: Elf64Phdr, low: u64) -> Result<u64, ElfParserError>
     if h.p_vaddr < low {
         return Err(ElfParserError::InvalidProgramHeader);
     }
-    if u64::MAX - h.p_offset < h.p_filesz {
-        return Err(ElfParserError::OutOfBounds);
-    }
-    if len < h.p_offset + h.p_filesz {
+    if past(len, h.p_offset, h.p_filesz) {
         return Err(ElfParserError::OutOfBounds);
     }
     Ok(h.p_vaddr)
@@ -42,20 +40,20 @@ pub(crate) fn check_program_headers(table: &Table<'_, Elf64Phdr>) -> Result<(), 
 fn contains_step(h: Elf64Phdr, vaddr: u64) -> Result<Option<u64>, ElfParserError>
     ensures { result ≡ contains_step vaddr h }
 {
-    if u64::MAX - h.p_vaddr < h.p_memsz {
-        return Err(ElfParserError::OutOfBounds);
-    }
+    let end = h
+        .p_vaddr
+        .checked_add(h.p_memsz)
+        .ok_or(ElfParserError::OutOfBounds)?;
     if vaddr < h.p_vaddr {
         return Ok(None);
     }
-    if h.p_vaddr + h.p_memsz <= vaddr {
+    if end <= vaddr {
         return Ok(None);
     }
-    let inside = vaddr - h.p_vaddr;
-    if u64::MAX - inside < h.p_offset {
-        return Err(ElfParserError::OutOfBounds);
-    }
-    Ok(Some(inside + h.p_offset))
+    let offset = (vaddr - h.p_vaddr)
+        .checked_add(h.p_offset)
+        .ok_or(ElfParserError::OutOfBounds)?;
+    Ok(Some(offset))
 }
 
 // The first program header that contains the address decides.

@@ -58,13 +58,11 @@ pub(crate) fn slice_from_bytes<T: Record>(
     ensures { result ≡ sliced len offset size T.SIZE }
 {
     let width = T::SIZE as u64;
-    if u64::MAX - offset < size {
-        return Err(ElfParserError::OutOfBounds);
-    }
+    let end = offset.checked_add(size).ok_or(ElfParserError::OutOfBounds)?;
     if 0 < size % width {
         return Err(ElfParserError::InvalidSize);
     }
-    if len < offset + size {
+    if len < end {
         return Err(ElfParserError::OutOfBounds);
     }
     if 0 < offset % 8 {

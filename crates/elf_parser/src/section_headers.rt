@@ -28,10 +28,9 @@ fn check_section(
 ) -> Result<(), ElfParserError>
     ensures { result ≡ section_check len low t sh_offset sh_size }
 {
-    if u64::MAX - sh_offset < sh_size {
-        return Err(ElfParserError::OutOfBounds);
-    }
-    let end = sh_offset + sh_size;
+    let end = sh_offset
+        .checked_add(sh_size)
+        .ok_or(ElfParserError::OutOfBounds)?;
     if (0 < end) & (sh_offset < 64) {
         return Err(ElfParserError::Overlap);
     }
