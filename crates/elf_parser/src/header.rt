@@ -1,10 +1,11 @@
 // The file header's own checks, and the places of the two header tables.
 ghost use Rattle.std.specs.Prelude.{◌≡◌};
-ghost use Rattle.elf_parser.specs.FileHeader.{header_right, header_check, tables_check};
+ghost use Rattle.elf_parser.specs.FileHeader.{header_right, header_check, overlap, tables_check};
 
 use crate::error::ElfParserError;
 use crate::types::{Elf64Phdr, Elf64Shdr, Record};
 use ebpf::little_endian::read;
+use std::ops::Range;
 
 // Whether the fields of the file header are those of a file that is read here. The tests are
 // joined by & and not by &&: so they make no branches, and the proof has no cases.
@@ -36,6 +37,13 @@ pub(crate) fn check_header(file: &[u8]) -> Result<(), ElfParserError>
     Ok(())
 }
 
+// Whether two ranges share a byte, or one is empty and strictly inside the other.
+pub(crate) fn overlaps(a: Range<u64>, b: Range<u64>) -> bool
+    ensures { result ≡ overlap a.start a.end b.start b.end }
+{
+    (b.start < a.end) & (a.start < b.end)
+}
+
 // Both header tables, in the order of the Rust.
 #[tactic(auto, using(ebpf::specs::Choice::choices), unfolding(crate::specs::FileHeader::tables_check))]
 pub(crate) fn check_tables(
@@ -51,7 +59,7 @@ pub(crate) fn check_tables(
     let phend = e_phoff
         .checked_add(phsize)
         .ok_or(ElfParserError::OutOfBounds)?;
-    if (e_phoff < 64) & (0 < phend) {
+    if overlaps(0..64, e_phoff..phend) {
         return Err(ElfParserError::Overlap);
     }
     if len < phend {
@@ -64,10 +72,10 @@ pub(crate) fn check_tables(
     let shend = e_shoff
         .checked_add(shsize)
         .ok_or(ElfParserError::OutOfBounds)?;
-    if (e_shoff < 64) & (0 < shend) {
+    if overlaps(0..64, e_shoff..shend) {
         return Err(ElfParserError::Overlap);
     }
-    if (e_shoff < phend) & (e_phoff < shend) {
+    if overlaps(e_phoff..phend, e_shoff..shend) {
         return Err(ElfParserError::Overlap);
     }
     if len < shend {

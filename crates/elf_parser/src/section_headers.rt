@@ -1,10 +1,11 @@
 // The sections that have bytes in the file: they ascend there, lie in it, and are apart from the
 // file header and both tables.
 ghost use Rattle.std.specs.Prelude.{◌≡◌};
-ghost use Rattle.elf_parser.specs.SectionHeaders.{section_check, section_step, sections_check};
+ghost use Rattle.elf_parser.specs.SectionHeaders.{section_step, sections_check};
 
 use crate::consts::SHT_NOBITS;
 use crate::error::ElfParserError;
+use crate::header::overlaps;
 use crate::table::Table;
 use crate::types::Elf64Shdr;
 
@@ -17,27 +18,26 @@ pub struct Ranges {
     pub shend: u64,
 }
 
-// The checks of one section, by its place; `low` is where the last section before it ends.
-#[tactic(auto, using(ebpf::specs::Choice::choices), unfolding(crate::specs::SectionHeaders::section_check))]
-fn check_section(
-    len: u64,
-    low: u64,
-    t: Ranges,
-    sh_offset: u64,
-    sh_size: u64,
-) -> Result<(), ElfParserError>
-    ensures { result ≡ section_check len low t sh_offset sh_size }
+// The checks of one section, whose bytes are apart from the file header and both tables and behind those of the
+// section before, which end at `low`. What it answers is where the next section may begin.
+#[tactic(auto, using(ebpf::specs::Choice::choices, crate::specs::Errors::row_stops, crate::specs::Errors::row_goes), unfolding(crate::specs::SectionHeaders::section_step, crate::specs::SectionHeaders::section_check))]
+fn section_step(len: u64, h: Elf64Shdr, low: u64, t: Ranges) -> Result<u64, ElfParserError>
+    ensures { result ≡ section_step len t h low }
 {
+    if h.sh_type == SHT_NOBITS {
+        return Ok(low);
+    }
+    let sh_offset = h.sh_offset;
     let end = sh_offset
-        .checked_add(sh_size)
+        .checked_add(h.sh_size)
         .ok_or(ElfParserError::OutOfBounds)?;
-    if (0 < end) & (sh_offset < 64) {
+    if overlaps(sh_offset..end, 0..64) {
         return Err(ElfParserError::Overlap);
     }
-    if (t.phoff < end) & (sh_offset < t.phend) {
+    if overlaps(sh_offset..end, t.phoff..t.phend) {
         return Err(ElfParserError::Overlap);
     }
-    if (t.shoff < end) & (sh_offset < t.shend) {
+    if overlaps(sh_offset..end, t.shoff..t.shend) {
         return Err(ElfParserError::Overlap);
     }
     if sh_offset < low {
@@ -46,19 +46,7 @@ fn check_section(
     if len < end {
         return Err(ElfParserError::OutOfBounds);
     }
-    Ok(())
-}
-
-// What it answers is where the next section may begin.
-#[tactic(auto, using(ebpf::specs::Choice::choices, crate::specs::SectionHeaders::section_within), unfolding(crate::specs::SectionHeaders::section_step))]
-fn section_step(len: u64, h: Elf64Shdr, low: u64, t: Ranges) -> Result<u64, ElfParserError>
-    ensures { result ≡ section_step len t h low }
-{
-    if h.sh_type == SHT_NOBITS {
-        return Ok(low);
-    }
-    check_section(len, low, t, h.sh_offset, h.sh_size)?;
-    Ok(h.sh_offset + h.sh_size)
+    Ok(end)
 }
 
 // All section headers.
