@@ -8,9 +8,9 @@ use crate::error::ElfParserError;
 use crate::header::{check_header, check_tables};
 use crate::program_headers::check_program_headers;
 use crate::records::Entries;
-use crate::section_headers::{Ranges, check_section_headers};
+use crate::section_headers::check_section_headers;
 use crate::section_names::{Named, find_named};
-use crate::types::{Elf64Ehdr, Elf64Phdr, Elf64Shdr, Record, file_header, record_at};
+use crate::types::{Elf64Ehdr, Elf64Shdr, Record, file_header, record_at};
 
 // Where things stand in a file: plain numbers. A section header that was found by name, or is the
 // name table's, is given by its offset in the file. The hash table of the dynamic
@@ -63,21 +63,11 @@ fn check_file(file: &[u8]) -> Result<(), ElfParserError>
 {
     check_header(file)?;
     let h = file_header(file);
-    let e_phoff = h.e_phoff;
-    let e_phnum = h.e_phnum;
-    let e_shoff = h.e_shoff;
-    let e_shnum = h.e_shnum;
-    check_tables(file.len() as u64, e_phoff, e_phnum, e_shoff, e_shnum)?;
+    let ranges = check_tables(file.len() as u64, h)?;
     let tables = HeaderTables::new(file, header_tables(h));
-    check_first(record_at(file, e_shoff as usize))?;
+    check_first(record_at(file, h.e_shoff as usize))?;
     check_program_headers(&tables.program_headers())?;
-    let t = Ranges {
-        phoff: e_phoff,
-        phend: e_phoff + e_phnum as u64 * Elf64Phdr::SIZE as u64,
-        shoff: e_shoff,
-        shend: e_shoff + e_shnum as u64 * Elf64Shdr::SIZE as u64,
-    };
-    check_section_headers(&tables.section_headers(), t)
+    check_section_headers(&tables.section_headers(), ranges)
 }
 
 // With the named sections found, the dynamic part.
