@@ -9,7 +9,7 @@ use crate::consts::{
 use crate::elf64::Elf64;
 use crate::error::ElfParserError;
 use crate::program_headers::header_for_vaddr;
-use crate::records::{Entries, NO_ENTRIES, slice_from_bytes, symbol_table_in};
+use crate::records::{Entries, slice_from_bytes, symbol_table_in};
 use crate::table::Table;
 use crate::types::{Elf64Dyn, Elf64Phdr, Elf64Rel, Elf64Rela, Elf64Shdr, Record};
 
@@ -114,7 +114,7 @@ impl<'a> HeaderTables<'a> {
             .section_headers()
             .first_with(|h| h.sh_type == SHT_DYNAMIC)
         {
-            None => Ok(NO_ENTRIES),
+            None => Ok(Entries::default()),
             Some(h) => slice_from_bytes::<Elf64Dyn>(
                 self.file.len() as u64,
                 h.sh_offset,
@@ -164,7 +164,7 @@ impl<'a> HeaderTables<'a> {
         ensures { result ≡ relocations_of self.now.file.now self.now.tables T.SIZE vaddr size entry_size }
     {
         if vaddr == 0 {
-            return Ok(NO_ENTRIES);
+            return Ok(Entries::default());
         }
         if entry_size != T::SIZE as u64 {
             return Err(ElfParserError::InvalidDynamicSectionTable);
@@ -184,7 +184,7 @@ impl<'a> HeaderTables<'a> {
         ensures { result ≡ symbols_of self.now.file.now self.now.tables vaddr }
     {
         if vaddr == 0 {
-            return Ok(NO_ENTRIES);
+            return Ok(Entries::default());
         }
         let h = self
             .section_with_addr(vaddr)

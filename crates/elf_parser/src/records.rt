@@ -11,7 +11,7 @@ use crate::parts::{Place, part_of, past};
 use crate::types::{Elf64Phdr, Elf64Rel, Elf64Rela, Elf64Shdr, Elf64Sym, Record, record_at};
 
 // Entries of one kind that stand one after another in the file.
-#[derive(Clone, Copy, PartialEq, Eq, Debug)]
+#[derive(Clone, Copy, PartialEq, Eq, Debug, Default)]
 pub struct Entries {
     pub offset: u64,
     pub count: u64,
@@ -154,7 +154,7 @@ impl<'a> Elf64<'a> {
         ensures { result ≡ symbol_table_of self.now.file.now self.now.layout }
     {
         let Some(header_at) = self.layout.symtab else {
-            return Ok(NO_ENTRIES);
+            return Ok(Entries::default());
         };
         let len = self.file.len() as u64;
         if past(len, header_at, Elf64Shdr::SIZE as u64) {

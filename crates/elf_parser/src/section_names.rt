@@ -18,7 +18,7 @@ pub enum Role {
 }
 
 // Where the headers of those sections stand in the file.
-#[derive(Clone, Copy, PartialEq, Eq, Debug)]
+#[derive(Clone, Copy, PartialEq, Eq, Debug, Default)]
 pub struct Named {
     pub symtab: Option<u64>,
     pub strtab: Option<u64>,
@@ -95,11 +95,9 @@ pub(crate) fn find_named(
 ) -> Result<Named, ElfParserError>
     ensures { result ≡ names_of table.now.file.now names table.now.count table.now.offset }
 {
-    let none = Named {
-        symtab: None,
-        strtab: None,
-        dynstr: None,
-    };
     let file = table.file;
-    table.over(none, |at, h, n| name_step(file, names, h, at, n))
+    table.over(
+        Named::default(),
+        |at, h, n| name_step(file, names, h, at, n),
+    )
 }

@@ -29,7 +29,7 @@ pub struct Elf64Phdr {
     pub p_memsz: u64,
 }
 
-#[derive(Clone, Copy, PartialEq, Eq, Debug)]
+#[derive(Clone, Copy, PartialEq, Eq, Debug, Default)]
 pub struct Elf64Shdr {
     pub sh_name: u32,
     pub sh_type: u32,
