@@ -1,6 +1,7 @@
 // Records by index, and the contents of sections, for any numbers: also for a layout that no parse
 // made.
-ghost use Rattle.std.specs.Prelude.{◌≡◌, ◌+◌, ◌≤◌, ◌<◌};
+ghost use Rattle.std.specs.Prelude.{◌≡◌, ◌+◌, ◌≤◌, ◌<◌, length, MatchResult};
+ghost use Rattle.elf_parser.specs.declared.error.ElfParserError.TheVariants.{OutOfBounds};
 ghost use Rattle.elf_parser.specs.Records.{entry_at, entry_of, program_header_of, section_header_of, dynamic_symbol_of, dynamic_relocation_of, dynamic_rela_of, sliced, symbol_table_in, symbol_table_of, file_range, file_range_of, contents_place, section_place_of};
 ghost use Rattle.elf_parser.specs.Parts.{part_of};
 
@@ -46,6 +47,16 @@ pub fn entry<T: Record>(file: &[u8], table: Entries, index: u32) -> Result<T, El
 {
     let at = entry_at::<T>(file.len() as u64, table, index)?;
     Ok(record_at(file, at))
+}
+
+// The record at a place that need not lie in the file.
+pub(crate) fn record_in<T: Record>(file: &[u8], at: u64) -> Result<T, ElfParserError>
+    ensures { MatchResult result (λ x. (at + T.SIZE ≤ length file.now) × (x ≡ T.at file.now at)) (λ r. (length file.now < at + T.SIZE) × (r ≡ OutOfBounds)) }
+{
+    if past(file.len() as u64, at, T::SIZE as u64) {
+        return Err(ElfParserError::OutOfBounds);
+    }
+    Ok(record_at(file, at as usize))
 }
 
 // Records of `T` that fill `size` bytes from `offset` on.
@@ -156,15 +167,12 @@ impl<'a> Elf64<'a> {
         let Some(header_at) = self.layout.symtab else {
             return Ok(Entries::default());
         };
-        let len = self.file.len() as u64;
-        if past(len, header_at, Elf64Shdr::SIZE as u64) {
-            return Err(ElfParserError::OutOfBounds);
-        }
-        symbol_table_in(len, record_at(self.file, header_at as usize))
+        symbol_table_in(self.file.len() as u64, record_in(self.file, header_at)?)
     }
 
     // Where the bytes of section `index` stand in the file.
-    // Kept: two lines that `section_place` has too, with another check; a function over the check would have more.
+    // Kept: `section_place` has the same two lines with another check; one function that takes the check is no
+    // plainer, since its contract has to name what the check answers.
     pub fn file_range(&self, index: u32) -> Result<Place, ElfParserError>
         ensures { result ≡ file_range_of self.now.file.now self.now.layout index }
     {
