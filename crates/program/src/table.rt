@@ -80,7 +80,8 @@ impl FunctionTable<'_> {
 // The number of the row under a key, as `lookup_ascending` finds it, by the column of keys alone: the
 // caller reads what it needs of that row in its own columns. As many rows count as the column has
 // numbers.
-// Kept: the column and no table, since a caller has one or two columns at hand.
+// Kept: the column and no table, since a caller has one or two columns at hand; and `used` beside it, which a
+// C caller gives and which may pass the column's length.
 #[tactic(auto, using(crate::proofs::Steps::row_found))]
 pub fn row_ascending(keys: &[u32], used: usize, key: u32) -> Option<usize>
     ensures { result ≡ row_ascending_in keys.now used key }
@@ -91,7 +92,7 @@ pub fn row_ascending(keys: &[u32], used: usize, key: u32) -> Option<usize>
 
 // The index of that row, by the columns of keys and indices alone: what a call needs, with less to hand
 // over. As many rows count as the shorter column has numbers.
-// Kept: the two columns and no table, likewise.
+// Kept: the two columns and no table, and `used` beside them, likewise.
 #[tactic(auto, using(crate::proofs::Steps::row_inside), unfolding(crate::specs::Table::index_ascending_in))]
 pub fn index_ascending(keys: &[u32], indices: &[u32], used: usize, key: u32) -> Option<u32>
     ensures { result ≡ index_ascending_in keys.now indices.now used key }
