@@ -1,20 +1,28 @@
 -- The searches of a list of numbers: the binary search, turn by turn, and its place on an ascending list; the first index of a number, by
 -- a scan. Assumes nothing.
-use mathlib.Core.Path.{◌≡◌, refl, sym, ◌∙◌}
-use mathlib.Core.Bool.{Bool, true, false, ◌||◌}
+use mathlib.Core.Path.{◌≡◌, refl, sym, ap, ◌∙◌}
+use mathlib.Core.Bool.{Bool, true, false, not}
 use mathlib.Core.List.{List, [], ◌∷◌}
 use Prim.Native.Nat.compare
 use Prim.Native.Nat.{ℕ, zero, suc, ◌+◌, ◌-◌, ◌*◌, ◌/◌, ◌^◌, ◌≤◌, ◌<◌, zero-le, suc-le-suc}
-use native.Mathlib.Nat.{le_of_suc-le-suc, not-suc-le-zero, lt_trans, add-zero, mul-one, mul-zero}
+use native.Mathlib.Nat.{le_of_suc-le-suc, not-suc-le-zero, lt_trans, mul-one, mul-zero}
 use native.Mathlib.Omega.{arith}
-use native.Mathlib.Numerals.{add-one}
-use lib.ListN.{length, get_or, take, drop}
-use lib.Seq.{length-take-le, take-length, get_or-take, drop-cons}
+use lib.ListN.{length, get_or, take, drop, length-drop}
+use lib.Seq.{length-take-le}
 use lib.Dec.{ltb, leb, eqb}
-use borrow.Author.Tests.{lt-ltb, le-ltb, le-leb, lt-leb, eq-eqb, ne_eqb, eqb-false}
+use borrow.Author.Tests.{lt-ltb, le-ltb, le-leb, lt-leb, eq-eqb, ne_eqb}
+use Rattle.std.specs.Prelude.{cond, position, Option, Some, None, Ok, Err}
+use Rattle.std.specs.List.{list_any, position_or_len}
+use Rattle.std.specs.Option.{unwrap_or, option_map}
+use Rattle.std.specs.Result.{is_ok}
+use Rattle.std.specs.Simd.{first_chunks}
+use Rattle.std.proofs.Common.{drop-drop}
+use Rattle.std.proofs.lemmas.List.Recursion.{is_position_or_len}
+use Rattle.std.proofs.lemmas.List.{take_rest}
+use Rattle.std.proofs.lemmas.List.Sums.{prefix_len-le-length}
 use Rattle.ebpf.specs.Choice.{◌if◌else◌, or_false}
-use Rattle.program.specs.Search.{halved, Halved, narrowed, Left, left_of, binary_search, is_among, index_of, one_of, member, Over, Rising, place}
-use Rattle.program.proofs.Cases.{by_lt, by_le, by_eq}
+use Rattle.program.specs.Search.{halved, Halved, narrowed, left_of, binary_search, is_among, search_result, index_of, PassesTo, member, Over, Rising, place}
+use Rattle.program.proofs.Cases.{by_test, by_lt, by_le, by_eq, zero_one}
 
 -- ---- a number or 0, by a test
 
@@ -115,37 +123,99 @@ search_within k xs =
     let in_List = left_within (length xs) k xs 0 (length xs) (length xs) (omega (arith, some)) (omega arith) in
     by_lt (get_or xs (left_of k xs) 0) k (λ (b : Bool). (left_of k xs + 1 if b else left_of k xs) ≤ length xs) (λ _. omega (arith, in_List)) (λ _. omega (arith, in_List)))
 
--- the first n numbers of a slice
-module _ (ks : List ℕ) (n k : ℕ) where
-  narrow_take : (turns base size : ℕ) → base + size ≤ n → narrowed turns k (take n ks) base size ≡ narrowed turns k ks base size
-  unfolding narrowed ◌if◌else◌
-  narrow_take zero base size h = refl
-  narrow_take (suc turns) base size h =
-      by_lt 1 size
-      (λ (b : Bool). ◌≡◌ {A = ℕ} (narrowed turns k (take n ks) (halved k (take n ks) base (size / 2)) (size - size / 2) if b else base)
-      (narrowed turns k ks (halved k ks base (size / 2)) (size - size / 2) if b else base))
-      (λ l. rw (get_or-take n ks (base + size / 2) 0 (omega arith)) (narrow_take turns (halved k ks base (size / 2)) (size - size / 2) (omega (arith, halved_le k ks base (size / 2)))))
-      (λ _. refl)
+pub search_le : (ks : List ℕ) (n k : ℕ) → n ≤ length ks → binary_search k (take n ks) ≤ n
+search_le ks n k within = omega (arith, search_within k (take n ks), length-take-le n ks within)
 
-  module _ (within : n ≤ length ks) where
-    pub search_none : n ≡ 0 → 0 ≡ binary_search k (take n ks)
+-- a number that stands behind those that are left, or is the last of them, was found to be above k
+Above : ℕ → List ℕ → ℕ → ℕ → Type 0
+Above k xs base size = base + size < length xs → (j : ℕ) × (base < j) × (j ≤ base + size) × (base + size ≤ j + 1) × (k < get_or xs j 0)
+
+above_next : (k : ℕ) (xs : List ℕ) (base size : ℕ) → 0 < size → size ≤ 1 → Above k xs base size → base + 1 < length xs → k < get_or xs (base + 1) 0
+unfolding Above
+above_next k xs base size some one h l =
+    let j = h (omega arith) in
+    let e : j.0 ≡ base + 1 = omega (arith, j.1, j.2, j.3) in
+    rw e at j.4
+
+next_above : (turns k : ℕ) (xs : List ℕ) (base size : ℕ) → 0 < size → size ≤ turns + 1 → Above k xs base size
+    → narrowed turns k xs base size + 1 < length xs → k < get_or xs (narrowed turns k xs base size + 1) 0
+unfolding narrowed ◌if◌else◌ Above
+next_above zero k xs base size some few h = above_next k xs base size some (omega arith) h
+next_above (suc n) k xs base size some few h =
+    by_lt 1 size
+    (λ (b : Bool). (narrowed n k xs (halved k xs base (size / 2)) (size - size / 2) if b else base) + 1 < length xs
+    → k < get_or xs ((narrowed n k xs (halved k xs base (size / 2)) (size - size / 2) if b else base) + 1) 0)
+    (λ more. by_le (get_or xs (base + size / 2) 0) k
+    (λ (b : Bool). narrowed n k xs (base + (size / 2 if b else 0)) (size - size / 2) + 1 < length xs
+    → k < get_or xs (narrowed n k xs (base + (size / 2 if b else 0)) (size - size / 2) + 1) 0)
+    (λ up. next_above n k xs (base + size / 2) (size - size / 2) (omega arith) (omega arith)
+    (λ l. let j = h (omega arith) in
+    let past : base + size / 2 < j.0 = by_lt (base + size / 2) j.0 (λ _. base + size / 2 < j.0) (λ q. q) (λ q. let e : j.0 ≡ base + size / 2 = omega (arith, j.1, j.2, j.3) in let a : k < get_or xs (base + size / 2) 0 = rw e at j.4 in absurd (omega arith)) in
+    (j.0, past, omega (arith, j.2), omega (arith, j.3), j.4)))
+    (λ down. next_above n k xs (base + 0) (size - size / 2) (omega arith) (omega arith)
+    (λ l. (base + size / 2, omega arith, omega arith, omega arith, down))))
+    (λ one. above_next k xs base size some one h)
+
+-- what the search answers, at the number that is left
+module _ (k : ℕ) (xs : List ℕ) where
+  pub search_none : length xs ≡ 0 → Err 0 ≡ search_result k xs
+  unfolding search_result is_among binary_search ◌if◌else◌
+  search_none none = rw none refl
+
+  module _ (at : ℕ) (left : at ≡ left_of k xs) (within : at < length xs) where
+    search_at : binary_search k xs ≡ (at + 1 if ltb (get_or xs at 0) k else at)
     unfolding binary_search ◌if◌else◌
-    search_none none = rw (length-take-le n ks within, eq-eqb n 0 none) refl
+    search_at = rw (← left, ne_eqb (length xs) 0 (omega arith)) refl
 
-    module _ (at : ℕ) (left : Left k ks n at) where
-      left_is : left_of k (take n ks) ≡ at
-      left_is = rw (length-take-le n ks within) (narrow_take n 0 n (omega arith) ∙ sym left.is)
+    pub search_next : get_or xs at 0 < k → Err (at + 1) ≡ search_result k xs
+    unfolding search_result is_among ◌if◌else◌ Above
+    search_next l =
+        let e : binary_search k xs ≡ at + 1 = search_at ∙ rw (lt-ltb (get_or xs at 0) k l) refl in
+        rw e
+        (by_le (length xs) (at + 1) (λ (b : Bool). Err (at + 1) ≡ (Ok (at + 1) if (false if b else eqb (get_or xs (at + 1) 0) k) else Err (at + 1)))
+        (λ _. refl)
+        (λ more.
+        let above : k < get_or xs (at + 1) 0 = rw (← left) at (next_above (length xs) k xs 0 (length xs) (omega arith) (omega arith) (λ l. absurd (omega arith)) (rw left at more)) in
+        rw (ne_eqb (get_or xs (at + 1) 0) k (omega arith)) refl))
 
-      pub search_next : get_or ks at 0 < k → at + 1 ≡ binary_search k (take n ks)
-      unfolding binary_search ◌if◌else◌
-      search_next l = rw (left_is, length-take-le n ks within, ne_eqb n 0 (omega (arith, left.within)), get_or-take n ks at 0 left.within, lt-ltb (get_or ks at 0) k l) refl
+    search_stays : k ≤ get_or xs at 0 → binary_search k xs ≡ at
+    unfolding ◌if◌else◌
+    search_stays l = search_at ∙ rw (le-ltb (get_or xs at 0) k l) refl
 
-      pub search_here : k ≤ get_or ks at 0 → at ≡ binary_search k (take n ks)
-      unfolding binary_search ◌if◌else◌
-      search_here l = rw (left_is, length-take-le n ks within, ne_eqb n 0 (omega (arith, left.within)), get_or-take n ks at 0 left.within, le-ltb (get_or ks at 0) k l) refl
+    pub search_here : get_or xs at 0 ≡ k → Ok at ≡ search_result k xs
+    unfolding search_result is_among ◌if◌else◌
+    search_here e = rw (search_stays (omega arith), lt-leb (length xs) at within, eq-eqb (get_or xs at 0) k e) refl
 
-    pub search_le : binary_search k (take n ks) ≤ n
-    search_le = omega (arith, search_within k (take n ks), length-take-le n ks within)
+    pub search_before : k ≤ get_or xs at 0 → (get_or xs at 0 ≡ k → ⊥) → Err at ≡ search_result k xs
+    unfolding search_result is_among ◌if◌else◌
+    search_before l ne = rw (search_stays l, lt-leb (length xs) at within, ne_eqb (get_or xs at 0) k ne) refl
+
+  -- what an answer says
+  pub found_at : (at : ℕ) → search_result k xs ≡ Ok at → (at ≡ binary_search k xs) × (at < length xs) × (get_or xs at 0 ≡ k)
+  unfolding search_result is_among ◌if◌else◌
+  found_at at =
+      by_le (length xs) (binary_search k xs)
+      (λ (b : Bool). (Ok (binary_search k xs) if (false if b else eqb (get_or xs (binary_search k xs) 0) k) else Err (binary_search k xs)) ≡ Ok at → (at ≡ binary_search k xs) × (at < length xs) × (get_or xs at 0 ≡ k))
+      (λ _ e. absurd (zero_one (cc)))
+      (λ l. by_eq (get_or xs (binary_search k xs) 0) k
+      (λ (b : Bool). (Ok (binary_search k xs) if b else Err (binary_search k xs)) ≡ Ok at → (at ≡ binary_search k xs) × (at < length xs) × (get_or xs at 0 ≡ k))
+      (λ h e. let same : at ≡ binary_search k xs = cc in (same, omega arith, rw same h))
+      (λ _ e. absurd (zero_one (cc))))
+
+  pub missed_at : (at : ℕ) → search_result k xs ≡ Err at → (at ≡ binary_search k xs) × (at < length xs → get_or xs at 0 ≡ k → ⊥)
+  unfolding search_result is_among ◌if◌else◌
+  missed_at at =
+      by_le (length xs) (binary_search k xs)
+      (λ (b : Bool). (Ok (binary_search k xs) if (false if b else eqb (get_or xs (binary_search k xs) 0) k) else Err (binary_search k xs)) ≡ Err at → (at ≡ binary_search k xs) × (at < length xs → get_or xs at 0 ≡ k → ⊥))
+      (λ past e. let same : at ≡ binary_search k xs = cc in (same, λ l. absurd (omega arith)))
+      (λ l. by_eq (get_or xs (binary_search k xs) 0) k
+      (λ (b : Bool). (Ok (binary_search k xs) if b else Err (binary_search k xs)) ≡ Err at → (at ≡ binary_search k xs) × (at < length xs → get_or xs at 0 ≡ k → ⊥))
+      (λ _ e. absurd (zero_one (cc)))
+      (λ ne e. let same : at ≡ binary_search k xs = cc in (same, λ _ h. ne (rw same at h))))
+
+  pub found_among : is_ok (search_result k xs) ≡ is_among k xs
+  unfolding search_result ◌if◌else◌
+  found_among = by_test (is_among k xs) (λ (b : Bool). is_ok (Ok (binary_search k xs) if b else Err (binary_search k xs)) ≡ b) (λ _. refl) (λ _. refl)
 
 -- ---- the binary search, on an ascending list
 
@@ -234,52 +304,52 @@ pub among_member : (k : ℕ) (xs : List ℕ) → Rising xs → is_among k xs ≡
 unfolding is_among
 among_member k xs r = rw (search_place k xs r) (at_place k xs r)
 
--- the answers of `is_builtin`
-module _ (xs : List ℕ) (k at : ℕ) (is : at ≡ binary_search k (take (length xs) xs)) where
-  whole : at ≡ binary_search k xs
-  whole = rw take-length at is
-
-  pub among_past : length xs ≤ at → false ≡ is_among k xs
-  unfolding is_among ◌if◌else◌
-  among_past l = rw (← whole, le-leb (length xs) at l) refl
-
-  pub among_at : at < length xs → eqb (get_or xs at 0) k ≡ is_among k xs
-  unfolding is_among ◌if◌else◌
-  among_at l = rw (← whole, lt-leb (length xs) at l) refl
-
 -- ---- the first index of a number, as a scan finds it
 
-module _ (ks : List ℕ) (n k : ℕ) (within : n ≤ length ks) (i : ℕ) (l : i < n) where
-  rest : drop i (take n ks) ≡ get_or ks i 0 ∷ drop (i + 1) (take n ks)
-  rest = drop-cons (take n ks) i 0 (rw (length-take-le n ks within) l) ∙ rw (add-one, get_or-take n ks i 0 l)
+-- numbers without k passed over at once
+skipped : (k n : ℕ) (ks : List ℕ) → n ≤ length ks → list_any (λ x. eqb x k) (take n ks) ≡ false → index_of k ks ≡ n + index_of k (drop n ks)
+unfolding ◌if◌else◌
+skipped k zero ks l e = omega arith
+skipped k (suc n) [] l e = absurd (not-suc-le-zero l)
+skipped k (suc n) (x ∷ ks) l e =
+    let both = or_false (eqb x k) (list_any (λ x. eqb x k) (take n ks)) e in
+    rw (both.0, skipped k n ks (le_of_suc-le-suc l) both.1) (omega arith)
 
-  pub index_hit : get_or ks i 0 ≡ k → i + index_of k (drop i (take n ks)) ≡ i
-  unfolding ◌if◌else◌
-  index_hit e = rw (rest, eq-eqb (get_or ks i 0) k e) (omega arith)
+-- eights without k
+pub eights_passed : (k m : ℕ) (ks : List ℕ) → 8 * m ≤ length ks
+    → PassesTo k ks (8 * position_or_len (λ e. list_any (λ x. eqb x k) e) (first_chunks 8 m ks))
+eights_passed k zero ks l = record { within = zero-le; same = omega arith }
+eights_passed k (suc m) ks l = by_test (list_any (λ x. eqb x k) (take 8 ks))
+    (λ (b : Bool). PassesTo k ks (8 * cond (not b) (1 + position_or_len (λ e. list_any (λ x. eqb x k) e) (first_chunks 8 m (drop 8 ks))) 0))
+    (λ _. record { within = zero-le; same = omega arith })
+    (λ none.
+    let r : ℕ = position_or_len (λ e. list_any (λ x. eqb x k) e) (first_chunks 8 m (drop 8 ks)) in
+    let rest = eights_passed k m (drop 8 ks) (omega (arith, length-drop 8 ks)) in
+    let sum : 8 * (1 + r) ≡ 8 + 8 * r = omega arith in
+    record {
+      within = omega (arith, rest.within, length-drop 8 ks);
+      same = skipped k 8 ks (omega arith) none ∙ ap (λ n. 8 + n) rest.same ∙ rw (sum, drop-drop (8 * r) 8 ks) (omega arith);
+    })
 
-  pub index_miss : (get_or ks i 0 ≡ k → ⊥) → i + index_of k (drop i (take n ks)) ≡ i + 1 + index_of k (drop (i + 1) (take n ks))
-  unfolding ◌if◌else◌
-  index_miss ne = rw (rest, ne_eqb (get_or ks i 0) k ne) (omega arith)
+pub first_is : (k : ℕ) (xs : List ℕ) → index_of k xs ≡ position_or_len (λ x. eqb x k) xs
+unfolding ◌if◌else◌
+first_is k xs = is_position_or_len (index_of k) (λ x. eqb x k) refl (λ x ys. by_test (eqb x k) (λ b. (0 if b else suc (index_of k ys)) ≡ cond b 0 (1 + index_of k ys)) (λ _. refl) (λ _. omega arith)) xs
 
--- m numbers passed over at once
-pub index_past : (ks : List ℕ) (n k : ℕ) → n ≤ length ks → (m i : ℕ) → i + m ≤ n → one_of m k ks i ≡ false
-    → i + index_of k (drop i (take n ks)) ≡ i + m + index_of k (drop (i + m) (take n ks))
-unfolding one_of
-index_past ks n k within zero i l e = rw add-zero refl
-index_past ks n k within (suc m) i l e =
-    let both = or_false (eqb (get_or ks i 0) k) (one_of m k ks (i + 1)) e in
-    let move : i + 1 + m ≡ i + suc m = omega arith in
-    index_miss ks n k within i (omega arith) (eqb-false _ _ both.0)
-    ∙ (rw move at (index_past ks n k within m (i + 1) (omega arith) both.1))
+-- as the code finds them
+pub eights_found : (k r : ℕ) (ks : List ℕ) (es : List (List ℕ)) → es ≡ first_chunks 8 (length ks / 8) ks
+    → r ≡ unwrap_or (position (λ e. list_any (λ x. eqb x k) e) es) (length es) → PassesTo k ks (8 * r)
+eights_found k r ks es cut is =
+    let at : ℕ = position_or_len (λ e. list_any (λ x. eqb x k) e) es in
+    let first : unwrap_or (cond (ltb at (length es)) (Some at) None) (length es) ≡ at =
+    by_lt at (length es) (λ (b : Bool). unwrap_or (cond b (Some at) None) (length es) ≡ at) (λ _. refl) (λ l. omega (arith, prefix_len-le-length (λ e. not (list_any (λ x. eqb x k) e)) es)) in
+    rw (is, first, cut) (eights_passed k (length ks / 8) ks (omega arith))
 
--- eight tests, as the code joins them
-pub join_eight : (a b c d e f g h : Bool) → ((((a || b) || c) || d) || (((e || f) || g) || h)) ≡ (a || (b || (c || (d || (e || (f || (g || (h || false))))))))
-join_eight true b c d e f g h = refl
-join_eight false true c d e f g h = refl
-join_eight false false true d e f g h = refl
-join_eight false false false true e f g h = refl
-join_eight false false false false true f g h = refl
-join_eight false false false false false true g h = refl
-join_eight false false false false false false true h = refl
-join_eight false false false false false false false true = refl
-join_eight false false false false false false false false = refl
+-- the first index, where numbers are passed over
+pub first_behind : (k from : ℕ) (ks : List ℕ) (r : Option ℕ) → PassesTo k ks from → r ≡ position (λ x. eqb x k) (take (length ks - from) (drop from ks))
+    → position (λ x. eqb x k) ks ≡ option_map (λ i. from + i) r
+first_behind k from ks r passes is =
+    rw (is, take_rest ks from, ← first_is k ks, ← first_is k (drop from ks), passes.same)
+    (by_lt (index_of k (drop from ks)) (length (drop from ks))
+    (λ (b : Bool). cond (ltb (from + index_of k (drop from ks)) (length ks)) (Some (from + index_of k (drop from ks))) None ≡ option_map (λ i. from + i) (cond b (Some (index_of k (drop from ks))) None))
+    (λ l. rw (lt-ltb (from + index_of k (drop from ks)) (length ks) (omega (arith, length-drop from ks))) refl)
+    (λ l. rw (le-ltb (from + index_of k (drop from ks)) (length ks) (omega (arith, length-drop from ks, passes.within))) refl))

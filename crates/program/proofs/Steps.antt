@@ -11,18 +11,20 @@ use borrow.Author.Tests.{lt-ltb, le-ltb, le-leb, lt-leb, eq-eqb, ne_eqb}
 use types.Run.{OneOf}
 use denote.Enum.Declared.{tag_of}
 use Rattle.ebpf.specs.Choice.{◌if◌else◌}
-use Rattle.std.specs.Prelude.{Option, Some, None, Ok, Err}
+use lib.Seq.{length-take-le, get_or-take}
+use Rattle.std.specs.Prelude.{Option, Some, None, Result, Ok, Err, position, cond}
+use Rattle.std.specs.Result.{result_ok}
 use Rattle.program.specs.declared.Registered.{Registered}
 use Rattle.program.specs.declared.Registered.TheVariants.{Inserted, Repeat}
 use Rattle.program.specs.declared.RegisterError.{RegisterError}
 use Rattle.program.specs.declared.RegisterError.TheVariants.{Collision, Full}
 use Rattle.program.specs.declared.Row.{Row}
-use Rattle.program.specs.Search.{binary_search, index_of}
+use Rattle.program.specs.Search.{binary_search, search_result, is_among, index_of}
 use Rattle.program.specs.Rows.{RegisterResult, rank}
 use Rattle.program.specs.Table.{Slices, capacity, Within, row_at, rows_of, ranks_of, Opening, closed_row, counted, place_in, holds, register_at, registered_at, register_in, registered_by, unregister_at, unregistered_at, unregister_in, unregistered_in, RegistersBy, Unregisters, lookup_in, number_at, row_ascending_in}
 use Rattle.program.specs.contracts.Registered.{the_type}
-use Rattle.program.proofs.Cases.{by_lt, by_le, by_eq, zero_one}
-use Rattle.program.proofs.Searches.{search_le}
+use Rattle.program.proofs.Cases.{by_test, by_lt, by_le, by_eq, zero_one}
+use Rattle.program.proofs.Searches.{search_le, found_at, missed_at, first_is}
 use Rattle.program.proofs.Laying.{within_room, zero_row, length_rows, ranks_rows, row_at_lem}
 use Rattle.program.proofs.Rows.{find_first, find_none}
 
@@ -35,7 +37,7 @@ pub record Counts (t : Slices) (used n : ℕ) : Type 0 where
 pub counts : (t u : Slices) (used used' n : ℕ) → u ≡ t → used' ≡ used → n ≡ counted u used' → Within n u → Counts t used n
 counts t u used used' n e f is w = record { is = rw (e, f) at is; within = rw e at w }
 
-pub counts_lent : (t : Slices) (used rows n : ℕ) → rows ≡ capacity t → Within rows t → n ≡ min used rows → Counts t used n
+counts_lent : (t : Slices) (used rows n : ℕ) → rows ≡ capacity t → Within rows t → n ≡ min used rows → Counts t used n
 unfolding counted
 counts_lent t used rows n e w is = record {
   is = is ∙ ap (min used) e;
@@ -64,26 +66,30 @@ module _ (t : Slices) (used n : ℕ) (c : Counts t used n) (k at : ℕ) (is : at
   unfolding place_in ranks_of
   is_place = is
 
-  pub place_within : at ≤ n
-  place_within = rw is (search_le t.keys n k c.within.in_keys)
+-- what the search of the first n keys answers
+module _ (keys : List ℕ) (n k : ℕ) (within : n ≤ length keys) (r : Result ℕ ℕ) (is : r ≡ search_result k (take n keys)) (at : ℕ) where
+  found_first : r ≡ Ok at → (at ≡ binary_search k (take n keys)) × (at < n) × (get_or keys at 0 ≡ k)
+  found_first e =
+      let f = found_at k (take n keys) at (sym is ∙ e) in
+      let l : at < n = omega (arith, f.1, length-take-le n keys within) in
+      (f.0, l, sym (get_or-take n keys at 0 l) ∙ f.2)
+
+  missed_first : r ≡ Err at → (at ≡ binary_search k (take n keys)) × (at ≤ n) × (at < n → get_or keys at 0 ≡ k → ⊥)
+  missed_first e =
+      let f = missed_at k (take n keys) at (sym is ∙ e) in
+      (f.0, rw f.0 (search_le keys n k within), λ l h. f.1 (omega (arith, length-take-le n keys within)) (get_or-take n keys at 0 l ∙ h))
 
 -- a row's number, by the keys alone
-module _ (keys : List ℕ) (used n k at : ℕ) (counts : n ≡ min used (length keys)) (is : at ≡ binary_search k (take n keys)) where
-  looks_number : row_ascending_in keys used k ≡ number_at keys n at k
-  unfolding row_ascending_in
-  looks_number = rw (is, counts) refl
-
-  pub row_past : n ≤ at → None ≡ row_ascending_in keys used k
-  unfolding number_at ◌if◌else◌
-  row_past l = sym (looks_number ∙ rw (le-leb n at l) refl)
-
-  pub row_other : at < n → (get_or keys at 0 ≡ k → ⊥) → None ≡ row_ascending_in keys used k
-  unfolding number_at ◌if◌else◌
-  row_other l h = sym (looks_number ∙ rw (lt-leb n at l, ne_eqb (get_or keys at 0) k h) refl)
-
-  pub row_here : at < n → get_or keys at 0 ≡ k → Some at ≡ row_ascending_in keys used k
-  unfolding number_at ◌if◌else◌
-  row_here l e = sym (looks_number ∙ rw (lt-leb n at l, eq-eqb (get_or keys at 0) k e) refl)
+pub row_found : (keys : List ℕ) (used n k : ℕ) (r : Result ℕ ℕ) → n ≡ min used (length keys) → r ≡ search_result k (take n keys) → result_ok r ≡ row_ascending_in keys used k
+unfolding row_ascending_in number_at search_result is_among ◌if◌else◌
+row_found keys used n k r e is =
+    rw (is, ← e, length-take-le n keys (omega arith))
+    (by_le n (binary_search k (take n keys))
+    (λ (b : Bool). result_ok (Ok (binary_search k (take n keys)) if (false if b else eqb (get_or (take n keys) (binary_search k (take n keys)) 0) k) else Err (binary_search k (take n keys)))
+    ≡ (None if b else Some (binary_search k (take n keys)) if eqb (get_or keys (binary_search k (take n keys)) 0) k else None))
+    (λ _. refl)
+    (λ l. rw (get_or-take n keys (binary_search k (take n keys)) 0 l)
+    (by_test (eqb (get_or keys (binary_search k (take n keys)) 0) k) (λ (b : Bool). result_ok (Ok (binary_search k (take n keys)) if b else Err (binary_search k (take n keys))) ≡ (Some (binary_search k (take n keys)) if b else None)) (λ _. refl) (λ _. refl))))
 
 -- it is below the rows that count
 number_below : (keys : List ℕ) (n at k i : ℕ) → number_at keys n at k ≡ Some i → i < n
@@ -155,22 +161,57 @@ module _ (t : Slices) (used n : ℕ) (c : Counts t used n) (row : Row) (at : ℕ
   goes = rw (is_place t used n c (rank row) at is, c.is) refl
 
   module _ (l : at < n) (e : get_or t.keys at 0 ≡ rank row) where
-    pub repeats : get_or t.indices at 0 ≡ row.index → Ok Repeat ≡ register_in t used row
+    repeats : get_or t.indices at 0 ≡ row.index → Ok Repeat ≡ register_in t used row
     unfolding register_at ◌if◌else◌
     repeats same = sym (goes ∙ rw (here t n at (rank row) l e, eq-eqb (get_or t.indices at 0) row.index same) refl)
 
-    pub collides : (get_or t.indices at 0 ≡ row.index → ⊥) → Err Collision ≡ register_in t used row
+    collides : (get_or t.indices at 0 ≡ row.index → ⊥) → Err Collision ≡ register_in t used row
     unfolding register_at ◌if◌else◌
     collides other = sym (goes ∙ rw (here t n at (rank row) l e, ne_eqb (get_or t.indices at 0) row.index other) refl)
 
   module _ (h : at < n → get_or t.keys at 0 ≡ rank row → ⊥) where
-    pub full : capacity t ≤ n → Err Full ≡ register_in t used row
+    full : capacity t ≤ n → Err Full ≡ register_in t used row
     unfolding register_at ◌if◌else◌
     full l = sym (goes ∙ rw (not_here t n at (rank row) h, le-leb (capacity t) n l) refl)
 
-    pub inserts : n < capacity t → Ok (Inserted (n - at)) ≡ register_in t used row
+    inserts : n < capacity t → Ok (Inserted (n - at)) ≡ register_in t used row
     unfolding register_at ◌if◌else◌
     inserts l = sym (goes ∙ rw (not_here t n at (rank row) h, lt-leb (capacity t) n l) refl)
+
+-- by what the search of the keys answered
+module _ (t : Slices) (used rows n : ℕ) (all : rows ≡ capacity t) (lent : Within rows t) (few : n ≡ min used rows) (row : Row) (r : Result ℕ ℕ) (is : r ≡ search_result row.key (take n t.keys)) (at : ℕ) where
+  counted_in : Counts t used n
+  counted_in = counts_lent t used rows n all lent few
+
+  pub held_inside : r ≡ Ok at → at < length t.indices
+  held_inside e = omega (arith, (found_first t.keys n row.key counted_in.within.in_keys r is at e).1, counted_in.within.in_indices)
+
+  pub missed_within : r ≡ Err at → at ≤ n
+  missed_within e = (missed_first t.keys n row.key counted_in.within.in_keys r is at e).1
+
+  pub answers_repeat : r ≡ Ok at → get_or t.indices at 0 ≡ row.index → Ok Repeat ≡ register_in t used row
+  unfolding rank
+  answers_repeat e same =
+      let f = found_first t.keys n row.key counted_in.within.in_keys r is at e in
+      repeats t used n counted_in row at f.0 f.1 f.2 same
+
+  pub answers_collision : r ≡ Ok at → (get_or t.indices at 0 ≡ row.index → ⊥) → Err Collision ≡ register_in t used row
+  unfolding rank
+  answers_collision e other =
+      let f = found_first t.keys n row.key counted_in.within.in_keys r is at e in
+      collides t used n counted_in row at f.0 f.1 f.2 other
+
+  pub answers_full : r ≡ Err at → rows ≤ n → Err Full ≡ register_in t used row
+  unfolding rank
+  answers_full e l =
+      let f = missed_first t.keys n row.key counted_in.within.in_keys r is at e in
+      full t used n counted_in row at f.0 f.2 (omega (arith, all))
+
+  pub answers_inserted : r ≡ Err at → n < rows → Ok (Inserted (n - at)) ≡ register_in t used row
+  unfolding rank
+  answers_inserted e l =
+      let f = missed_first t.keys n row.key counted_in.within.in_keys r is at e in
+      inserts t used n counted_in row at f.0 f.2 (omega (arith, all))
 
 -- ---- the ways that a registration goes at a place, for any statement of the slices afterwards and the answer
 
@@ -243,17 +284,38 @@ module _ (opening : Opening) (t : Slices) (used : ℕ) (row : Row) where
   enters u m is opens = record { answers = is; leaves = opens ∙ sym (inserted m (sym is)).2 }
 
 -- a lookup
-module _ (t : Slices) (used n : ℕ) (c : Counts t used n) (k at : ℕ) (is : at ≡ index_of k (take n t.keys)) where
-  at_index : at ≡ index_of k (map rank (rows_of t n))
+first_found : (k : ℕ) (xs : List ℕ) (at : ℕ) → position (λ x. eqb x k) xs ≡ Some at → (at ≡ index_of k xs) × (at < length xs)
+first_found k xs at =
+    rw (← first_is k xs)
+    (by_lt (index_of k xs) (length xs) (λ (b : Bool). cond b (Some (index_of k xs)) None ≡ Some at → (at ≡ index_of k xs) × (at < length xs))
+    (λ l e. let same : at ≡ index_of k xs = cc in (same, omega arith))
+    (λ _ e. absurd (zero_one (cc))))
+
+first_missed : (k : ℕ) (xs : List ℕ) → position (λ x. eqb x k) xs ≡ None → length xs ≤ index_of k xs
+first_missed k xs =
+    rw (← first_is k xs)
+    (by_lt (index_of k xs) (length xs) (λ (b : Bool). cond b (Some (index_of k xs)) None ≡ None → length xs ≤ index_of k xs)
+    (λ _ e. absurd (zero_one (cc)))
+    (λ l _. l))
+
+module _ (t : Slices) (used n : ℕ) (c : Counts t used n) (k : ℕ) (r : Option ℕ) (is : r ≡ position (λ x. eqb x k) (take n t.keys)) where
+  all_ranks : take n t.keys ≡ map rank (rows_of t n)
   unfolding ranks_of
-  at_index = rw (ranks_rows t n c.within.in_keys) is
+  all_ranks = sym (ranks_rows t n c.within.in_keys)
 
-  pub looks_up : at < n → Some (row_at t at) ≡ lookup_in t used k
-  unfolding lookup_in
-  looks_up l =
-      let inside : index_of k (map rank (rows_of t n)) < length (rows_of t n) = omega (arith, at_index, length_rows t n) in
-      rw (← c.is) (sym (find_first k zero_row (rows_of t n) inside ∙ rw (← at_index) (ap Some (row_at_lem t n at l))))
+  pub looked_within : (at : ℕ) → r ≡ Some at → at < n
+  looked_within at e = omega (arith, (first_found k (take n t.keys) at (sym is ∙ e)).1, length-take-le n t.keys c.within.in_keys)
 
-  pub finds_none : n ≤ at → None ≡ lookup_in t used k
+  pub looks_up : (at : ℕ) → r ≡ Some at → Some (row_at t at) ≡ lookup_in t used k
   unfolding lookup_in
-  finds_none l = rw (← c.is) (sym (find_none k (rows_of t n) (omega (arith, at_index, length_rows t n))))
+  looks_up at e =
+      let f = rw all_ranks at (first_found k (take n t.keys) at (sym is ∙ e)) in
+      let inside : index_of k (map rank (rows_of t n)) < length (rows_of t n) = omega (arith, f.0, f.1, length_rows t n, looked_within at e) in
+      rw (← c.is) (sym (find_first k zero_row (rows_of t n) inside ∙ rw (← f.0) (ap Some (row_at_lem t n at (looked_within at e)))))
+
+  pub finds_none : r ≡ None → None ≡ lookup_in t used k
+  unfolding lookup_in
+  finds_none e =
+      let f = rw all_ranks at (first_missed k (take n t.keys) (sym is ∙ e)) in
+      let m : length (map rank (rows_of t n)) ≡ n = ap length (sym all_ranks) ∙ length-take-le n t.keys c.within.in_keys in
+      rw (← c.is) (sym (find_none k (rows_of t n) (omega (arith, f, m, length_rows t n))))

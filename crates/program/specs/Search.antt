@@ -1,5 +1,5 @@
 -- Searches in a list of numbers. Each has an answer on any list; what it means on an ascending one is a law.
-use Rattle.std.specs.Prelude.{ℕ, zero, suc, ◌+◌, ◌-◌, ◌/◌, ◌≤◌, ◌<◌, ◌≡◌, Bool, true, false, ◌||◌, List, [], ◌∷◌, length, get_or, take, drop, ltb, leb, eqb}
+use Rattle.std.specs.Prelude.{ℕ, zero, suc, ◌+◌, ◌-◌, ◌/◌, ◌≤◌, ◌<◌, ◌≡◌, Bool, true, false, List, [], ◌∷◌, length, get_or, drop, ltb, leb, eqb, Result, Ok, Err}
 use Rattle.ebpf.specs.Choice.{◌if◌else◌}
 
 -- the place `half` numbers behind `base` where the number there is at most k, else `base` again
@@ -15,11 +15,6 @@ pub record Halved (k : ℕ) (xs : List ℕ) (base half r : ℕ) : Type 0 where
 unfoldable pub narrowed : ℕ → ℕ → List ℕ → ℕ → ℕ → ℕ
 narrowed zero k xs base size = base
 narrowed (suc turns) k xs base size = narrowed turns k xs (halved k xs base (size / 2)) (size - size / 2) if ltb 1 size else base
-
--- r is where that one of the first n numbers stands, with its bound
-pub record Left (k : ℕ) (xs : List ℕ) (n r : ℕ) : Type 0 where
-  pub is : r ≡ narrowed n k xs 0 n
-  pub within : r < n
 
 -- of all numbers of a list
 abbrev pub left_of : ℕ → List ℕ → ℕ
@@ -37,20 +32,19 @@ binary_search k xs =
 unfoldable pub is_among : ℕ → List ℕ → Bool
 is_among k xs = false if leb (length xs) (binary_search k xs) else eqb (get_or xs (binary_search k xs) 0) k
 
+-- what the search answers: that place, where k stands there, and else as the place where it would
+unfoldable pub search_result : ℕ → List ℕ → Result ℕ ℕ
+search_result k xs = Ok (binary_search k xs) if is_among k xs else Err (binary_search k xs)
+
 -- the index of the first k, or the length where there is none
 abbrev pub index_of : ℕ → List ℕ → ℕ
 index_of k [] = 0
 index_of k (n ∷ ns) = 0 if eqb n k else suc (index_of k ns)
 
--- k is one of the n numbers from `at` on
-unfoldable pub one_of : ℕ → ℕ → List ℕ → ℕ → Bool
-one_of zero k ks at = false
-one_of (suc n) k ks at = eqb (get_or ks at 0) k || one_of n k ks (at + 1)
-
--- before the place r, among the first n numbers, no k stands
-pub record PassesTo (ks : List ℕ) (n k r : ℕ) : Type 0 where
-  pub within : r ≤ n
-  pub same : index_of k (take n ks) ≡ r + index_of k (drop r (take n ks))
+-- before the place r no k stands
+pub record PassesTo (k : ℕ) (ks : List ℕ) (r : ℕ) : Type 0 where
+  pub within : r ≤ length ks
+  pub same : index_of k ks ≡ r + index_of k (drop r ks)
 
 abbrev pub member : ℕ → List ℕ → Bool
 member k [] = false

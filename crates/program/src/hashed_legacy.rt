@@ -72,13 +72,11 @@ pub fn kept_name(labels: bool, name: FunctionName) -> KeptName
 }
 
 // Whether a binary search finds the key: on keys that ascend strictly, whether it is among them.
-#[tactic(auto, using(crate::proofs::Searches::among_past, crate::proofs::Searches::among_at))]
+#[tactic(auto, using(crate::proofs::Searches::found_among))]
 pub fn is_builtin(builtins: &[u32], key: u32) -> bool
     ensures { result ≡ is_among key builtins.now }
 {
-    let n = builtins.len();
-    let at = search::binary_search(builtins, n, key);
-    at < n && builtins[at] == key
+    search::binary_search(builtins, key).is_ok()
 }
 
 // Whether a built-in has the key already: asked in version 1 with the check on only.

@@ -36,17 +36,12 @@ impl FunctionTable<'_> {
     {
         let rows = self.rows_lent();
         let n = self.used.min(rows);
-        let at = search::binary_search(self.keys, n, row.key);
-        if at < n && self.keys[at] == row.key {
-            if self.indices[at] == row.index {
-                return Ok(Registered::Repeat);
-            }
-            return Err(RegisterError::Collision);
+        match search::binary_search(&self.keys[..n], row.key) {
+            Ok(at) if self.indices[at] == row.index => Ok(Registered::Repeat),
+            Ok(_) => Err(RegisterError::Collision),
+            Err(_) if rows <= n => Err(RegisterError::Full),
+            Err(at) => Ok(Registered::Inserted(n - at)),
         }
-        if rows <= n {
-            return Err(RegisterError::Full);
-        }
-        Ok(Registered::Inserted(n - at))
     }
 
     fn row_at(self, at: usize) -> Row
@@ -67,11 +62,7 @@ impl FunctionTable<'_> {
     pub fn lookup_by_key(self, key: u32) -> Option<Row>
         ensures { result ≡ lookup_in (columns_in self.entry) self.entry.used key }
     {
-        let n = self.counted();
-        let at = search::first_of(self.keys, n, key);
-        if n <= at {
-            return None;
-        }
+        let at = search::first_of(&self.keys[..self.counted()], key)?;
         Some(self.row_at(at))
     }
 
@@ -89,22 +80,19 @@ impl FunctionTable<'_> {
 // The number of the row under a key, as `lookup_ascending` finds it, by the column of keys alone: the
 // caller reads what it needs of that row in its own columns. As many rows count as the column has
 // numbers.
-// Kept: the column and no table, since a caller has one or two columns at hand.
-#[tactic(auto, using(crate::proofs::Steps::row_past, crate::proofs::Steps::row_other, crate::proofs::Steps::row_here))]
+// Kept: the column and no table, since a caller has one or two columns at hand; and `used` beside it, which a
+// C caller gives and which may pass the column's length.
+#[tactic(auto, using(crate::proofs::Steps::row_found))]
 pub fn row_ascending(keys: &[u32], used: usize, key: u32) -> Option<usize>
     ensures { result ≡ row_ascending_in keys.now used key }
 {
     let n = used.min(keys.len());
-    let at = search::binary_search(keys, n, key);
-    if at < n && keys[at] == key {
-        return Some(at);
-    }
-    None
+    search::binary_search(&keys[..n], key).ok()
 }
 
 // The index of that row, by the columns of keys and indices alone: what a call needs, with less to hand
 // over. As many rows count as the shorter column has numbers.
-// Kept: the two columns and no table, likewise.
+// Kept: the two columns and no table, and `used` beside them, likewise.
 #[tactic(auto, using(crate::proofs::Steps::row_inside), unfolding(crate::specs::Table::index_ascending_in))]
 pub fn index_ascending(keys: &[u32], indices: &[u32], used: usize, key: u32) -> Option<u32>
     ensures { result ≡ index_ascending_in keys.now indices.now used key }

@@ -1,11 +1,12 @@
--- `program::search::first_of` meets its contract: behind the eights that are passed over, number by number.
+-- `program::search::first_of` meets its contract: by the first index behind the numbers that are passed over.
 -- Assumes nothing.
-use mathlib.Core.Path.{sym, ◌∙◌}
-use Rattle.program.proofs.Searches.{index_hit, index_miss}
+use mathlib.Core.Path.{refl, sym, ◌∙◌}
+use Rattle.program.proofs.Searches.{first_behind}
 use Rattle.program.proofs.search.first_of.Goals as goal
 
-pub returns-then-keys-i : goal.returns-then-keys-i
-returns-then-keys-i c = sym (c.loop-i.invariant ∙ index_hit _ _ _ c.requires _ c.loop-i-test.true c.if-keys-i.true)
+pub returns-in_err-at : goal.returns-in_err-at
+returns-in_err-at c =
+    c.from_residual.ensures ∙ sym (first_behind c.args.key _ c.args.keys.now _ c.pass_eights-from.ensures c.position_of.ensures ∙ rw c.in_err-at.was refl)
 
-pub loop-i-preserved : goal.loop-i-preserved
-loop-i-preserved c = c.loop-i.invariant ∙ index_miss _ _ _ c.requires _ c.loop-i-test.true c.if-keys-i.false
+pub returns : goal.returns
+returns c = sym (first_behind c.args.key _ c.args.keys.now _ c.pass_eights-from.ensures c.position_of.ensures ∙ rw c.in_ok-at.was refl)

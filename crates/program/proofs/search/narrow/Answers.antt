@@ -19,6 +19,9 @@ loop-size-preserved c =
     let grown = half_le (c.loop-size.size / 2) (get_or c.args.ranks.now (c.loop-size.base + c.loop-size.size / 2) 0) c.args.key in
     rw c.half_where-base.ensures (omega (arith, c.loop-size-test.true), omega (arith, grown, c.loop-size-test.true, c.loop-size.invariant.1), sym (turn c.args.key c.args.ranks.now c.loop-size.base c.loop-size.size _ c.loop-size.invariant.0 refl) ∙ c.loop-size.invariant.2)
 
-pub returns : goal.returns
-returns c =
-    record { is = c.narrow_few.ensures ∙ c.loop-size.invariant.2; within = rw c.narrow_few.ensures (left_within _ c.args.key c.args.ranks.now c.loop-size.base c.loop-size.size _ c.loop-size.invariant.0 c.loop-size.invariant.1) }
+pub returns-clause-is : goal.returns-clause-is
+returns-clause-is c = c.narrow_few.ensures ∙ c.loop-size.invariant.2
+
+pub returns-clause-within : goal.returns-clause-within
+returns-clause-within c =
+    rw c.narrow_few.ensures (left_within _ c.args.key c.args.ranks.now c.loop-size.base c.loop-size.size _ c.loop-size.invariant.0 c.loop-size.invariant.1)

@@ -1,35 +1,16 @@
--- `program::search::pass_eights` meets its contract. The loop's invariant: the numbers before the place are passed over.
+-- `program::search::pass_eights` meets its contract: by the first eight with the key.
 -- Assumes nothing.
-use mathlib.Core.Path.{◌∙◌}
-use native.Mathlib.Omega.{arith}
-use Rattle.program.proofs.Searches.{index_past}
+use Rattle.std.proofs.Common.{rules, tests}
+use mathlib.Core.Path.{◌≡◌}
+use lib.Dec.{eqb}
+use Rattle.std.specs.Prelude.{position}
+use Rattle.std.specs.List.{list_any}
+use Rattle.std.proofs.lemmas.Iterator.{YieldsList-from_slice}
+use Rattle.std.proofs.lemmas.Iterator.Search.{position_from_yields_List}
+use Rattle.program.proofs.Searches.{eights_found}
 use Rattle.program.proofs.search.pass_eights.Goals as goal
 
-pub loop-at-init : goal.loop-at-init
-loop-at-init c = record { within = omega arith; same = omega arith }
-
-pub overflow_sub-n : goal.overflow_sub-n
-overflow_sub-n c = omega (arith, c.loop-at.invariant.within)
-
-pub one_of_eight-requires : goal.one_of_eight-requires
-one_of_eight-requires c = omega (arith, c.loop-at-test.true, c.requires)
-
-pub returns-then-one_of_eight : goal.returns-then-one_of_eight
-returns-then-one_of_eight c = c.loop-at.invariant
-
-pub overflow_add-at : goal.overflow_add-at
-overflow_add-at c = omega (arith, c.loop-at-test.true)
-
-pub loop-at-smaller : goal.loop-at-smaller
-loop-at-smaller c = omega (arith, c.loop-at-test.true)
-
-pub loop-at-preserved : goal.loop-at-preserved
-loop-at-preserved c =
-    let none = rw c.one_of_eight.ensures at c.if-one_of_eight.false in
-    record {
-      within = omega (arith, c.loop-at-test.true);
-      same = c.loop-at.invariant.same ∙ index_past c.args.keys.now c.args.n c.args.key c.requires 8 c.loop-at.at (omega (arith, c.loop-at-test.true)) none;
-    }
-
 pub returns : goal.returns
-returns c = c.loop-at.invariant
+returns c =
+    let e : c.position-passed.result ≡ position (λ x. list_any (λ y. eqb y c.args.key) x) c.as_chunks.result.0.now = position_from_yields_List (λ x. list_any (λ y. eqb y c.args.key) x) _ _ _ c.position-passed.ensures.ran (YieldsList-from_slice c.as_chunks.result.0.now cc) (λ x b q k. search (rules, tests)) in
+    eights_found c.args.key _ c.args.keys.now c.as_chunks.result.0.now c.as_chunks.ensures.front (rw e at c.unwrap_or.ensures)
