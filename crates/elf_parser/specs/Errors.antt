@@ -1,6 +1,7 @@
 -- Refusals: their numbers, and checks one after another.
-use Rattle.std.specs.Prelude.{ℕ, ◌≡◌, refl, Result, Ok, Err}
+use Rattle.std.specs.Prelude.{ℕ, ◌≡◌, refl, Bool, true, false, Result, Ok, Err}
 use Rattle.std.proofs.Common.{arith}
+use Rattle.ebpf.specs.Choice.{◌if◌else◌}
 use Rattle.elf_parser.specs.declared.error.ElfParserError.{ElfParserError}
 use Rattle.elf_parser.specs.declared.error.ElfParserError.TheVariants.{InvalidFileHeader, InvalidProgramHeader, InvalidSectionHeader, StringTooLong, OutOfBounds, InvalidSize, Overlap, SectionNotInOrder, NoSectionNameStringTable, InvalidDynamicSectionTable, InvalidAlignment, NoStringTable, NoDynamicStringTable, NoSuchIndex, NotASection, StringUnterminated}
 use Rattle.elf_parser.specs.declared.error.Report.{Report}
@@ -58,6 +59,16 @@ apart r x e = let z : ◌≡◌ {A = ℕ} 0 1 = cc in absurd_zero z
   where
     absurd_zero : ◌≡◌ {A = ℕ} 0 1 → ⊥
     absurd_zero z = omega arith
+
+-- a row of checks, and what follows where they all pass, in the manner of `yes` and `no_go`
+module _ {A B E : Type 0} (b : Bool) (r : E) (rest : Result A E) (f : A → Result B E) where
+  pub row_stops : b ≡ true → Err r ≡ and_then (Err r if b else rest) f
+  unfolding ◌if◌else◌
+  row_stops e = rw e
+
+  pub row_goes : (x : Result B E) → b ≡ false → x ≡ and_then rest f → x ≡ and_then (Err r if b else rest) f
+  unfolding ◌if◌else◌
+  row_goes x e p = rw e p
 
 pub pass_first : (a b : Check) → (a then b) ≡ Ok tt → a ≡ Ok tt
 pass_first (Ok tt) b e = refl

@@ -100,27 +100,39 @@ first_zero n at s h =
     let k : length (take n (drop at s)) ≡ n = length-take-le n (drop at s) (simp length-drop (omega arith)) in
     rw (prefix_is n at s h, k)
 
--- what it finds is what the name's end is told by
-module _ (cut : Bool) (start end : ℕ) (s : List ℕ) (o : start ≤ end) (w : end ≤ length s) where
-  pub zero_found : (k : ℕ) → position (λ b. b == 0) (slice_range s start end) ≡ Some k → Ok (record { start = start; length = k }) ≡ terminated cut (end - start) s start
-  unfolding terminated ◌if◌else◌
-  zero_found k e = go (ltb (before_zero (end - start) s start) (end - start)) refl (sym (first_zero (end - start) start s (omega arith)) ∙ e)
-    where
-      go : (b : Bool) → ltb (before_zero (end - start) s start) (end - start) ≡ b → cond b (Some (before_zero (end - start) s start)) None ≡ Some k
-          → Ok (record { start = start; length = k }) ≡ (stands start (before_zero (end - start) s start) if b else Err (no_zero cut start (before_zero (end - start) s start)))
-      go true p q = let r : before_zero (end - start) s start ≡ k = cc in rw r
-      go false p q = absurd (let z : ◌≡◌ {A = ℕ} 0 1 = cc in omega arith)
+-- the n bytes from `start` on up to their first zero byte, and the refusal `missing` where none is zero
+unfoldable pub ended : ElfParserError → ℕ → List ℕ → ℕ → Result Place ElfParserError
+ended missing n s start = stands start (before_zero n s start) if ltb (before_zero n s start) n else Err missing
 
-  pub zero_missing : position (λ b. b == 0) (slice_range s start end) ≡ None → Err (no_zero cut start (end - start)) ≡ terminated cut (end - start) s start
-  unfolding terminated ◌if◌else◌
-  zero_missing e = go (ltb (before_zero (end - start) s start) (end - start)) refl (sym (first_zero (end - start) start s (omega arith)) ∙ e)
+-- what it finds is where the name ends
+module _ (missing : ElfParserError) (start end : ℕ) (s : List ℕ) (o : start ≤ end) (w : end ≤ length s) where
+  pub zero_found : (k : ℕ) → position (λ b. b == 0) (slice_range s start end) ≡ Some k → Ok (record { start = start; length = k }) ≡ ended missing (end - start) s start
+  unfolding ended ◌if◌else◌
+  zero_found k e = go (ltb (before_zero (end - start) s start) (end - start)) (sym (first_zero (end - start) start s (omega arith)) ∙ e)
     where
-      go : (b : Bool) → ltb (before_zero (end - start) s start) (end - start) ≡ b → cond b (Some (before_zero (end - start) s start)) None ≡ None
-          → Err (no_zero cut start (end - start)) ≡ (stands start (before_zero (end - start) s start) if b else Err (no_zero cut start (before_zero (end - start) s start)))
-      go true p q = absurd (let z : ◌≡◌ {A = ℕ} 0 1 = cc in omega arith)
-      go false p q =
-          let k : before_zero (end - start) s start ≡ end - start = omega (arith, before_most (end - start) start s, ltb-false _ _ p) in
-          rw k
+      go : (b : Bool) → cond b (Some (before_zero (end - start) s start)) None ≡ Some k
+          → Ok (record { start = start; length = k }) ≡ (stands start (before_zero (end - start) s start) if b else Err missing)
+      go true q = let r : before_zero (end - start) s start ≡ k = cc in rw r
+      go false q = absurd (let z : ◌≡◌ {A = ℕ} 0 1 = cc in omega arith)
+
+  pub zero_missing : position (λ b. b == 0) (slice_range s start end) ≡ None → Err missing ≡ ended missing (end - start) s start
+  unfolding ended ◌if◌else◌
+  zero_missing e = go (ltb (before_zero (end - start) s start) (end - start)) (sym (first_zero (end - start) start s (omega arith)) ∙ e)
+    where
+      go : (b : Bool) → cond b (Some (before_zero (end - start) s start)) None ≡ None
+          → Err missing ≡ (stands start (before_zero (end - start) s start) if b else Err missing)
+      go true q = absurd (let z : ◌≡◌ {A = ℕ} 0 1 = cc in omega arith)
+      go false q = refl
+
+-- with the refusal that a name without an end has
+pub ended_terminated : (cut : Bool) (n : ℕ) (s : List ℕ) (start : ℕ) → ended (no_zero cut start n) n s start ≡ terminated cut n s start
+unfolding ended terminated ◌if◌else◌
+ended_terminated cut n s start = go (ltb (before_zero n s start) n) refl
+  where
+    go : (b : Bool) → ltb (before_zero n s start) n ≡ b
+        → (stands start (before_zero n s start) if b else Err (no_zero cut start n)) ≡ (stands start (before_zero n s start) if b else Err (no_zero cut start (before_zero n s start)))
+    go true p = refl
+    go false p = let k : before_zero n s start ≡ n = omega (arith, before_most n start s, ltb-false _ _ p) in rw k
 
 -- what is known of the range that is searched, where the checks pass
 pub record Readable (len sh-offset sh-size offset most : ℕ) : Type 0 where

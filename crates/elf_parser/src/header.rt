@@ -1,9 +1,14 @@
 // The file header's own checks, and the places of the two header tables.
-ghost use Rattle.std.specs.Prelude.{◌≡◌};
-ghost use Rattle.elf_parser.specs.FileHeader.{header_right, header_check, tables_check};
+ghost use Rattle.std.specs.Prelude.{◌≡◌, Ok};
+ghost use Rattle.elf_parser.specs.Errors.{and_then};
+ghost use Rattle.elf_parser.specs.Parse.{ranges_of};
+ghost use Rattle.elf_parser.specs.FileHeader.{header_right, header_check, overlap, tables_check};
 
 use crate::error::ElfParserError;
+use crate::section_headers::Ranges;
+use crate::types::{Elf64Ehdr, Elf64Phdr, Elf64Shdr, Record};
 use ebpf::little_endian::read;
+use std::ops::Range;
 
 // Whether the fields of the file header are those of a file that is read here. The tests are
 // joined by & and not by &&: so they make no branches, and the proof has no cases.
@@ -35,47 +40,53 @@ pub(crate) fn check_header(file: &[u8]) -> Result<(), ElfParserError>
     Ok(())
 }
 
-// Both header tables, in the order of the Rust.
-#[tactic(auto, using(ebpf::specs::Choice::choices), unfolding(crate::specs::FileHeader::tables_check))]
-pub(crate) fn check_tables(
-    len: u64,
-    e_phoff: u64,
-    e_phnum: u16,
-    e_shoff: u64,
-    e_shnum: u16,
-) -> Result<(), ElfParserError>
-    ensures { result ≡ tables_check len e_phoff e_phnum e_shoff e_shnum }
+// Whether two ranges share a byte, or one is empty and strictly inside the other.
+pub(crate) fn overlaps(a: Range<u64>, b: Range<u64>) -> bool
+    ensures { result ≡ overlap a.start a.end b.start b.end }
 {
-    let phsize = (e_phnum as u64) * 56;
-    if u64::MAX - e_phoff < phsize {
-        return Err(ElfParserError::OutOfBounds);
-    }
-    let phend = e_phoff + phsize;
-    if (e_phoff < 64) & (0 < phend) {
+    (b.start < a.end) & (a.start < b.end)
+}
+
+// Where both header tables stand, which is checked in the order of the Rust.
+#[tactic(auto, using(ebpf::specs::Choice::choices, crate::specs::Errors::row_stops, crate::specs::Errors::row_goes), unfolding(crate::specs::FileHeader::tables_check))]
+pub(crate) fn check_tables(len: u64, h: Elf64Ehdr) -> Result<Ranges, ElfParserError>
+    ensures { result ≡ and_then (tables_check len h.e_phoff h.e_phnum h.e_shoff h.e_shnum) (λ x. Ok (ranges_of h)) }
+{
+    let phoff = h.e_phoff;
+    let phsize = h.e_phnum as u64 * Elf64Phdr::SIZE as u64;
+    let phend = phoff
+        .checked_add(phsize)
+        .ok_or(ElfParserError::OutOfBounds)?;
+    if overlaps(0..64, phoff..phend) {
         return Err(ElfParserError::Overlap);
     }
     if len < phend {
         return Err(ElfParserError::OutOfBounds);
     }
-    if 0 < e_phoff % 8 {
+    if 0 < phoff % 8 {
         return Err(ElfParserError::InvalidAlignment);
     }
-    let shsize = (e_shnum as u64) * 64;
-    if u64::MAX - e_shoff < shsize {
-        return Err(ElfParserError::OutOfBounds);
-    }
-    let shend = e_shoff + shsize;
-    if (e_shoff < 64) & (0 < shend) {
+    let shoff = h.e_shoff;
+    let shsize = h.e_shnum as u64 * Elf64Shdr::SIZE as u64;
+    let shend = shoff
+        .checked_add(shsize)
+        .ok_or(ElfParserError::OutOfBounds)?;
+    if overlaps(0..64, shoff..shend) {
         return Err(ElfParserError::Overlap);
     }
-    if (e_shoff < phend) & (e_phoff < shend) {
+    if overlaps(phoff..phend, shoff..shend) {
         return Err(ElfParserError::Overlap);
     }
     if len < shend {
         return Err(ElfParserError::OutOfBounds);
     }
-    if 0 < e_shoff % 8 {
+    if 0 < shoff % 8 {
         return Err(ElfParserError::InvalidAlignment);
     }
-    Ok(())
+    Ok(Ranges {
+        phoff,
+        phend,
+        shoff,
+        shend,
+    })
 }

@@ -3,14 +3,14 @@ ghost use Rattle.std.specs.Prelude.{◌≡◌, ◌+◌, ◌*◌, length};
 ghost use Rattle.elf_parser.specs.Parse.{Room, tables_of, first_check, file_check, linked_layout, named_layout, parsed};
 
 use crate::consts::SHT_NULL;
-use crate::dynamic::{Tables, parse_dynamic};
+use crate::dynamic::{HeaderTables, Tables};
 use crate::error::ElfParserError;
 use crate::header::{check_header, check_tables};
 use crate::program_headers::check_program_headers;
 use crate::records::Entries;
-use crate::section_headers::{Ranges, check_section_headers};
+use crate::section_headers::check_section_headers;
 use crate::section_names::{Named, find_named};
-use crate::types::{Elf64Ehdr, Elf64Shdr, file_header, record_at};
+use crate::types::{Elf64Ehdr, Elf64Shdr, Record, file_header, record_at};
 
 // Where things stand in a file: plain numbers. A section header that was found by name, or is the
 // name table's, is given by its offset in the file. The hash table of the dynamic
@@ -63,21 +63,11 @@ fn check_file(file: &[u8]) -> Result<(), ElfParserError>
 {
     check_header(file)?;
     let h = file_header(file);
-    let e_phoff = h.e_phoff;
-    let e_phnum = h.e_phnum;
-    let e_shoff = h.e_shoff;
-    let e_shnum = h.e_shnum;
-    check_tables(file.len() as u64, e_phoff, e_phnum, e_shoff, e_shnum)?;
-    let tables = header_tables(h);
-    check_first(record_at(file, e_shoff as usize))?;
-    check_program_headers(file, tables.program_headers)?;
-    let t = Ranges {
-        phoff: e_phoff,
-        phend: e_phoff + e_phnum as u64 * 56,
-        shoff: e_shoff,
-        shend: e_shoff + e_shnum as u64 * 64,
-    };
-    check_section_headers(file, tables.section_headers, t)
+    let ranges = check_tables(file.len() as u64, h)?;
+    let tables = HeaderTables::new(file, header_tables(h));
+    check_first(record_at(file, h.e_shoff as usize))?;
+    check_program_headers(&tables.program_headers())?;
+    check_section_headers(&tables.section_headers(), ranges)
 }
 
 // With the named sections found, the dynamic part.
@@ -86,7 +76,7 @@ fn linked_layout(file: &[u8], h: Elf64Ehdr, names: u64, n: Named) -> Result<Layo
     ensures { result ≡ linked_layout file.now h names n }
 {
     let tables = header_tables(h);
-    let d = parse_dynamic(file, tables)?;
+    let d = HeaderTables::new(file, tables).parse_dynamic()?;
     Ok(Layout {
         program_headers: tables.program_headers,
         section_headers: tables.section_headers,
@@ -110,13 +100,9 @@ fn named_layout(file: &[u8], h: Elf64Ehdr) -> Result<Layout, ElfParserError>
     if h.e_shstrndx == 0 {
         return Err(ElfParserError::NoSectionNameStringTable);
     }
-    let names = h.e_shoff + h.e_shstrndx as u64 * 64;
-    let tables = header_tables(h);
-    let n = find_named(
-        file,
-        record_at(file, names as usize),
-        tables.section_headers,
-    )?;
+    let names = h.e_shoff + h.e_shstrndx as u64 * Elf64Shdr::SIZE as u64;
+    let tables = HeaderTables::new(file, header_tables(h));
+    let n = find_named(record_at(file, names as usize), &tables.section_headers())?;
     linked_layout(file, h, names, n)
 }
 

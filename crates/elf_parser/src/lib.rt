@@ -14,6 +14,7 @@ mod records;
 mod section_headers;
 mod section_names;
 mod strings;
+mod table;
 pub mod types;
 
 pub use elf64::Elf64;

@@ -5,9 +5,9 @@ ghost use Rattle.elf_parser.specs.Names.{name_by, section_name, symbol_name, dyn
 use crate::consts::{SECTION_NAME_LENGTH_MAXIMUM, SYMBOL_NAME_LENGTH_MAXIMUM};
 use crate::elf64::Elf64;
 use crate::error::ElfParserError;
-use crate::parts::{Place, past};
+use crate::parts::Place;
+use crate::records::record_in;
 use crate::strings::get_string_in_section;
-use crate::types::record_at;
 
 // The name at `offset` of the string table whose header stands at `header_at`; `missing` where
 // there is no such header.
@@ -22,14 +22,11 @@ fn name_by(
     ensures { result ≡ name_by file.now header_at offset most missing }
 {
     let at = header_at.ok_or(missing)?;
-    if past(file.len() as u64, at, 64) {
-        return Err(ElfParserError::OutOfBounds);
-    }
-    get_string_in_section(file, record_at(file, at as usize), offset, most)
+    get_string_in_section(file, record_in(file, at)?, offset, most)
 }
 
-// Kept: three of one shape, since each kind of name has its own table, limit and refusal; what they share is
-// `name_by`.
+// Kept: three of one shape over `name_by`; one function of the kind of name is no plainer, since each kind has its
+// own table, limit and refusal, which its callers would then tell apart.
 impl Elf64<'_> {
     pub fn section_name(&self, sh_name: u32) -> Result<Place, ElfParserError>
         ensures { result ≡ section_name self.now.file.now self.now.layout sh_name }

@@ -27,18 +27,12 @@ pub fn bytes_at(file: &[u8], place: Place) -> &[u8]
 pub fn part_of(file: &[u8], place: Result<Place, ElfParserError>) -> &[u8]
     ensures { result.now ≡ part_of file.now place }
 {
-    match place {
-        Ok(place) => bytes_at(file, place),
-        Err(_) => &file[..0],
-    }
+    place.map_or(&file[..0], |place| bytes_at(file, place))
 }
 
 // Whether `b` bytes from `a` on end past `len`.
 pub fn past(len: u64, a: u64, b: u64) -> bool
     ensures { result ≡ ltb len (a + b) }
 {
-    match a.checked_add(b) {
-        Some(end) => len < end,
-        None => true,
-    }
+    a.checked_add(b).is_none_or(|end| len < end)
 }

@@ -1,11 +1,12 @@
 // The program headers: PT_LOAD's checks, and the one that contains an address.
-ghost use Rattle.std.specs.Prelude.{◌≡◌, ◌+◌, ◌*◌, ◌≤◌, length};
+ghost use Rattle.std.specs.Prelude.{◌≡◌};
 ghost use Rattle.elf_parser.specs.ProgramHeaders.{load_step, loads_check, contains_step, header_for_vaddr};
 
 use crate::consts::PT_LOAD;
 use crate::error::ElfParserError;
-use crate::records::Entries;
-use crate::types::{Elf64Phdr, nth_record, over_records};
+use crate::parts::past;
+use crate::table::Table;
+use crate::types::Elf64Phdr;
 
 // The checks of one program header; `low` is the address of the last PT_LOAD header before it. What it
 // answers is that of the next.
@@ -19,24 +20,18 @@ fn load_step(len: u64, h: Elf64Phdr, low: u64) -> Result<u64, ElfParserError>
     if h.p_vaddr < low {
         return Err(ElfParserError::InvalidProgramHeader);
     }
-    if u64::MAX - h.p_offset < h.p_filesz {
-        return Err(ElfParserError::OutOfBounds);
-    }
-    if len < h.p_offset + h.p_filesz {
+    if past(len, h.p_offset, h.p_filesz) {
         return Err(ElfParserError::OutOfBounds);
     }
     Ok(h.p_vaddr)
 }
 
 // All program headers.
-pub(crate) fn check_program_headers(file: &[u8], table: Entries) -> Result<(), ElfParserError>
-    requires { table.offset + 56 * table.count ≤ length file.now }
-    ensures { result ≡ loads_check file.now table.count table.offset }
+pub(crate) fn check_program_headers(table: &Table<'_, Elf64Phdr>) -> Result<(), ElfParserError>
+    ensures { result ≡ loads_check table.now.file.now table.now.count table.now.offset }
 {
-    let len = file.len() as u64;
-    over_records(file, table, 0, |_, h: Elf64Phdr, low| {
-        load_step(len, h, low)
-    })?;
+    let len = table.file.len() as u64;
+    table.over(0, |_, h, low| load_step(len, h, low))?;
     Ok(())
 }
 
@@ -45,33 +40,31 @@ pub(crate) fn check_program_headers(file: &[u8], table: Entries) -> Result<(), E
 fn contains_step(h: Elf64Phdr, vaddr: u64) -> Result<Option<u64>, ElfParserError>
     ensures { result ≡ contains_step vaddr h }
 {
-    if u64::MAX - h.p_vaddr < h.p_memsz {
-        return Err(ElfParserError::OutOfBounds);
-    }
+    let end = h
+        .p_vaddr
+        .checked_add(h.p_memsz)
+        .ok_or(ElfParserError::OutOfBounds)?;
     if vaddr < h.p_vaddr {
         return Ok(None);
     }
-    if h.p_vaddr + h.p_memsz <= vaddr {
+    if end <= vaddr {
         return Ok(None);
     }
-    let inside = vaddr - h.p_vaddr;
-    if u64::MAX - inside < h.p_offset {
-        return Err(ElfParserError::OutOfBounds);
-    }
-    Ok(Some(inside + h.p_offset))
+    let offset = (vaddr - h.p_vaddr)
+        .checked_add(h.p_offset)
+        .ok_or(ElfParserError::OutOfBounds)?;
+    Ok(Some(offset))
 }
 
 // The first program header that contains the address decides.
 pub(crate) fn header_for_vaddr(
-    file: &[u8],
-    table: Entries,
+    table: &Table<'_, Elf64Phdr>,
     vaddr: u64,
 ) -> Result<Option<u64>, ElfParserError>
-    requires { table.offset + 56 * table.count ≤ length file.now }
-    ensures { result ≡ header_for_vaddr file.now vaddr table.count table.offset }
+    ensures { result ≡ header_for_vaddr table.now.file.now vaddr table.now.count table.now.offset }
 {
     for i in 0..table.count {
-        if let Some(offset) = contains_step(nth_record(file, table, i), vaddr)? {
+        if let Some(offset) = contains_step(table.nth(i), vaddr)? {
             return Ok(Some(offset));
         }
     }

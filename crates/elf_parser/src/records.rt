@@ -1,6 +1,7 @@
 // Records by index, and the contents of sections, for any numbers: also for a layout that no parse
 // made.
-ghost use Rattle.std.specs.Prelude.{◌≡◌, ◌+◌, ◌≤◌, ◌<◌};
+ghost use Rattle.std.specs.Prelude.{◌≡◌, ◌+◌, ◌≤◌, ◌<◌, length, MatchResult};
+ghost use Rattle.elf_parser.specs.declared.error.ElfParserError.TheVariants.{OutOfBounds};
 ghost use Rattle.elf_parser.specs.Records.{entry_at, entry_of, program_header_of, section_header_of, dynamic_symbol_of, dynamic_relocation_of, dynamic_rela_of, sliced, symbol_table_in, symbol_table_of, file_range, file_range_of, contents_place, section_place_of};
 ghost use Rattle.elf_parser.specs.Parts.{part_of};
 
@@ -11,7 +12,7 @@ use crate::parts::{Place, part_of, past};
 use crate::types::{Elf64Phdr, Elf64Rel, Elf64Rela, Elf64Shdr, Elf64Sym, Record, record_at};
 
 // Entries of one kind that stand one after another in the file.
-#[derive(Clone, Copy, PartialEq, Eq, Debug)]
+#[derive(Clone, Copy, PartialEq, Eq, Debug, Default)]
 pub struct Entries {
     pub offset: u64,
     pub count: u64,
@@ -23,12 +24,12 @@ pub const NO_ENTRIES: Entries = Entries {
     count: 0,
 };
 
-// Where the entry number `index` of a table starts, whose entries have `width` bytes.
+// Where the entry number `index` of a table of `T` starts.
 #[tactic(auto, using(ebpf::specs::Choice::choices), unfolding(crate::specs::Records::entry_at))]
-fn entry_at(len: u64, table: Entries, width: u64, index: u32) -> Result<usize, ElfParserError>
-    requires { width ≤ 64 }
-    ensures { result ≡ entry_at len table width index }
+fn entry_at<T: Record>(len: u64, table: Entries, index: u32) -> Result<usize, ElfParserError>
+    ensures { result ≡ entry_at len table T.SIZE index }
 {
+    let width = T::SIZE as u64;
     if table.count <= index as u64 {
         return Err(ElfParserError::NoSuchIndex);
     }
@@ -44,28 +45,35 @@ fn entry_at(len: u64, table: Entries, width: u64, index: u32) -> Result<usize, E
 pub fn entry<T: Record>(file: &[u8], table: Entries, index: u32) -> Result<T, ElfParserError>
     ensures { result ≡ entry_of T.SIZE T.at file.now table index }
 {
-    let at = entry_at(file.len() as u64, table, T::SIZE as u64, index)?;
+    let at = entry_at::<T>(file.len() as u64, table, index)?;
     Ok(record_at(file, at))
 }
 
-// Entries of `width` bytes that fill `size` bytes from `offset` on.
+// The record at a place that need not lie in the file.
+pub(crate) fn record_in<T: Record>(file: &[u8], at: u64) -> Result<T, ElfParserError>
+    ensures { MatchResult result (λ x. (at + T.SIZE ≤ length file.now) × (x ≡ T.at file.now at)) (λ r. (length file.now < at + T.SIZE) × (r ≡ OutOfBounds)) }
+{
+    if past(file.len() as u64, at, T::SIZE as u64) {
+        return Err(ElfParserError::OutOfBounds);
+    }
+    Ok(record_at(file, at as usize))
+}
+
+// Records of `T` that fill `size` bytes from `offset` on.
 #[tactic(auto, using(ebpf::specs::Choice::choices), unfolding(crate::specs::Records::sliced))]
-pub(crate) fn slice_from_bytes(
+pub(crate) fn slice_from_bytes<T: Record>(
     len: u64,
     offset: u64,
     size: u64,
-    width: u64,
 ) -> Result<Entries, ElfParserError>
-    requires { 0 < width }
-    ensures { result ≡ sliced len offset size width }
+    ensures { result ≡ sliced len offset size T.SIZE }
 {
-    if u64::MAX - offset < size {
-        return Err(ElfParserError::OutOfBounds);
-    }
+    let width = T::SIZE as u64;
+    let end = offset.checked_add(size).ok_or(ElfParserError::OutOfBounds)?;
     if 0 < size % width {
         return Err(ElfParserError::InvalidSize);
     }
-    if len < offset + size {
+    if len < end {
         return Err(ElfParserError::OutOfBounds);
     }
     if 0 < offset % 8 {
@@ -85,7 +93,7 @@ pub(crate) fn symbol_table_in(len: u64, header: Elf64Shdr) -> Result<Entries, El
     if (header.sh_type != SHT_SYMTAB) & (header.sh_type != SHT_DYNSYM) {
         return Err(ElfParserError::InvalidSectionHeader);
     }
-    slice_from_bytes(len, header.sh_offset, header.sh_size, 24)
+    slice_from_bytes::<Elf64Sym>(len, header.sh_offset, header.sh_size)
 }
 
 // A section of type SHT_NOBITS has no bytes in the file.
@@ -157,17 +165,14 @@ impl<'a> Elf64<'a> {
         ensures { result ≡ symbol_table_of self.now.file.now self.now.layout }
     {
         let Some(header_at) = self.layout.symtab else {
-            return Ok(NO_ENTRIES);
+            return Ok(Entries::default());
         };
-        let len = self.file.len() as u64;
-        if past(len, header_at, 64) {
-            return Err(ElfParserError::OutOfBounds);
-        }
-        symbol_table_in(len, record_at(self.file, header_at as usize))
+        symbol_table_in(self.file.len() as u64, record_in(self.file, header_at)?)
     }
 
     // Where the bytes of section `index` stand in the file.
-    // Kept: two lines that `section_place` has too, with another check; a function over the check would have more.
+    // Kept: `section_place` has the same two lines with another check; one function that takes the check is no
+    // plainer, since its contract has to name what the check answers.
     pub fn file_range(&self, index: u32) -> Result<Place, ElfParserError>
         ensures { result ≡ file_range_of self.now.file.now self.now.layout index }
     {

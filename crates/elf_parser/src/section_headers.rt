@@ -1,14 +1,16 @@
 // The sections that have bytes in the file: they ascend there, lie in it, and are apart from the
 // file header and both tables.
-ghost use Rattle.std.specs.Prelude.{◌≡◌, ◌+◌, ◌*◌, ◌≤◌, length};
-ghost use Rattle.elf_parser.specs.SectionHeaders.{section_check, section_step, sections_check};
+ghost use Rattle.std.specs.Prelude.{◌≡◌};
+ghost use Rattle.elf_parser.specs.SectionHeaders.{section_step, sections_check};
 
 use crate::consts::SHT_NOBITS;
 use crate::error::ElfParserError;
-use crate::records::Entries;
-use crate::types::{Elf64Shdr, over_records};
+use crate::header::overlaps;
+use crate::table::Table;
+use crate::types::Elf64Shdr;
 
 // Where the two header tables stand.
+// Kept: four numbers, as the definitions' `overlap` takes them; as two ranges each would only be spelled longer.
 #[derive(Clone, Copy, PartialEq, Eq, Debug)]
 pub struct Ranges {
     pub phoff: u64,
@@ -17,28 +19,26 @@ pub struct Ranges {
     pub shend: u64,
 }
 
-// The checks of one section, by its place; `low` is where the last section before it ends.
-#[tactic(auto, using(ebpf::specs::Choice::choices), unfolding(crate::specs::SectionHeaders::section_check))]
-fn check_section(
-    len: u64,
-    low: u64,
-    t: Ranges,
-    sh_offset: u64,
-    sh_size: u64,
-) -> Result<(), ElfParserError>
-    ensures { result ≡ section_check len low t sh_offset sh_size }
+// The checks of one section, whose bytes are apart from the file header and both tables and behind those of the
+// section before, which end at `low`. What it answers is where the next section may begin.
+#[tactic(auto, using(ebpf::specs::Choice::choices, crate::specs::Errors::row_stops, crate::specs::Errors::row_goes), unfolding(crate::specs::SectionHeaders::section_step, crate::specs::SectionHeaders::section_check))]
+fn section_step(len: u64, h: Elf64Shdr, low: u64, t: Ranges) -> Result<u64, ElfParserError>
+    ensures { result ≡ section_step len t h low }
 {
-    if u64::MAX - sh_offset < sh_size {
-        return Err(ElfParserError::OutOfBounds);
+    if h.sh_type == SHT_NOBITS {
+        return Ok(low);
     }
-    let end = sh_offset + sh_size;
-    if (0 < end) & (sh_offset < 64) {
+    let sh_offset = h.sh_offset;
+    let end = sh_offset
+        .checked_add(h.sh_size)
+        .ok_or(ElfParserError::OutOfBounds)?;
+    if overlaps(sh_offset..end, 0..64) {
         return Err(ElfParserError::Overlap);
     }
-    if (t.phoff < end) & (sh_offset < t.phend) {
+    if overlaps(sh_offset..end, t.phoff..t.phend) {
         return Err(ElfParserError::Overlap);
     }
-    if (t.shoff < end) & (sh_offset < t.shend) {
+    if overlaps(sh_offset..end, t.shoff..t.shend) {
         return Err(ElfParserError::Overlap);
     }
     if sh_offset < low {
@@ -47,33 +47,17 @@ fn check_section(
     if len < end {
         return Err(ElfParserError::OutOfBounds);
     }
-    Ok(())
-}
-
-// What it answers is where the next section may begin.
-#[tactic(auto, using(ebpf::specs::Choice::choices, crate::specs::SectionHeaders::section_within), unfolding(crate::specs::SectionHeaders::section_step))]
-fn section_step(len: u64, h: Elf64Shdr, low: u64, t: Ranges) -> Result<u64, ElfParserError>
-    ensures { result ≡ section_step len t h low }
-{
-    if h.sh_type == SHT_NOBITS {
-        return Ok(low);
-    }
-    check_section(len, low, t, h.sh_offset, h.sh_size)?;
-    Ok(h.sh_offset + h.sh_size)
+    Ok(end)
 }
 
 // All section headers.
 pub(crate) fn check_section_headers(
-    file: &[u8],
-    table: Entries,
+    table: &Table<'_, Elf64Shdr>,
     t: Ranges,
 ) -> Result<(), ElfParserError>
-    requires { table.offset + 64 * table.count ≤ length file.now }
-    ensures { result ≡ sections_check file.now t table.count table.offset }
+    ensures { result ≡ sections_check table.now.file.now t table.now.count table.now.offset }
 {
-    let len = file.len() as u64;
-    over_records(file, table, 0, |_, h: Elf64Shdr, low| {
-        section_step(len, h, low, t)
-    })?;
+    let len = table.file.len() as u64;
+    table.over(0, |_, h, low| section_step(len, h, low, t))?;
     Ok(())
 }

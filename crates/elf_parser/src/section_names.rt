@@ -1,13 +1,13 @@
 // The sections that are found by their names.
-ghost use Rattle.std.specs.Prelude.{◌≡◌, ◌+◌, ◌*◌, ◌≤◌, length};
+ghost use Rattle.std.specs.Prelude.{◌≡◌};
 ghost use Rattle.elf_parser.specs.SectionNames.{role_of, placed, role_step, name_step, names_of};
 
 use crate::consts::SECTION_NAME_LENGTH_MAXIMUM;
 use crate::error::ElfParserError;
 use crate::parts::bytes_at;
-use crate::records::Entries;
 use crate::strings::get_string_in_section;
-use crate::types::{Elf64Shdr, over_records};
+use crate::table::Table;
+use crate::types::Elf64Shdr;
 
 // Which of the names that the reader knows a section has.
 #[derive(Clone, Copy, PartialEq, Eq, Debug)]
@@ -18,7 +18,7 @@ pub enum Role {
 }
 
 // Where the headers of those sections stand in the file.
-#[derive(Clone, Copy, PartialEq, Eq, Debug)]
+#[derive(Clone, Copy, PartialEq, Eq, Debug, Default)]
 pub struct Named {
     pub symtab: Option<u64>,
     pub strtab: Option<u64>,
@@ -90,19 +90,14 @@ fn name_step(
 
 // All section headers.
 pub(crate) fn find_named(
-    file: &[u8],
     names: Elf64Shdr,
-    table: Entries,
+    table: &Table<'_, Elf64Shdr>,
 ) -> Result<Named, ElfParserError>
-    requires { table.offset + 64 * table.count ≤ length file.now }
-    ensures { result ≡ names_of file.now names table.count table.offset }
+    ensures { result ≡ names_of table.now.file.now names table.now.count table.now.offset }
 {
-    let none = Named {
-        symtab: None,
-        strtab: None,
-        dynstr: None,
-    };
-    over_records(file, table, none, |at, h: Elf64Shdr, n| {
-        name_step(file, names, h, at, n)
-    })
+    let file = table.file;
+    table.over(
+        Named::default(),
+        |at, h, n| name_step(file, names, h, at, n),
+    )
 }

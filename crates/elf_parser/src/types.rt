@@ -1,13 +1,9 @@
 // The records of a file, with the fields that are asked for, and their readers at a place.
-ghost use Rattle.std.specs.Prelude.{◌≡◌, ℕ, ◌+◌, ◌*◌, ◌≤◌, ◌<◌, List, Result, length, take, drop};
+ghost use Rattle.std.specs.Prelude.{◌≡◌, ℕ, ◌+◌, ◌≤◌, ◌<◌, List, length, take, drop};
 ghost use Rattle.std.proofs.Common.{lit<, lit≤};
 ghost use Rattle.elf_parser.specs.Types.{file_header, program_header, section_header, sym, rel, rela, dynamic};
-ghost use Rattle.elf_parser.specs.declared.error.ElfParserError.{ElfParserError};
-ghost use Rattle.elf_parser.specs.Loops.{over};
 ghost use Rattle.elf_parser.specs.Fields.{program_header_part, section_header_part, sym_part, rel_part, rela_part, dynamic_part};
 
-use crate::error::ElfParserError;
-use crate::records::Entries;
 use ebpf::little_endian::read;
 
 #[derive(Clone, Copy, PartialEq, Eq, Debug)]
@@ -33,7 +29,7 @@ pub struct Elf64Phdr {
     pub p_memsz: u64,
 }
 
-#[derive(Clone, Copy, PartialEq, Eq, Debug)]
+#[derive(Clone, Copy, PartialEq, Eq, Debug, Default)]
 pub struct Elf64Shdr {
     pub sh_name: u32,
     pub sh_type: u32,
@@ -259,35 +255,4 @@ pub(crate) fn record_at<T: Record>(file: &[u8], at: usize) -> T
 {
     let end = at + T::SIZE;
     T::read(&file[at..end])
-}
-
-// The record number `i` of a table that lies in the file.
-pub(crate) fn nth_record<T: Record>(file: &[u8], table: Entries, i: u64) -> T
-    requires inside { table.offset + T.SIZE * table.count ≤ length file.now }
-    requires below { i < table.count }
-    ensures { result ≡ T.at file.now (table.offset + T.SIZE * i) }
-{
-    record_at(file, table.offset as usize + T::SIZE * i as usize)
-}
-
-// What is left of a state after the records of a table, in turn: `step` goes from one to the next, with the
-// place where the record starts, up to the first that refuses.
-pub(crate) fn over_records<T: Record, S: Copy, F: Fn(u64, T, S) -> Result<S, ElfParserError>>(
-    file: &[u8],
-    table: Entries,
-    first: S,
-    step: F,
-) -> Result<S, ElfParserError>
-    ghost stepped: { ℕ → S → Result S ElfParserError }
-    requires inside { table.offset + T.SIZE * table.count ≤ length file.now }
-    requires callable { F.IsAlwaysCallable step }
-    requires steps { (at : ℕ) (x : S) (r : Result S ElfParserError) → F.post step at (T.at file.now at) x r → r ≡ stepped at x }
-    ensures { result ≡ over stepped T.SIZE table.count table.offset first }
-{
-    let mut state = first;
-    for i in 0..table.count {
-        let at = table.offset + T::SIZE as u64 * i;
-        state = step(at, nth_record(file, table, i), state)?;
-    }
-    Ok(state)
 }

@@ -3,10 +3,10 @@
 // chains, numbers of 32 bits each. Every function takes the file with its layout, also one that no parse made.
 ghost use Rattle.std.specs.Prelude.{◌≡◌, ◌+◌, ◌%◌, ◌<◌, length};
 ghost use Rattle.hash_table.specs.Hash.{sum_with, high_bits, without_high, hash_with, elf_hash};
-ghost use Rattle.hash_table.specs.Find.{table_at, hash_table_of, Usable, number_at, bucket_at, chain_at, name_at, carries_at, carries, link_at, walked, find_symbol};
+ghost use Rattle.hash_table.specs.Find.{bad_table, table_at, hash_table_of, Usable, number_at, bucket_at, chain_at, carries, link_at, walked, find_symbol};
 
 use ebpf::little_endian::read;
-use elf_parser::{Elf64, ElfParserError, Place, bytes_at, past};
+use elf_parser::{Elf64, ElfParserError, bytes_at, past};
 use std::ops::ControlFlow;
 
 // (h << 4) + byte, modulo 2^32.
@@ -62,6 +62,15 @@ struct HashTable {
 #[derive(Clone, Copy, PartialEq, Eq, Debug)]
 pub struct BadHashTable;
 
+// A place that the reader refuses leaves nothing to use.
+impl From<ElfParserError> for BadHashTable {
+    ghost from_gives = { λ e r. r ≡ bad_table };
+
+    fn from(_: ElfParserError) -> BadHashTable {
+        BadHashTable
+    }
+}
+
 // The table at a place in the file, with as many chains as there are symbols.
 #[tactic(auto, using(ebpf::specs::Choice::choices), unfolding(crate::specs::Find::table_at))]
 fn table_at(file: &[u8], symbols: u64, at: u64) -> Result<HashTable, BadHashTable>
@@ -99,10 +108,8 @@ fn hash_table(elf: &Elf64<'_>) -> Result<HashTable, BadHashTable>
     if vaddr == 0 {
         return Err(BadHashTable);
     }
-    match elf.file_offset(vaddr) {
-        Ok(Some(at)) => table_at(elf.file, elf.layout.dynamic_symbols.count, at),
-        _ => Err(BadHashTable),
-    }
+    let at = elf.file_offset(vaddr)?.ok_or(BadHashTable)?;
+    table_at(elf.file, elf.layout.dynamic_symbols.count, at)
 }
 
 // The bucket that a hash falls into.
@@ -113,99 +120,85 @@ fn bucket_of(hash: u32, nbucket: u32) -> u32
     hash % nbucket
 }
 
-// The number at a place behind the two counts: `index` from `first` on, which is 0 for the buckets and
-// their count for the chains.
-fn number_at(file: &[u8], t: HashTable, first: u32, index: u32) -> u32
-    requires { Usable (length file.now) t × (first + index < t.nbucket + t.nchain) }
-    ensures { result ≡ number_at file.now t (first + index) }
-{
-    read(file, t.buckets + (first as usize + index as usize) * 4)
+// A name that is looked for through a file's hash table, which has buckets and lies in the file.
+#[derive(Clone, Copy)]
+struct Search<'a> {
+    elf: &'a Elf64<'a>,
+    name: &'a [u8],
+    table: HashTable,
+    ghost usable: { Usable (length elf.now.file.now) table },
 }
 
-// The first symbol of the bucket that a hash falls into.
-fn bucket_at(file: &[u8], t: HashTable, hash: u32) -> u32
-    requires { Usable (length file.now) t }
-    ensures { result ≡ bucket_at file.now t hash }
-{
-    let bucket = bucket_of(hash, t.nbucket);
-    number_at(file, t, 0, bucket)
-}
-
-// The symbol behind another on its chain.
-fn chain_at(file: &[u8], t: HashTable, index: u32) -> u32
-    requires { Usable (length file.now) t × (index < t.nchain) }
-    ensures { result ≡ chain_at file.now t index }
-{
-    number_at(file, t, t.nbucket, index)
-}
-
-// Where the name of a dynamic symbol stands.
-fn name_at(elf: &Elf64<'_>, index: u32) -> Result<Place, ElfParserError>
-    ensures { result ≡ name_at elf.now.file.now elf.now.layout index }
-{
-    let symbol = elf.dynamic_symbol(index)?;
-    elf.dynamic_symbol_name(symbol.st_name)
-}
-
-// Whether the bytes at a place are the name.
-#[tactic(auto, using(elf_parser::specs::SectionNames::same_tested))]
-fn carries_at(
-    file: &[u8],
-    place: Result<Place, ElfParserError>,
-    name: &[u8],
-) -> Result<bool, BadHashTable>
-    ensures { result ≡ carries_at file.now place name.now }
-{
-    match place {
-        Ok(place) => Ok(bytes_at(file, place) == name),
-        Err(_) => Err(BadHashTable),
+impl Search<'_> {
+    // The number at a place behind the two counts: `index` from `first` on, which is 0 for the buckets and
+    // their count for the chains.
+    fn number_at(&self, first: u32, index: u32) -> u32
+        requires { first + index < self.now.table.nbucket + self.now.table.nchain }
+        ensures { result ≡ number_at self.now.elf.now.file.now self.now.table (first + index) }
+    {
+        read(
+            self.elf.file,
+            self.table.buckets + (first as usize + index as usize) * 4,
+        )
     }
-}
 
-// Whether a symbol carries the name, which is refused where its own cannot be read.
-fn carries_name(elf: &Elf64<'_>, name: &[u8], index: u32) -> Result<bool, BadHashTable>
-    ensures { result ≡ carries elf.now.file.now elf.now.layout name.now index }
-{
-    carries_at(elf.file, name_at(elf, index), name)
-}
+    // The first symbol of the bucket that a hash falls into.
+    fn bucket_at(&self, hash: u32) -> u32
+        ensures { result ≡ bucket_at self.now.elf.now.file.now self.now.table hash }
+    {
+        let bucket = bucket_of(hash, self.table.nbucket);
+        self.number_at(0, bucket)
+    }
 
-// One link of a chain: the end of the walk, or where it goes on.
-#[tactic(auto, using(ebpf::specs::Choice::choices), unfolding(crate::specs::Find::link_at))]
-fn link_at(
-    elf: &Elf64<'_>,
-    name: &[u8],
-    t: HashTable,
-    index: u32,
-) -> Result<ControlFlow<Option<u32>, u32>, BadHashTable>
-    requires { Usable (length elf.now.file.now) t }
-    ensures { result ≡ link_at elf.now.file.now elf.now.layout name.now t index }
-{
-    if index == 0 {
-        return Ok(ControlFlow::Break(None));
+    // The symbol behind another on its chain.
+    fn chain_at(&self, index: u32) -> u32
+        requires { index < self.now.table.nchain }
+        ensures { result ≡ chain_at self.now.elf.now.file.now self.now.table index }
+    {
+        self.number_at(self.table.nbucket, index)
     }
-    if t.nchain <= index {
-        return Err(BadHashTable);
-    }
-    if carries_name(elf, name, index)? {
-        return Ok(ControlFlow::Break(Some(index)));
-    }
-    Ok(ControlFlow::Continue(chain_at(elf.file, t, index)))
-}
 
-// The walk along a chain from a symbol on: a chain has no more links than there are symbols, and the end.
-#[tactic(auto, using(crate::specs::Find::walked_is, crate::specs::Find::walked_end), unfolding(crate::specs::Find::on_link))]
-fn walk(elf: &Elf64<'_>, name: &[u8], t: HashTable, first: u32) -> Result<Option<u32>, BadHashTable>
-    requires { Usable (length elf.now.file.now) t }
-    ensures { result ≡ walked elf.now.file.now elf.now.layout name.now t (t.nchain + 1) first }
-{
-    let mut index = first;
-    for _ in 0..t.nchain as u64 + 1 {
-        match link_at(elf, name, t, index)? {
-            ControlFlow::Break(found) => return Ok(found),
-            ControlFlow::Continue(next) => index = next,
+    // Whether a symbol carries the name, which is refused where its own cannot be read.
+    #[tactic(auto, using(elf_parser::specs::SectionNames::same_tested))]
+    fn carries_name(&self, index: u32) -> Result<bool, BadHashTable>
+        ensures { result ≡ carries self.now.elf.now.file.now self.now.elf.now.layout self.now.name.now index }
+    {
+        let symbol = self.elf.dynamic_symbol(index)?;
+        let place = self.elf.dynamic_symbol_name(symbol.st_name)?;
+        Ok(bytes_at(self.elf.file, place) == self.name)
+    }
+
+    // One link of a chain: the end of the walk, or where it goes on.
+    #[tactic(auto, using(ebpf::specs::Choice::choices), unfolding(crate::specs::Find::link_at))]
+    fn link_at(&self, index: u32) -> Result<ControlFlow<Option<u32>, u32>, BadHashTable>
+        ensures { result ≡ link_at self.now.elf.now.file.now self.now.elf.now.layout self.now.name.now self.now.table index }
+    {
+        if index == 0 {
+            return Ok(ControlFlow::Break(None));
         }
+        if self.table.nchain <= index {
+            return Err(BadHashTable);
+        }
+        if self.carries_name(index)? {
+            return Ok(ControlFlow::Break(Some(index)));
+        }
+        Ok(ControlFlow::Continue(self.chain_at(index)))
     }
-    Err(BadHashTable)
+
+    // The walk along a chain from a symbol on: a chain has no more links than there are symbols, and the end.
+    #[tactic(auto, using(crate::specs::Find::walked_is, crate::specs::Find::walked_end), unfolding(crate::specs::Find::on_link))]
+    fn walk(&self, first: u32) -> Result<Option<u32>, BadHashTable>
+        ensures { result ≡ walked self.now.elf.now.file.now self.now.elf.now.layout self.now.name.now self.now.table (self.now.table.nchain + 1) first }
+    {
+        let mut index = first;
+        for _ in 0..self.table.nchain as u64 + 1 {
+            match self.link_at(index)? {
+                ControlFlow::Break(found) => return Ok(found),
+                ControlFlow::Continue(next) => index = next,
+            }
+        }
+        Err(BadHashTable)
+    }
 }
 
 // The dynamic symbol with a name: the first on the name's chain that carries it, if one does.
@@ -213,7 +206,7 @@ fn walk(elf: &Elf64<'_>, name: &[u8], t: HashTable, first: u32) -> Result<Option
 pub fn find_symbol(elf: &Elf64<'_>, name: &[u8]) -> Result<Option<u32>, BadHashTable>
     ensures { result ≡ find_symbol elf.now.file.now elf.now.layout name.now }
 {
-    let t = hash_table(elf)?;
-    let first = bucket_at(elf.file, t, elf_hash(name));
-    walk(elf, name, t, first)
+    let table = hash_table(elf)?;
+    let search = Search { elf, name, table };
+    search.walk(search.bucket_at(elf_hash(name)))
 }

@@ -11,7 +11,7 @@ ghost use Rattle.loader.specs.InnerContracts.{entered_as, moved_by, finished_by,
 use crate::error::ElfError;
 use program::{FunctionRegistry, RegisterError, Registered, Row};
 
-#[derive(Clone, Copy)]
+#[derive(Clone, Copy, PartialEq, Eq, Debug)]
 pub enum Deed {
     Skip,
     // The halves of a number, four bytes each.
@@ -30,7 +30,7 @@ pub enum Deed {
 
 // What a deed asks of the table.
 // Kept: an Option of a struct leaves the proofs no case by `outside`.
-#[derive(Clone, Copy)]
+#[derive(Clone, Copy, PartialEq, Eq, Debug)]
 pub enum Entry {
     Nothing,
     Register { row: Row, outside: bool },

@@ -5,7 +5,7 @@ ghost use Rattle.loader.specs.Errors.{from_collision, from_parser, report_of};
 use elf_parser::{ElfParserError, Place, Report};
 use program::SymbolHashCollision;
 
-#[derive(Clone, Copy)]
+#[derive(Clone, Copy, PartialEq, Eq, Debug)]
 pub enum ElfError {
     FailedToParse(ElfParserError),
     EntrypointOutOfBounds,

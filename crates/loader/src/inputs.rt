@@ -8,7 +8,7 @@ use elf_parser::Elf64;
 
 // The file, the built-in keys, the keys of the first indices, and what the checks left. `in_file` is what
 // the checks showed of the job, and by `keyed` the table gives every index its key.
-#[derive(Clone, Copy)]
+#[derive(Clone, Copy, PartialEq, Eq, Debug)]
 pub struct Inputs<'a> {
     pub file: &'a [u8],
     pub builtins: &'a [u32],

@@ -9,7 +9,7 @@ use crate::sections::{Survey, no_survey, section_at, survey_next};
 use crate::validate::Rules;
 use elf_parser::Elf64;
 
-#[derive(Clone, Copy)]
+#[derive(Clone, Copy, PartialEq, Eq, Debug)]
 pub struct Overview {
     pub survey: Survey,
     pub gathering: Result<Extent, ElfError>,

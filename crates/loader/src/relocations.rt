@@ -26,7 +26,7 @@ const R_BPF_64_32: u32 = 10;
 
 // A relocation of either kind, with the addend that it brings, if it is of the kind that does: its bits as
 // an unsigned number.
-#[derive(Clone, Copy)]
+#[derive(Clone, Copy, PartialEq, Eq, Debug)]
 pub struct Relocation {
     pub r_offset: u64,
     pub r_info: u64,
@@ -100,7 +100,7 @@ pub fn relocation_at(elf: &Elf64<'_>, index: u32) -> Relocation
 
 // A program header, as far as version 2 maps by it: the addresses from `p_vaddr` up to `end` stand
 // from `p_offset` on in the file.
-#[derive(Clone, Copy)]
+#[derive(Clone, Copy, PartialEq, Eq, Debug)]
 pub struct UsedHeader {
     pub p_vaddr: u64,
     pub end: u64,

@@ -14,7 +14,7 @@ use elf_parser::types::{Elf64Ehdr, Elf64Shdr};
 use elf_parser::{Elf64, ElfParserError, Layout, file_header, parse};
 
 // The settings of a load, under the Rust's names.
-#[derive(Clone, Copy)]
+#[derive(Clone, Copy, PartialEq, Eq, Debug)]
 pub struct Config {
     pub enable_symbol_and_section_labels: bool,
     pub reject_broken_elfs: bool,
@@ -25,7 +25,7 @@ pub struct Config {
 }
 
 // What a file is checked and its sections are placed by: its version, and the settings.
-#[derive(Clone, Copy)]
+#[derive(Clone, Copy, PartialEq, Eq, Debug)]
 pub struct Rules {
     pub version2: bool,
     pub config: Config,
@@ -33,7 +33,7 @@ pub struct Rules {
 
 // What a load needs of a file that passed the checks. `start` and `length` are the text's place in
 // the file, 0 for a text without bytes; `addr` is its address in the machine.
-#[derive(Clone, Copy)]
+#[derive(Clone, Copy, PartialEq, Eq, Debug)]
 pub struct Job {
     pub version2: bool,
     pub labels: bool,

@@ -4,5 +4,5 @@ use Rattle.elf_parser.specs.Types.{program_header}
 use Rattle.elf_parser.specs.ProgramHeaders.{load_step}
 use Rattle.elf_parser.proofs.program_headers.check_program_headers.Given as goal
 
-abbrev pub ghost-over_records : goal.ghost-over_records
-ghost-over_records a = λ p low. load_step (length a.file.now) (program_header a.file.now p) low
+abbrev pub ghost-over : goal.ghost-over
+ghost-over a = λ p low. load_step (length a.self.now.file.now) (program_header a.self.now.file.now p) low

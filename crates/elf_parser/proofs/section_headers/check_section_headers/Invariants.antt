@@ -4,5 +4,5 @@ use Rattle.elf_parser.specs.Types.{section_header}
 use Rattle.elf_parser.specs.SectionHeaders.{section_step}
 use Rattle.elf_parser.proofs.section_headers.check_section_headers.Given as goal
 
-abbrev pub ghost-over_records : goal.ghost-over_records
-ghost-over_records a = λ p low. section_step (length a.file.now) a.step.1.now (section_header a.file.now p) low
+abbrev pub ghost-over : goal.ghost-over
+ghost-over a = λ p low. section_step (length a.self.now.file.now) a.step.1.now (section_header a.self.now.file.now p) low

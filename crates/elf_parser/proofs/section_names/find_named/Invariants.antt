@@ -3,5 +3,5 @@ use Rattle.elf_parser.specs.Types.{section_header}
 use Rattle.elf_parser.specs.SectionNames.{name_step}
 use Rattle.elf_parser.proofs.section_names.find_named.Given as goal
 
-abbrev pub ghost-over_records : goal.ghost-over_records
-ghost-over_records a = λ at n. name_step a.file.now a.step.1.now (section_header a.file.now at) at n
+abbrev pub ghost-over : goal.ghost-over
+ghost-over a = λ at n. name_step a.self.now.file.now a.step.1.now (section_header a.self.now.file.now at) at n
