@@ -43,7 +43,7 @@ fn named_in(text: LoadedText, place: Option<u64>, r_info: u64) -> Option<Named>
 }
 
 // The program header used last, and the bytes that a relocation names, if it names any.
-#[derive(Clone, Copy)]
+#[derive(Clone, Copy, PartialEq, Eq, Debug)]
 pub struct Next {
     pub header: Option<UsedHeader>,
     pub named: Option<Named>,
