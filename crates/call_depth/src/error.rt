@@ -7,7 +7,7 @@ use loader::ElfError;
 
 // 50, with the smallest index of a function that is reached and reaches itself; 51, with a chain past
 // the limit; or why the load or the question is refused.
-#[derive(Clone, Copy)]
+#[derive(Clone, Copy, PartialEq, Eq, Debug)]
 pub enum CallDepthError {
     RecursiveCall(u32),
     TooDeep(u32),

@@ -26,7 +26,7 @@ mod slots;
 pub use error::CallDepthError;
 
 // What a load answers, and how deep the profile calls.
-#[derive(Clone, Copy)]
+#[derive(Clone, Copy, PartialEq, Eq, Debug)]
 pub struct LoadDepth {
     pub load: Result<Accepted, ElfError>,
     pub depth: Result<u32, CallDepthError>,

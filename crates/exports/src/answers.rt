@@ -152,16 +152,15 @@ pub(crate) fn give(answer: &mut [u64], a: Answer) -> u32
 
 // Fills a lent slice with a row's nine words.
 // Kept: beside `fill`, since a copy of nine words, a number known beforehand, makes a lookup a fifth
-// faster.
+// faster; and the words written out twice, since one array for both would go over the stack.
 fn give_nine(answer: &mut [u64], found: u64, index: u64, kind: u64, start: u64, size: u64)
     ensures { answer.new ≡ written (length answer.old) (nine_words found index kind start size) }
 {
-    let words = [0, 0, 0, 0, found, index, kind, start, size];
     if answer.len() < 9 {
-        fill(answer, &words);
+        fill(answer, &[0, 0, 0, 0, found, index, kind, start, size]);
         return;
     }
-    answer[..9].copy_from_slice(&words);
+    answer[..9].copy_from_slice(&[0, 0, 0, 0, found, index, kind, start, size]);
     answer[9..].fill(0);
 }
 

@@ -31,7 +31,7 @@ pub enum Writer {
 }
 
 // What a load answers, and who wrote the byte that was asked for.
-#[derive(Clone, Copy)]
+#[derive(Clone, Copy, PartialEq, Eq, Debug)]
 pub struct LoadWrote {
     pub load: Result<Accepted, ElfError>,
     pub wrote: Result<Writer, ElfError>,

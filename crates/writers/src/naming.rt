@@ -43,26 +43,26 @@ fn named_in(text: LoadedText, place: Option<u64>, r_info: u64) -> Option<Named>
 }
 
 // The program header used last, and the bytes that a relocation names, if it names any.
-#[derive(Clone, Copy)]
+#[derive(Clone, Copy, PartialEq, Eq, Debug)]
 pub struct Next {
     pub header: Option<UsedHeader>,
     pub named: Option<Named>,
 }
 
 // Of the relocation number `i`, behind those that used `header` last.
-pub(crate) fn named_next(file: &[u8], text: Text, header: Option<UsedHeader>, i: u32) -> Next
-    ensures { NamesNext file.now text header i result }
+pub(crate) fn named_next(
+    elf: &Elf64<'_>,
+    text: LoadedText,
+    header: Option<UsedHeader>,
+    i: u32,
+) -> Next
+    ensures { NamesNext elf.now.file.now (record { layout = elf.now.layout; loaded = text }) header i result }
 {
-    let elf = Elf64 {
-        file,
-        layout: text.layout,
-    };
-    let version2 = text.loaded.version2;
-    let r = relocation_at(&elf, i);
-    let next = used_header(&elf, version2, header, r.r_offset);
+    let r = relocation_at(elf, i);
+    let next = used_header(elf, text.version2, header, r.r_offset);
     Next {
         header: next,
-        named: named_in(text.loaded, r_place(version2, next, r.r_offset), r.r_info),
+        named: named_in(text, r_place(text.version2, next, r.r_offset), r.r_info),
     }
 }
 
@@ -107,9 +107,13 @@ pub(crate) fn last_naming(file: &[u8], text: Text, b: u64) -> Writer
 {
     let count = relocation_count(text.layout);
     let mut writer = call_writer(file, text, b);
+    let elf = Elf64 {
+        file,
+        layout: text.layout,
+    };
     let mut header = None;
     for i in 0..count {
-        let next = named_next(file, text, header, i);
+        let next = named_next(&elf, text.loaded, header, i);
         header = next.header;
         if is_named(next.named, b) {
             writer = Writer::Relocation(i);

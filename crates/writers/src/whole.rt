@@ -8,6 +8,7 @@ ghost use Rattle.writers.specs.Whole.{Marks, OnlyZeros, HoldsCalls, HoldsAll};
 use crate::calls::is_call;
 use crate::naming::{Named, named_next, relocation_count};
 use crate::text::Text;
+use elf_parser::Elf64;
 
 // `code` at a place below `len`.
 fn mark_one(numbers: &mut [u32], len: usize, at: usize, code: u32)
@@ -87,9 +88,13 @@ pub(crate) fn mark_all(numbers: &mut [u32], file: &[u8], text: Text)
     mark_calls(numbers, file, text);
     let len = file.len();
     let count = relocation_count(text.layout);
+    let elf = Elf64 {
+        file,
+        layout: text.layout,
+    };
     let mut header = None;
     for i in 0..count {
-        let next = named_next(file, text, header, i);
+        let next = named_next(&elf, text.loaded, header, i);
         header = next.header;
         mark_named(numbers, len, next.named, 0x8000_0000 + i);
     }
