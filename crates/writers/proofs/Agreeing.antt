@@ -97,10 +97,13 @@ text_told : (s : List ℕ) (j : Job) (a : Accepted) → InFile s j → Read s j
     → a.version ≡ (2 if j.version2 else 1)
     → a.text_start ≡ j.start
     → a.text_length ≡ j.length
-    → text_of s (text_loaded a) ≡ Ok (text_is j)
+    → text_of s (text_loaded a) ≡ Ok j.layout
 unfolding text_of text_in ◌if◌else◌
 text_told s j a inside read v p n =
     rw (le-ltb 0x100_0000 (length s) inside.short, p, n, le-ltb (length s) (j.start + j.length) inside.text, read.layout_is, v, version_told j.version2, headers_counted s j.layout read.layout_is, read.few) refl
+
+loaded_told : (j : Job) (a : Accepted) → a.version ≡ (2 if j.version2 else 1) → a.text_start ≡ j.start → a.text_length ≡ j.length → text_loaded a ≡ text_is j
+loaded_told j a v p n = rw (v, p, n, version_told j.version2) refl
 
 module _ (file builtins : List ℕ) (c : Config) (n m rows b : ℕ) where
   -- the answer for a byte of the file, and for an offset past its end
@@ -120,7 +123,7 @@ module _ (file builtins : List ℕ) (c : Config) (n m rows b : ℕ) where
 
     told : (a : Accepted) → a.version ≡ (2 if j.version2 else 1) → a.text_start ≡ j.start → a.text_length ≡ j.length
         → asked file (Ok a) b ≡ (told_ok j if ltb b (length file) else past_end)
-    told a v p k = rw (text_told file j a inside (was_read file builtins c n m j ready) v p k, ← writer_named file builtins j inside im ends b) refl
+    told a v p k = rw (text_told file j a inside (was_read file builtins c n m j ready) v p k, loaded_told j a v p k, ← writer_named file builtins j inside im ends b) refl
 
     byte : (told_ok j if ltb b (length file) else past_end) ≡ Ok File → get_or (im ++ replicate (n - length im) 0) b 0 ≡ get_or file b 0
     byte e =

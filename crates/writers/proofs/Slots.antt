@@ -14,7 +14,7 @@ use Rattle.program.proofs.Cases.{by_le, by_lt}
 use Rattle.loader.specs.Deeds.{is_in}
 use Rattle.loader.proofs.Kept.{not_in, in_places}
 use Rattle.writers.specs.declared.Writer.TheVariants.{File, Call}
-use Rattle.writers.specs.declared.text.Text.{Text}
+use Rattle.writers.specs.declared.text.LoadedText.{LoadedText}
 use Rattle.writers.specs.Named.{is_call, immediate_of, slot_of, in_immediate, call_to, last_of}
 
 pub and_off : (x : Bool) → (x && false) ≡ false
@@ -25,7 +25,7 @@ pub and_on : (x : Bool) → (x && true) ≡ x
 and_on true = refl
 and_on false = refl
 
-module _ (file : List ℕ) (t : Text) (b : ℕ) where
+module _ (file : List ℕ) (t : LoadedText) (b : ℕ) where
   -- what is said of slot number i: it has b in its immediate; or b is in none's; or in another one's
   pub data Where (i : ℕ) : Type 0 where
     here : is_in (immediate_of t i) 4 b ≡ true → in_immediate t b ≡ true → slot_of t b ≡ i → immediate_of t i ≤ b → b < immediate_of t i + 4 → Where i
@@ -35,29 +35,29 @@ module _ (file : List ℕ) (t : Text) (b : ℕ) where
   pub where_is : (i : ℕ) → Where i
   where_is i = go (ℕ_discrete (slot_of t b) i)
     where
-      out : (b < t.loaded.start) ⊎ (b < immediate_of t i) ⊎ (immediate_of t i + 4 ≤ b) → is_in (immediate_of t i) 4 b ≡ false
+      out : (b < t.start) ⊎ (b < immediate_of t i) ⊎ (immediate_of t i + 4 ≤ b) → is_in (immediate_of t i) 4 b ≡ false
       out (inl h) = not_in (immediate_of t i) 4 b (inl (omega arith))
       out (inr (inl h)) = not_in (immediate_of t i) 4 b (inl h)
       out (inr (inr h)) = not_in (immediate_of t i) 4 b (inr h)
 
       go : Dec (slot_of t b ≡ i) → Where i
       go (yes q) =
-          by_le t.loaded.start b (λ (x : Bool). Where i)
-          (λ l. by_le 4 ((b - t.loaded.start) % 8) (λ (x : Bool). Where i)
-          (λ m. here (in_places (immediate_of t i) 4 b (omega arith) (omega arith)) (rw (le-leb t.loaded.start b l, le-leb 4 ((b - t.loaded.start) % 8) m) refl) q (omega arith) (omega arith))
-          (λ m. nowhere (out (inr (inl (omega arith)))) (rw (lt-leb 4 ((b - t.loaded.start) % 8) m) (and_off (leb t.loaded.start b)))))
-          (λ l. nowhere (out (inl l)) (rw (lt-leb t.loaded.start b l) refl))
+          by_le t.start b (λ (x : Bool). Where i)
+          (λ l. by_le 4 ((b - t.start) % 8) (λ (x : Bool). Where i)
+          (λ m. here (in_places (immediate_of t i) 4 b (omega arith) (omega arith)) (rw (le-leb t.start b l, le-leb 4 ((b - t.start) % 8) m) refl) q (omega arith) (omega arith))
+          (λ m. nowhere (out (inr (inl (omega arith)))) (rw (lt-leb 4 ((b - t.start) % 8) m) (and_off (leb t.start b)))))
+          (λ l. nowhere (out (inl l)) (rw (lt-leb t.start b l) refl))
       go (no q) =
-          by_le t.loaded.start b (λ (x : Bool). Where i)
-          (λ l. by_le 4 ((b - t.loaded.start) % 8) (λ (x : Bool). Where i)
-          (λ m. elsewhere (apart l m) (rw (le-leb t.loaded.start b l, le-leb 4 ((b - t.loaded.start) % 8) m) refl) q)
-          (λ m. nowhere (low l m) (rw (lt-leb 4 ((b - t.loaded.start) % 8) m) (and_off (leb t.loaded.start b)))))
-          (λ l. nowhere (out (inl l)) (rw (lt-leb t.loaded.start b l) refl))
+          by_le t.start b (λ (x : Bool). Where i)
+          (λ l. by_le 4 ((b - t.start) % 8) (λ (x : Bool). Where i)
+          (λ m. elsewhere (apart l m) (rw (le-leb t.start b l, le-leb 4 ((b - t.start) % 8) m) refl) q)
+          (λ m. nowhere (low l m) (rw (lt-leb 4 ((b - t.start) % 8) m) (and_off (leb t.start b)))))
+          (λ l. nowhere (out (inl l)) (rw (lt-leb t.start b l) refl))
         where
-          apart : t.loaded.start ≤ b → 4 ≤ (b - t.loaded.start) % 8 → is_in (immediate_of t i) 4 b ≡ false
+          apart : t.start ≤ b → 4 ≤ (b - t.start) % 8 → is_in (immediate_of t i) 4 b ≡ false
           apart l m = by_lt (slot_of t b) i (λ (x : Bool). is_in (immediate_of t i) 4 b ≡ false) (λ h. out (inr (inl (omega arith)))) (λ h. out (inr (inr (omega arith))))
 
-          low : t.loaded.start ≤ b → (b - t.loaded.start) % 8 < 4 → is_in (immediate_of t i) 4 b ≡ false
+          low : t.start ≤ b → (b - t.start) % 8 < 4 → is_in (immediate_of t i) 4 b ≡ false
           low l m = by_lt (slot_of t b) i (λ (x : Bool). is_in (immediate_of t i) 4 b ≡ false) (λ h. out (inr (inl (omega arith)))) (λ h. out (inr (inr (omega arith))))
 
   -- one slot more

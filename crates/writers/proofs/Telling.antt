@@ -16,7 +16,6 @@ use Rattle.elf_parser.specs.declared.error.ElfParserError.TheVariants.{NoSuchInd
 use Rattle.loader.specs.declared.error.ElfError.TheVariants.{FailedToParse, BufferShort}
 use Rattle.loader.specs.Relocations.{few_relocations}
 use Rattle.loader.specs.Results.{not_ok}
-use Rattle.writers.specs.declared.text.Text.{Text}
 use Rattle.writers.specs.declared.text.LoadedText.{LoadedText}
 use Rattle.writers.specs.Named.{by_names}
 use Rattle.writers.specs.Asked.{text_in, text_by, text_of, asked_in, Askable}
@@ -26,20 +25,19 @@ use Rattle.elf_parser.specs.declared.error.ElfParserError.{ElfParserError}
 
 -- ---- the text of a file
 
-module _ (file : List ℕ) (x : LoadedText) (t : Text) (short : length file ≤ 2 ^ 24) (inside : x.start + x.length ≤ length file) where
-  askable_in : (l : Layout) → parsed file ≡ Ok l → text_in l x ≡ Ok t → Askable file t
+module _ (file : List ℕ) (x : LoadedText) (t : Layout) (short : length file ≤ 2 ^ 24) (inside : x.start + x.length ≤ length file) where
+  askable_in : (l : Layout) → parsed file ≡ Ok l → text_in l x ≡ Ok t → Askable file t x
   unfolding text_in
   askable_in l q e =
-      let whole : Text = record { layout = l; loaded = x } in
-      let is : whole ≡ t = ok_is _ _ (row_rest _ _ _ _ (not_ok _ _) e) in
+      let is : l ≡ t = ok_is _ _ (row_rest _ _ _ _ (not_ok _ _) e) in
       let few = few_relocations file l q in
-      subst (Askable file) is (record { short = short; text = inside; relocations = few.0; relas = few.1 })
+      subst (λ (k : Layout). Askable file k x) is (record { short = short; text = inside; relocations = few.0; relas = few.1 })
 
-  askable_by : (p : Result Layout ElfParserError) → parsed file ≡ p → text_by p x ≡ Ok t → Askable file t
+  askable_by : (p : Result Layout ElfParserError) → parsed file ≡ p → text_by p x ≡ Ok t → Askable file t x
   askable_by (Err r) q e = absurd (not_ok _ _ e)
   askable_by (Ok l) q e = askable_in l q e
 
-pub askable : (file : List ℕ) (x : LoadedText) (t : Text) → text_of file x ≡ Ok t → Askable file t
+pub askable : (file : List ℕ) (x : LoadedText) (t : Layout) → text_of file x ≡ Ok t → Askable file t x
 unfolding text_of
 askable file x t e =
     let e2 = row_rest _ _ _ _ (not_ok _ _) e in
@@ -62,24 +60,24 @@ module _ (n : ℕ) (s : List ℕ) (e : s ≡ replicate n 0) where
   as_long = ap length e ∙ length-replicate n 0
 
 -- what is filled, and what the numbers tell, of n that are lent, by the text
-module _ (file : List ℕ) (n : ℕ) where
-  abbrev told : Result Text ElfError → ℕ → ℕ
-  told x b = 0 if ltb n (length file) else code_by (asked_in file b x)
+module _ (file : List ℕ) (x : LoadedText) (n : ℕ) where
+  abbrev told : Result Layout ElfError → ℕ → ℕ
+  told p b = 0 if ltb n (length file) else code_by (asked_in file x b p)
 
-  module _ (t : Text) where
+  module _ (t : Layout) where
     -- too few numbers
     pub short_filled : n < length file → Err BufferShort ≡ filled_in (length file) n (Ok t)
     short_filled h = picks (ltb n (length file)) (Err BufferShort) (Ok tt) (lt-ltb n (length file) h)
 
     pub short_tells : n < length file → (b : ℕ) → 0 ≡ told (Ok t) b
-    short_tells h b = picks (ltb n (length file)) 0 (code_by (asked_in file b (Ok t))) (lt-ltb n (length file) h)
+    short_tells h b = picks (ltb n (length file)) 0 (code_by (asked_in file x b (Ok t))) (lt-ltb n (length file) h)
 
     -- a number a byte
     pub whole_filled : length file ≤ n → Ok tt ≡ filled_in (length file) n (Ok t)
     whole_filled h = no_go (ltb n (length file)) (Err BufferShort) (Ok tt) (Ok tt) (le-ltb n (length file) h) refl
 
-    pub whole_tells : length file ≤ n → (b : ℕ) → (code_of (by_names file t b) if ltb b (length file) else 0) ≡ told (Ok t) b
+    pub whole_tells : length file ≤ n → (b : ℕ) → (code_of (by_names file t x b) if ltb b (length file) else 0) ≡ told (Ok t) b
     unfolding ◌if◌else◌
     whole_tells h b =
         rw (le-ltb n (length file) h)
-        (by_test (ltb b (length file)) (λ (x : Bool). (code_of (by_names file t b) if x else 0) ≡ code_by (Ok (by_names file t b) if x else Err (FailedToParse NoSuchIndex))) (λ l. refl) (λ l. refl))
+        (by_test (ltb b (length file)) (λ (z : Bool). (code_of (by_names file t x b) if z else 0) ≡ code_by (Ok (by_names file t x b) if z else Err (FailedToParse NoSuchIndex))) (λ l. refl) (λ l. refl))

@@ -25,15 +25,15 @@ use Rattle.loader.proofs.Named.{stops, named_exactly}
 use Rattle.loader.proofs.Targets.{calls_local, local_calls}
 use Rattle.writers.specs.declared.Writer.{Writer}
 use Rattle.writers.specs.declared.Writer.TheVariants.{File, Call, Relocation}
-use Rattle.writers.specs.declared.text.Text.{Text}
+use Rattle.writers.specs.declared.text.LoadedText.{LoadedText}
 use Rattle.writers.specs.Named.{is_call, names_byte, call_writer, last_of, by_names}
 use Rattle.writers.specs.Writers.{writer_after, call_deeds, image_of_calls, image_of_all, writer_of}
 use Rattle.writers.proofs.Folds.{image_after_lem, writer_after_lem, kept_after}
 use Rattle.writers.proofs.Slots.{and_off, and_on, last_slot}
 
 -- the text of a job
-abbrev pub text_is : Job → Text
-text_is j = record { layout = j.layout; loaded = record { version2 = j.version2; start = j.start; length = j.length } }
+abbrev pub text_is : Job → LoadedText
+text_is j = record { version2 = j.version2; start = j.start; length = j.length }
 
 module _ (file builtins : List ℕ) (j : Job) where
   -- a slot that does not stop the load writes b exactly if it is a local call with b in its immediate
@@ -79,16 +79,16 @@ module _ (file builtins : List ℕ) (j : Job) where
           (slot_count j) 0 file (parts file builtins j inside im' ends).0 File (omega arith) refl (parts file builtins j inside im' ends).1
           ∙ last_slot file (text_is j) b (slot_count j)
 
-      relocations_writer : (w : Writer) → writer_after (relocation_deed file builtins j) Relocation b (relocation_count j) 0 (image_of_calls file builtins j) w ≡ last_of Relocation (λ i. names_byte file (text_is j) i b) (relocation_count j) w
+      relocations_writer : (w : Writer) → writer_after (relocation_deed file builtins j) Relocation b (relocation_count j) 0 (image_of_calls file builtins j) w ≡ last_of Relocation (λ i. names_byte file j.layout (text_is j) i b) (relocation_count j) w
       unfolding last_of
       relocations_writer w =
           rw (← calls_image)
-          (writer_after_lem (relocation_trace file builtins j) (relocation_deed file builtins j) (relocation_is file builtins j) Relocation b (length file) (relocation_count j) (λ i. names_byte file (text_is j) i b)
+          (writer_after_lem (relocation_trace file builtins j) (relocation_deed file builtins j) (relocation_is file builtins j) Relocation b (length file) (relocation_count j) (λ i. names_byte file j.layout (text_is j) i b)
           (λ i im l q s. let short : length im ≤ 2 ^ 24 = rw q inside.short in named_exactly b file im builtins j (place_at file j i) (info_of file j i) (addend_of file j i) short s)
           (relocation_count j) 0 (parts file builtins j inside im' ends).0 im' w (omega arith) (calls_long file builtins j inside im' ends) (parts file builtins j inside im' ends).2)
 
       -- THE WRITER is the last relocation that names the byte, else the call that has it in its immediate, else the file
-      pub writer_named : writer_of file builtins j b ≡ by_names file (text_is j) b
+      pub writer_named : writer_of file builtins j b ≡ by_names file j.layout (text_is j) b
       unfolding writer_of by_names
       writer_named = rw calls_writer (relocations_writer (call_writer file (text_is j) b))
 

@@ -9,7 +9,6 @@ use Rattle.loader.specs.declared.answer.Accepted.{Accepted}
 use Rattle.loader.specs.declared.error.ElfError.TheVariants.{FailedToParse, FileTooLong, ValueOutOfBounds}
 use Rattle.loader.specs.Errors.{from_parser}
 use Rattle.writers.specs.declared.Writer.{Writer}
-use Rattle.writers.specs.declared.text.Text.{Text}
 use Rattle.writers.specs.declared.text.LoadedText.{LoadedText}
 use Rattle.writers.specs.Named.{by_names}
 use Rattle.elf_parser.specs.declared.error.ElfParserError.{ElfParserError}
@@ -19,30 +18,30 @@ abbrev pub text_loaded : Accepted → LoadedText
 text_loaded a = record { version2 = eqb a.version 2; start = a.text_start; length = a.text_length }
 
 -- version 2 has at most nine program headers
-unfoldable pub text_in : Layout → LoadedText → Result Text ElfError
+unfoldable pub text_in : Layout → LoadedText → Result Layout ElfError
 text_in l x =
     Err (FailedToParse InvalidProgramHeader) if x.version2 && leb 10 l.program_headers.count else
-    Ok (record { layout = l; loaded = x })
+    Ok l
 
-abbrev pub text_by : Result Layout ElfParserError → LoadedText → Result Text ElfError
+abbrev pub text_by : Result Layout ElfParserError → LoadedText → Result Layout ElfError
 text_by (Err e) x = Err (from_parser e)
 text_by (Ok l) x = text_in l x
 
--- by the version, and the text's place and length in the file; refused where no load of this file can have given these: the file is too long, the text
+-- the layout of the file, by the version, and the text's place and length in the file; refused where no load of this file can have given these: the file is too long, the text
 -- is not in it, or it can't be read
-unfoldable pub text_of : List ℕ → LoadedText → Result Text ElfError
+unfoldable pub text_of : List ℕ → LoadedText → Result Layout ElfError
 text_of file x =
     Err FileTooLong if ltb 0x100_0000 (length file) else
     Err ValueOutOfBounds if ltb (length file) (x.start + x.length) else
     text_by (parsed file) x
 
 -- an offset past the file's end is no index of a byte
-abbrev pub asked_in : List ℕ → ℕ → Result Text ElfError → Result Writer ElfError
-asked_in file b (Err r) = Err r
-asked_in file b (Ok t) = Ok (by_names file t b) if ltb b (length file) else Err (FailedToParse NoSuchIndex)
+abbrev pub asked_in : List ℕ → LoadedText → ℕ → Result Layout ElfError → Result Writer ElfError
+asked_in file x b (Err r) = Err r
+asked_in file x b (Ok l) = Ok (by_names file l x b) if ltb b (length file) else Err (FailedToParse NoSuchIndex)
 
 abbrev pub asked_by : List ℕ → LoadedText → ℕ → Result Writer ElfError
-asked_by file x b = asked_in file b (text_of file x)
+asked_by file x b = asked_in file x b (text_of file x)
 
 -- WHO WROTE THE BYTE b, by a load's answer
 abbrev pub asked : List ℕ → Result Accepted ElfError → ℕ → Result Writer ElfError
@@ -50,8 +49,8 @@ asked file (Err r) b = Err r
 asked file (Ok a) b = asked_by file (text_loaded a) b
 
 -- what the functions behind `text_of` may count on
-pub record Askable (file : List ℕ) (t : Text) : Type 0 where
+pub record Askable (file : List ℕ) (l : Layout) (x : LoadedText) : Type 0 where
   pub short : length file ≤ 2 ^ 24
-  pub text : t.loaded.start + t.loaded.length ≤ length file
-  pub relocations : 16 * t.layout.dynamic_relocations.count ≤ length file
-  pub relas : 24 * t.layout.dynamic_relas.count ≤ length file
+  pub text : x.start + x.length ≤ length file
+  pub relocations : 16 * l.dynamic_relocations.count ≤ length file
+  pub relas : 24 * l.dynamic_relas.count ≤ length file

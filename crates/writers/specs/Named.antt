@@ -13,37 +13,37 @@ use Rattle.writers.specs.declared.Writer.TheVariants.{File, Call, Relocation}
 use Rattle.writers.specs.declared.naming.Named.{Named}
 use Rattle.writers.specs.declared.naming.Named.TheVariants.{Halves, Word, Immediate}
 use Rattle.writers.specs.declared.naming.Next.{Next}
-use Rattle.writers.specs.declared.text.Text.{Text}
+use Rattle.writers.specs.declared.text.LoadedText.{LoadedText}
 
 -- ---- calls
 
 -- slot number i is, in the file, a local call
-abbrev pub is_call : List ℕ → Text → ℕ → Bool
-is_call file t i = local_call_in t.loaded.version2 (insn_at (take t.loaded.length (drop t.loaded.start file)) i)
+abbrev pub is_call : List ℕ → LoadedText → ℕ → Bool
+is_call file t i = local_call_in t.version2 (insn_at (take t.length (drop t.start file)) i)
 
-abbrev pub immediate_of : Text → ℕ → ℕ
-immediate_of t i = t.loaded.start + 8 * i + 4
+abbrev pub immediate_of : LoadedText → ℕ → ℕ
+immediate_of t i = t.start + 8 * i + 4
 
 -- the slot of the byte b, and whether it is one of the slot's last four bytes
-abbrev pub slot_of : Text → ℕ → ℕ
-slot_of t b = (b - t.loaded.start) / 8
+abbrev pub slot_of : LoadedText → ℕ → ℕ
+slot_of t b = (b - t.start) / 8
 
-abbrev pub in_immediate : Text → ℕ → Bool
-in_immediate t b = leb t.loaded.start b && leb 4 ((b - t.loaded.start) % 8)
+abbrev pub in_immediate : LoadedText → ℕ → Bool
+in_immediate t b = leb t.start b && leb 4 ((b - t.start) % 8)
 
 -- the call that has b in its immediate, among the first n slots, else the file
-unfoldable pub call_to : List ℕ → Text → ℕ → ℕ → Writer
+unfoldable pub call_to : List ℕ → LoadedText → ℕ → ℕ → Writer
 call_to file t n b = Call (slot_of t b) if (in_immediate t b && ltb (slot_of t b) n) && is_call file t (slot_of t b) else File
 
 -- among all whole slots of the text
-abbrev pub call_writer : List ℕ → Text → ℕ → Writer
-call_writer file t b = call_to file t (t.loaded.length / 8) b
+abbrev pub call_writer : List ℕ → LoadedText → ℕ → Writer
+call_writer file t b = call_to file t (t.length / 8) b
 
 -- ---- relocations
 
 -- the relocation number i names the byte b
-abbrev pub names_byte : List ℕ → Text → ℕ → ℕ → Bool
-names_byte file t i b = names_in file t.layout t.loaded.version2 t.loaded.start t.loaded.length i b
+abbrev pub names_byte : List ℕ → Layout → LoadedText → ℕ → ℕ → Bool
+names_byte file l t i b = names_in file l t.version2 t.start t.length i b
 
 -- the last of the numbers below n of which P holds, by what it stands for, else w
 unfoldable pub last_of : (ℕ → Writer) → (ℕ → Bool) → ℕ → Writer → Writer
@@ -55,8 +55,8 @@ abbrev pub count_of : Layout → ℕ
 count_of l = l.dynamic_relocations.count + l.dynamic_relas.count
 
 -- THE LAST RELOCATION THAT NAMES b, else the call that has it in its immediate, else the file
-unfoldable pub by_names : List ℕ → Text → ℕ → Writer
-by_names file t b = last_of Relocation (λ i. names_byte file t i b) (count_of t.layout) (call_writer file t b)
+unfoldable pub by_names : List ℕ → Layout → LoadedText → ℕ → Writer
+by_names file l t b = last_of Relocation (λ i. names_byte file l t i b) (count_of l) (call_writer file t b)
 
 -- ---- the bytes that one relocation names, as the code holds them
 
@@ -71,6 +71,6 @@ abbrev pub Names : Option Named → (ℕ → Bool) → Type 0
 Names x P = (b : ℕ) → is_named x b ≡ P b
 
 -- the relocation number i, behind those that used `header` last
-pub record NamesNext (file : List ℕ) (t : Text) (header : Option UsedHeader) (i : ℕ) (x : Next) : Type 0 where
-  pub used : x.header ≡ used_header file t.layout t.loaded.version2 header (relocation_at file t.layout i).r_offset
-  pub names : Names x.named (named_in t.loaded.version2 t.loaded.start t.loaded.length (place_of t.loaded.version2 x.header (relocation_at file t.layout i).r_offset) ((relocation_at file t.layout i).r_info % 2 ^ 32))
+pub record NamesNext (file : List ℕ) (l : Layout) (t : LoadedText) (header : Option UsedHeader) (i : ℕ) (x : Next) : Type 0 where
+  pub used : x.header ≡ used_header file l t.version2 header (relocation_at file l i).r_offset
+  pub names : Names x.named (named_in t.version2 t.start t.length (place_of t.version2 x.header (relocation_at file l i).r_offset) ((relocation_at file l i).r_info % 2 ^ 32))

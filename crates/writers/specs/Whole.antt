@@ -7,7 +7,7 @@ use Rattle.loader.specs.declared.answer.Accepted.{Accepted}
 use Rattle.loader.specs.declared.error.ElfError.TheVariants.{BufferShort}
 use Rattle.writers.specs.declared.Writer.{Writer}
 use Rattle.writers.specs.declared.Writer.TheVariants.{File, Call, Relocation}
-use Rattle.writers.specs.declared.text.Text.{Text}
+use Rattle.elf_parser.specs.declared.layout.Layout.{Layout}
 use Rattle.writers.specs.declared.text.LoadedText.{LoadedText}
 use Rattle.writers.specs.Named.{call_writer, by_names}
 use Rattle.writers.specs.Asked.{text_loaded, text_of, asked_by, asked}
@@ -24,9 +24,9 @@ code_by (Ok w) = code_of w
 code_by (Err r) = 0
 
 -- whether n numbers are filled for so many bytes
-abbrev pub filled_in : ℕ → ℕ → Result Text ElfError → Result (Unit {0}) ElfError
+abbrev pub filled_in : ℕ → ℕ → Result Layout ElfError → Result (Unit {0}) ElfError
 filled_in len n (Err r) = Err r
-filled_in len n (Ok t) = Err BufferShort if ltb n len else Ok tt
+filled_in len n (Ok l) = Err BufferShort if ltb n len else Ok tt
 
 -- WHAT THE NUMBERS TELL, n of them: at b stands the number of who wrote that byte, and only zeros where n is too small
 pub record Filling (file : Shared) (numbers : Lent) (wrote : ℕ → Result Writer ElfError) (filled r : Result (Unit {0}) ElfError) : Type 0 where
@@ -64,8 +64,8 @@ pub record Holds (w : ℕ → Writer) (len : ℕ) (s s' : List ℕ) : Type 0 whe
   pub length_as : length s' ≡ length s
   pub at : (b : ℕ) → get_or s' b 0 ≡ (code_of (w b) if ltb b len else 0)
 
-abbrev pub HoldsCalls : Shared → Text → Lent → Type 0
-HoldsCalls file t numbers = Holds (call_writer file.entry.now t) (length file.entry.now) numbers.entry.now numbers.exit.now
+abbrev pub HoldsCalls : List ℕ → LoadedText → Lent → Type 0
+HoldsCalls file t numbers = Holds (call_writer file t) (length file) numbers.entry.now numbers.exit.now
 
-abbrev pub HoldsAll : Shared → Text → Lent → Type 0
-HoldsAll file t numbers = Holds (by_names file.entry.now t) (length file.entry.now) numbers.entry.now numbers.exit.now
+abbrev pub HoldsAll : List ℕ → Layout → LoadedText → Lent → Type 0
+HoldsAll file l t numbers = Holds (by_names file l t) (length file) numbers.entry.now numbers.exit.now

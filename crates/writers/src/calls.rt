@@ -1,7 +1,6 @@
 // The bytes that local calls write.
-ghost use Rattle.std.specs.Prelude.{◌≡◌, ◌+◌, ◌≤◌, ◌<◌, length};
+ghost use Rattle.std.specs.Prelude.{◌≡◌, ◌<◌, length};
 ghost use Rattle.writers.specs.Named.{is_call, call_writer};
-ghost use Rattle.writers.specs.Asked.{Askable};
 
 use crate::Writer;
 use crate::text::Text;
@@ -9,13 +8,15 @@ use ebpf::get_insn;
 use loader::is_local_call;
 
 // Whether slot number `i` of the text is, in the file, a local call.
-pub(crate) fn is_call(file: &[u8], text: Text, i: usize) -> bool
-    requires { Askable file.now text }
-    ensures { result ≡ is_call file.now text i }
+pub(crate) fn is_call(text: &Text<'_>, i: usize) -> bool
+    ensures { result ≡ is_call text.now.elf.file.now text.now.loaded i }
 {
-    let start = text.loaded.start;
-    let end = start + text.loaded.length;
-    get_insn(&file[start..end], i).is_some_and(|insn| is_local_call(text.loaded.version2, insn))
+    let loaded = text.loaded;
+    let end = loaded.start + loaded.length;
+    get_insn(&text.elf.file[loaded.start..end], i).is_some_and(|insn| is_local_call(
+        loaded.version2,
+        insn,
+    ))
 }
 
 // Where a slot's immediate starts: it has the last four bytes of eight.
@@ -23,9 +24,9 @@ const IMMEDIATE: u64 = 4;
 
 // The call that has the byte in its immediate, else the file.
 #[tactic(auto, using(ebpf::specs::Choice::choices), unfolding(crate::specs::Named::call_to))]
-pub(crate) fn call_writer(file: &[u8], text: Text, b: u64) -> Writer
-    requires { Askable file.now text × (b < length file.now) }
-    ensures { result ≡ call_writer file.now text b }
+pub(crate) fn call_writer(text: &Text<'_>, b: u64) -> Writer
+    requires { b < length text.now.elf.file.now }
+    ensures { result ≡ call_writer text.now.elf.file.now text.now.loaded b }
 {
     let start = text.loaded.start as u64;
     if b < start {
@@ -39,7 +40,7 @@ pub(crate) fn call_writer(file: &[u8], text: Text, b: u64) -> Writer
     if text.loaded.length / 8 <= i {
         return Writer::File;
     }
-    if is_call(file, text, i) {
+    if is_call(text, i) {
         return Writer::Call(i as u32);
     }
     Writer::File

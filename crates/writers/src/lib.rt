@@ -8,11 +8,11 @@ ghost use Rattle.writers.specs.Asked.{asked_by, asked};
 ghost use Rattle.writers.specs.Whole.{OnlyZeros, FillsBy, Fills};
 ghost use Rattle.writers.specs.Loads.{LoadsAndTells};
 
-use elf_parser::ElfParserError;
+use elf_parser::{Elf64, ElfParserError};
 use loader::{Accepted, Config, ElfError, clear_words, load};
 use naming::last_naming;
 use program::FunctionRegistry;
-use text::text_of;
+use text::{Text, layout_of};
 use whole::mark_all;
 
 mod calls;
@@ -43,11 +43,12 @@ pub struct LoadWrote {
 pub fn who_wrote_by(file: &[u8], loaded: LoadedText, offset: u64) -> Result<Writer, ElfError>
     ensures { result ≡ asked_by file.now loaded offset }
 {
-    let text = text_of(file, loaded)?;
+    let layout = layout_of(file, loaded)?;
     if file.len() as u64 <= offset {
         return Err(ElfError::FailedToParse(ElfParserError::NoSuchIndex));
     }
-    Ok(last_naming(file, text, offset))
+    let elf = Elf64 { file, layout };
+    Ok(last_naming(&Text { elf, loaded }, offset))
 }
 
 // The same by the whole answer, which may be a refusal. Nothing is lent but the file.
@@ -89,11 +90,12 @@ fn fill_by(numbers: &mut [u32], file: &[u8], loaded: LoadedText) -> Result<(), E
     requires { OnlyZeros numbers.old }
     ensures { FillsBy file loaded numbers result }
 {
-    let text = text_of(file, loaded)?;
+    let layout = layout_of(file, loaded)?;
     if numbers.len() < file.len() {
         return Err(ElfError::BufferShort);
     }
-    mark_all(numbers, file, text);
+    let elf = Elf64 { file, layout };
+    mark_all(numbers, &Text { elf, loaded });
     Ok(())
 }
 

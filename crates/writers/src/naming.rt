@@ -3,12 +3,11 @@ ghost use Rattle.std.specs.Prelude.{◌≡◌, ◌+◌, ◌%◌, ◌^◌, ◌≤
 ghost use Rattle.loader.specs.Demand.{named_in};
 ghost use Rattle.loader.specs.Deeds.{is_in};
 ghost use Rattle.writers.specs.Named.{is_named, Names, NamesNext, count_of, by_names};
-ghost use Rattle.writers.specs.Asked.{Askable};
 
 use crate::Writer;
 use crate::calls::call_writer;
 use crate::text::{LoadedText, Text};
-use elf_parser::{Elf64, Layout};
+use elf_parser::Layout;
 use loader::{UsedHeader, is_within, r_place, relocation_at, used_header};
 
 const R_BPF_64_64: u32 = 1;
@@ -50,19 +49,15 @@ pub struct Next {
 }
 
 // Of the relocation number `i`, behind those that used `header` last.
-pub(crate) fn named_next(
-    elf: &Elf64<'_>,
-    text: LoadedText,
-    header: Option<UsedHeader>,
-    i: u32,
-) -> Next
-    ensures { NamesNext elf.now.file.now (record { layout = elf.now.layout; loaded = text }) header i result }
+pub(crate) fn named_next(text: &Text<'_>, header: Option<UsedHeader>, i: u32) -> Next
+    ensures { NamesNext text.now.elf.file.now text.now.elf.layout text.now.loaded header i result }
 {
-    let r = relocation_at(elf, i);
-    let next = used_header(elf, text.version2, header, r.r_offset);
+    let version2 = text.loaded.version2;
+    let r = relocation_at(&text.elf, i);
+    let next = used_header(&text.elf, version2, header, r.r_offset);
     Next {
         header: next,
-        named: named_in(text, r_place(text.version2, next, r.r_offset), r.r_info),
+        named: named_in(text.loaded, r_place(version2, next, r.r_offset), r.r_info),
     }
 }
 
@@ -101,19 +96,15 @@ pub(crate) fn relocation_count(layout: Layout) -> u32
 
 // The last relocation that names the byte, else the call that has it in its immediate, else the file.
 #[tactic(auto, using(crate::proofs::Turns::last_none, crate::proofs::Turns::none_used), unfolding(crate::specs::Named::by_names))]
-pub(crate) fn last_naming(file: &[u8], text: Text, b: u64) -> Writer
-    requires { Askable file.now text × (b < length file.now) }
-    ensures { result ≡ by_names file.now text b }
+pub(crate) fn last_naming(text: &Text<'_>, b: u64) -> Writer
+    requires { b < length text.now.elf.file.now }
+    ensures { result ≡ by_names text.now.elf.file.now text.now.elf.layout text.now.loaded b }
 {
-    let count = relocation_count(text.layout);
-    let mut writer = call_writer(file, text, b);
-    let elf = Elf64 {
-        file,
-        layout: text.layout,
-    };
+    let count = relocation_count(text.elf.layout);
+    let mut writer = call_writer(text, b);
     let mut header = None;
     for i in 0..count {
-        let next = named_next(&elf, text.loaded, header, i);
+        let next = named_next(text, header, i);
         header = next.header;
         if is_named(next.named, b) {
             writer = Writer::Relocation(i);

@@ -1,8 +1,8 @@
 // What the questions need of an accepted load.
 ghost use Rattle.std.specs.Prelude.{◌≡◌};
-ghost use Rattle.writers.specs.Asked.{text_loaded, text_in, text_of};
+ghost use Rattle.writers.specs.Asked.{Askable, text_loaded, text_in, text_of};
 
-use elf_parser::{ElfParserError, Layout, parse, past};
+use elf_parser::{Elf64, ElfParserError, Layout, parse, past};
 use loader::{Accepted, ElfError};
 
 // What a load's answer says of the text: the version, and the text's place in the file.
@@ -25,29 +25,31 @@ impl From<Accepted> for LoadedText {
     }
 }
 
-// The text of a load of this file, with the file's layout.
+// The text of a load of this file. `askable` is what the checks showed: the file is short, and the text and
+// the relocations lie in it.
 #[derive(Clone, Copy, PartialEq, Eq, Debug)]
-pub struct Text {
-    pub layout: Layout,
+pub struct Text<'a> {
+    pub elf: Elf64<'a>,
     pub loaded: LoadedText,
+    pub ghost askable: { Askable elf.file.now elf.layout loaded },
 }
 
 // Version 2 has at most nine program headers.
 #[tactic(auto, using(ebpf::specs::Choice::choices), unfolding(crate::specs::Asked::text_in))]
-fn text_in(layout: Layout, loaded: LoadedText) -> Result<Text, ElfError>
+fn layout_in(layout: Layout, loaded: LoadedText) -> Result<Layout, ElfError>
     ensures { result ≡ text_in layout loaded }
 {
     let headers = layout.program_headers;
     if loaded.version2 & (10 <= headers.count) {
         return Err(ElfError::FailedToParse(ElfParserError::InvalidProgramHeader));
     }
-    Ok(Text { layout, loaded })
+    Ok(layout)
 }
 
-// By what the answer of a load of this file says of the text. Others are refused where the file can not
-// have been loaded, or the text is not in it.
+// The file's layout, by what the answer of a load of this file says of the text. Others are refused where
+// the file can not have been loaded, or the text is not in it.
 #[tactic(auto, using(ebpf::specs::Choice::choices), unfolding(crate::specs::Asked::text_of))]
-pub(crate) fn text_of(file: &[u8], loaded: LoadedText) -> Result<Text, ElfError>
+pub(crate) fn layout_of(file: &[u8], loaded: LoadedText) -> Result<Layout, ElfError>
     ensures { result ≡ text_of file.now loaded }
 {
     let len = file.len() as u64;
@@ -57,5 +59,5 @@ pub(crate) fn text_of(file: &[u8], loaded: LoadedText) -> Result<Text, ElfError>
     if past(len, loaded.start as u64, loaded.length as u64) {
         return Err(ElfError::ValueOutOfBounds);
     }
-    text_in(parse(file)?, loaded)
+    layout_in(parse(file)?, loaded)
 }

@@ -2,7 +2,6 @@
 ghost use Rattle.std.specs.Prelude.{◌&&◌, ◌+◌, ◌*◌, ◌≤◌, ◌<◌, ◌^◌, length};
 ghost use Rattle.loader.specs.Deeds.{is_in};
 ghost use Rattle.writers.specs.Named.{is_named, is_call, immediate_of};
-ghost use Rattle.writers.specs.Asked.{Askable};
 ghost use Rattle.writers.specs.Whole.{Marks, OnlyZeros, HoldsCalls, HoldsAll};
 
 use crate::calls::is_call;
@@ -55,14 +54,14 @@ fn mark_named(numbers: &mut [u32], len: usize, named: Option<Named>, code: u32)
 
 // Slot number `i`, for the bytes of its immediate, if it is a local call.
 #[tactic(auto, using(crate::proofs::Marking::marked_if))]
-fn mark_call(numbers: &mut [u32], file: &[u8], text: Text, i: usize)
-    requires { Askable file.now text × (length file.now ≤ length numbers.old) × (i < 2 ^ 24) }
-    ensures { Marks (λ b. is_in (immediate_of text i) 4 b && is_call file.now text i) (i + 1) (length file.now) numbers }
+fn mark_call(numbers: &mut [u32], text: &Text<'_>, i: usize)
+    requires { (length text.now.elf.file.now ≤ length numbers.old) × (i < 2 ^ 24) }
+    ensures { Marks (λ b. is_in (immediate_of text.now.loaded i) 4 b && is_call text.now.elf.file.now text.now.loaded i) (i + 1) (length text.now.elf.file.now) numbers }
 {
-    if is_call(file, text, i) {
+    if is_call(text, i) {
         mark_four(
             numbers,
-            file.len(),
+            text.elf.file.len(),
             (text.loaded.start + 8 * i) as u64,
             4,
             i as u32 + 1,
@@ -71,30 +70,26 @@ fn mark_call(numbers: &mut [u32], file: &[u8], text: Text, i: usize)
 }
 
 // The calls of all slots, in numbers that are zero.
-fn mark_calls(numbers: &mut [u32], file: &[u8], text: Text)
-    requires { Askable file.now text × (length file.now ≤ length numbers.old) × OnlyZeros numbers.old }
-    ensures { HoldsCalls file text numbers }
+fn mark_calls(numbers: &mut [u32], text: &Text<'_>)
+    requires { (length text.now.elf.file.now ≤ length numbers.old) × OnlyZeros numbers.old }
+    ensures { HoldsCalls text.now.elf.file.now text.now.loaded numbers }
 {
     for i in 0..text.loaded.length / 8 {
-        mark_call(numbers, file, text, i);
+        mark_call(numbers, text, i);
     }
 }
 
 // The calls of all slots, and then all relocations in turn, in numbers that are zero.
-pub(crate) fn mark_all(numbers: &mut [u32], file: &[u8], text: Text)
-    requires { Askable file.now text × (length file.now ≤ length numbers.old) × OnlyZeros numbers.old }
-    ensures { HoldsAll file text numbers }
+pub(crate) fn mark_all(numbers: &mut [u32], text: &Text<'_>)
+    requires { (length text.now.elf.file.now ≤ length numbers.old) × OnlyZeros numbers.old }
+    ensures { HoldsAll text.now.elf.file.now text.now.elf.layout text.now.loaded numbers }
 {
-    mark_calls(numbers, file, text);
-    let len = file.len();
-    let count = relocation_count(text.layout);
-    let elf = Elf64 {
-        file,
-        layout: text.layout,
-    };
+    mark_calls(numbers, text);
+    let len = text.elf.file.len();
+    let count = relocation_count(text.elf.layout);
     let mut header = None;
     for i in 0..count {
-        let next = named_next(&elf, text.loaded, header, i);
+        let next = named_next(text, header, i);
         header = next.header;
         mark_named(numbers, len, next.named, 0x8000_0000 + i);
     }

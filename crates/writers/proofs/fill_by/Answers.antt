@@ -2,7 +2,7 @@
 -- Assumes nothing.
 use mathlib.Core.Path.{◌≡◌, refl, sym, ◌∙◌}
 use lib.ListN.{length}
-use Rattle.writers.specs.declared.text.Text.{Text}
+use Rattle.elf_parser.specs.declared.layout.Layout.{Layout}
 use Rattle.std.specs.Prelude.{Ok, Err}
 use Rattle.std.proofs.lemmas.Result.{err_from_is_err_and}
 use Rattle.writers.specs.Asked.{text_of}
@@ -13,17 +13,17 @@ use Rattle.writers.proofs.fill_by.Goals as goal
 
 pub returns-then-numbers-file : goal.returns-then-numbers-file
 returns-then-numbers-file c =
-    let t : Text = c.in_ok-text.text in
-    let e : text_of c.args.file.now c.args.loaded ≡ Ok t = sym c.text_of.ensures ∙ c.in_ok-text.was in
+    let l : Layout = c.in_ok-layout.layout in
+    let e : text_of c.args.file.now c.args.loaded ≡ Ok l = sym c.layout_of.ensures ∙ c.in_ok-layout.was in
     record {
-      answers = rw e (short_filled c.args.file.now (length c.args.numbers.now) t c.if-numbers-file.true);
+      answers = rw e (short_filled c.args.file.now c.args.loaded (length c.args.numbers.now) l c.if-numbers-file.true);
       length_as = refl;
-      tells = λ b. rw e (c.requires b ∙ short_tells c.args.file.now (length c.args.numbers.now) t c.if-numbers-file.true b);
+      tells = λ b. rw e (c.requires b ∙ short_tells c.args.file.now c.args.loaded (length c.args.numbers.now) l c.if-numbers-file.true b);
     }
 
-pub returns-in_err-text : goal.returns-in_err-text
-returns-in_err-text c =
-    let e : text_of c.args.file.now c.args.loaded ≡ Err _ = sym c.text_of.ensures ∙ c.in_err-text.was in
+pub returns-in_err-layout : goal.returns-in_err-layout
+returns-in_err-layout c =
+    let e : text_of c.args.file.now c.args.loaded ≡ Err _ = sym c.layout_of.ensures ∙ c.in_err-layout.was in
     let p = err_from_is_err_and c.from_residual.result c.from_residual.ensures.1 in
     record {
       answers = rw (p.1, p.2, e) refl;
@@ -33,10 +33,10 @@ returns-in_err-text c =
 
 pub returns : goal.returns
 returns c =
-    let t : Text = c.in_ok-text.text in
-    let e : text_of c.args.file.now c.args.loaded ≡ Ok t = sym c.text_of.ensures ∙ c.in_ok-text.was in
+    let l : Layout = c.in_ok-layout.layout in
+    let e : text_of c.args.file.now c.args.loaded ≡ Ok l = sym c.layout_of.ensures ∙ c.in_ok-layout.was in
     record {
-      answers = rw e (whole_filled c.args.file.now (length c.args.numbers.now) t c.if-numbers-file.false);
+      answers = rw e (whole_filled c.args.file.now c.args.loaded (length c.args.numbers.now) l c.if-numbers-file.false);
       length_as = c.mark_all.ensures.length_as;
-      tells = λ b. rw e (c.mark_all.ensures.at b ∙ whole_tells c.args.file.now (length c.args.numbers.now) t c.if-numbers-file.false b);
+      tells = λ b. rw e (c.mark_all.ensures.at b ∙ whole_tells c.args.file.now c.args.loaded (length c.args.numbers.now) l c.if-numbers-file.false b);
     }

@@ -8,4 +8,4 @@ use Rattle.writers.proofs.naming.last_naming.Given as goal
 
 abbrev pub invariant-loop-i : goal.invariant-loop-i
 invariant-loop-i l =
-    (l.header ≡ used_before l.file l.text.layout l.text.loaded.version2 l.i) × (l.writer ≡ last_of Relocation (λ k. names_byte l.file l.text k l.b) l.i (call_writer l.file l.text l.b))
+    (l.header ≡ used_before l.text.elf.file.now l.text.elf.layout l.text.loaded.version2 l.i) × (l.writer ≡ last_of Relocation (λ k. names_byte l.text.elf.file.now l.text.elf.layout l.text.loaded k l.b) l.i (call_writer l.text.elf.file.now l.text.loaded l.b))

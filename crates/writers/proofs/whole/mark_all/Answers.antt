@@ -16,19 +16,19 @@ use Rattle.writers.proofs.whole.mark_all.Goals as goal
 
 pub loop-i-init : goal.loop-i-init
 loop-i-init c =
-    let h = holds_as (length c.args.file.now) (call_writer c.args.file.now c.args.text) (up_to c.args.file.now c.args.text 0) c.args.numbers.now c.mark_calls.new.numbers (λ b. sym (last_none Relocation (λ k. names_byte c.args.file.now c.args.text k b) (call_writer c.args.file.now c.args.text b))) c.mark_calls.ensures in
-    (none_used c.args.file.now c.args.text.layout c.args.text.loaded.version2, record { length_as = refl; at = h.at })
+    let h = holds_as (length c.args.text.now.elf.file.now) (call_writer c.args.text.now.elf.file.now c.args.text.now.loaded) (up_to c.args.text.now.elf.file.now c.args.text.now.elf.layout c.args.text.now.loaded 0) c.args.numbers.now c.mark_calls.new.numbers (λ b. sym (last_none Relocation (λ k. names_byte c.args.text.now.elf.file.now c.args.text.now.elf.layout c.args.text.now.loaded k b) (call_writer c.args.text.now.elf.file.now c.args.text.now.loaded b))) c.mark_calls.ensures in
+    (none_used c.args.text.now.elf.file.now c.args.text.now.elf.layout c.args.text.now.loaded.version2, record { length_as = refl; at = h.at })
 
 pub loop-i-preserved : goal.loop-i-preserved
 loop-i-preserved c = (
-  next_used c.args.file.now c.args.text c.loop-i.header c.loop-i.i c.named_next-next.result c.loop-i.invariant.0 c.named_next-next.ensures,
-  holds_as (length c.args.file.now) (λ b. Relocation c.loop-i.i if is_named c.named_next-next.result.named b else up_to c.args.file.now c.args.text c.loop-i.i b) (up_to c.args.file.now c.args.text (c.loop-i.i + 1)) c.mark_calls.new.numbers c.mark_named.new.numbers (λ b. next_last c.args.file.now c.args.text c.loop-i.header c.loop-i.i c.named_next-next.result c.loop-i.invariant.0 c.named_next-next.ensures b (call_writer c.args.file.now c.args.text b))
-      (holds_next (length c.args.file.now) (up_to c.args.file.now c.args.text c.loop-i.i) (Relocation c.loop-i.i) (is_named c.named_next-next.result.named) c.mark_calls.new.numbers c.loop-i.numbers c.mark_named.new.numbers c.loop-i.invariant.1 c.mark_named.ensures),
+  next_used c.args.text.now.elf.file.now c.args.text.now.elf.layout c.args.text.now.loaded c.loop-i.header c.loop-i.i c.named_next-next.result c.loop-i.invariant.0 c.named_next-next.ensures,
+  holds_as (length c.args.text.now.elf.file.now) (λ b. Relocation c.loop-i.i if is_named c.named_next-next.result.named b else up_to c.args.text.now.elf.file.now c.args.text.now.elf.layout c.args.text.now.loaded c.loop-i.i b) (up_to c.args.text.now.elf.file.now c.args.text.now.elf.layout c.args.text.now.loaded (c.loop-i.i + 1)) c.mark_calls.new.numbers c.mark_named.new.numbers (λ b. next_last c.args.text.now.elf.file.now c.args.text.now.elf.layout c.args.text.now.loaded c.loop-i.header c.loop-i.i c.named_next-next.result c.loop-i.invariant.0 c.named_next-next.ensures b (call_writer c.args.text.now.elf.file.now c.args.text.now.loaded b))
+      (holds_next (length c.args.text.now.elf.file.now) (up_to c.args.text.now.elf.file.now c.args.text.now.elf.layout c.args.text.now.loaded c.loop-i.i) (Relocation c.loop-i.i) (is_named c.named_next-next.result.named) c.mark_calls.new.numbers c.loop-i.numbers c.mark_named.new.numbers c.loop-i.invariant.1 c.mark_named.ensures),
 )
 
 pub returns : goal.returns
 unfolding by_names
 returns c =
-    let e : c.loop-i.i ≡ count_of c.args.text.layout = omega (arith, c.relocation_count-count.ensures) in
-    subst (λ (n : ℕ). Holds (up_to c.args.file.now c.args.text n) (length c.args.file.now) c.args.numbers.now c.loop-i.numbers) e
+    let e : c.loop-i.i ≡ count_of c.args.text.now.elf.layout = omega (arith, c.relocation_count-count.ensures) in
+    subst (λ (n : ℕ). Holds (up_to c.args.text.now.elf.file.now c.args.text.now.elf.layout c.args.text.now.loaded n) (length c.args.text.now.elf.file.now) c.args.numbers.now c.loop-i.numbers) e
     (record { length_as = c.loop-i.invariant.1.length_as ∙ c.mark_calls.ensures.length_as; at = c.loop-i.invariant.1.at })

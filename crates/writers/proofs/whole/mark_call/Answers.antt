@@ -9,4 +9,4 @@ use Rattle.writers.proofs.whole.mark_call.Goals as goal
 
 pub returns-else-is_call : goal.returns-else-is_call
 returns-else-is_call c =
-    marked_not (c.args.i + 1) (length c.args.file.now) (is_in (immediate_of c.args.text c.args.i) 4) (is_call c.args.file.now c.args.text c.args.i) c.args.numbers.now (sym c.is_call.ensures ∙ c.if-is_call.false)
+    marked_not (c.args.i + 1) (length c.args.text.now.elf.file.now) (is_in (immediate_of c.args.text.now.loaded c.args.i) 4) (is_call c.args.text.now.elf.file.now c.args.text.now.loaded c.args.i) c.args.numbers.now (sym c.is_call.ensures ∙ c.if-is_call.false)

@@ -6,4 +6,4 @@ use Rattle.writers.specs.Whole.{Holds}
 use Rattle.writers.proofs.whole.mark_calls.Given as goal
 
 abbrev pub invariant-loop-i : goal.invariant-loop-i
-invariant-loop-i l = Holds (call_to l.file l.text l.i) (length l.file) l.initial.numbers l.numbers
+invariant-loop-i l = Holds (call_to l.text.elf.file.now l.text.loaded l.i) (length l.text.elf.file.now) l.initial.numbers l.numbers
