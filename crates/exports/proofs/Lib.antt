@@ -1,7 +1,6 @@
 -- What the proofs of several functions use.
 mod Writing
 mod Giving
-mod Naming
 mod Named
 mod Told
 mod GivingBoth

@@ -1,4 +1,4 @@
--- What holds of every name in the table, and that the code's row of names is the table. Assumes nothing.
+-- What holds of every name in the table. Assumes nothing.
 use mathlib.Core.Path.{◌≡◌, refl, sym, ap, ◌∙◌}
 use mathlib.Core.Bool.{Bool, true, false, ◌&&◌}
 use mathlib.Core.List.{List, [], ◌∷◌}
@@ -17,8 +17,7 @@ use Rattle.elf_parser.specs.Errors as parser
 use Rattle.loader.specs.declared.error.ElfError.{ElfError}
 use Rattle.loader.specs.declared.error.ElfError.TheVariants.{FailedToParse, EntrypointOutOfBounds, InvalidEntrypoint, UnresolvedSymbol, RelativeJumpOutOfBounds, SymbolHashCollision, WrongAbi, WrongMachine, NotOneTextSection, WritableSectionNotSupported, InvalidVirtualAddress, UnknownRelocation, WrongType, UnknownSymbol, ValueOutOfBounds, UnsupportedSBPFVersion, FileTooLong, BufferShort, BuiltinsNotAscending, TableFull, TextOutsideReadOnly, AddendNegative}
 use Rattle.loader.specs.Errors as load
-use Rattle.exports.specs.Names.{names, bytes, name_in, refusal_name, piece_of}
-use Rattle.exports.proofs.Naming.{laid, whole, laid_has}
+use Rattle.exports.specs.Names.{names, bytes, name_in, refusal_name}
 
 -- one more than the largest number of the table
 unfoldable pub past : List (ℕ × String) → ℕ
@@ -52,18 +51,6 @@ short name = ltb (length name) 64
 pub name_short : (n : ℕ) → length (refusal_name n) < 64
 unfolding refusal_name names bytes every
 name_short n = ltb-true _ _ (each short names n refl)
-
-name_whole : (n : ℕ) → whole (refusal_name n) ≡ true
-unfolding refusal_name names bytes every whole
-name_whole n = each whole names n refl
-
--- the names from 0 on, in a row
-unfoldable pub in_row : List ℕ
-in_row = laid refusal_name 0 (past names)
-
-pub in_row_lem : (n : ℕ) → piece_of n in_row ≡ refusal_name n
-unfolding refusal_name in_row
-in_row_lem n = laid_has refusal_name name_whole (past names) (no_name names) n
 
 -- ---- every refusal has a name
 

@@ -1,5 +1,5 @@
 -- The names of the refusals, for people.
-use Rattle.std.specs.Prelude.{ℕ, zero, suc, pred, ◌≤◌, ◌≡◌, refl, List, [], ◌∷◌, length, drop, eqb}
+use Rattle.std.specs.Prelude.{ℕ, ◌≡◌, refl, List, [], ◌∷◌, length, eqb}
 use Prim.Native.Char.{code}
 use Prim.Native.String.{String, [] as empty, ◌∷◌ as ◌then◌}
 use Rattle.ebpf.specs.Choice.{◌if◌else◌}
@@ -69,25 +69,6 @@ pub record NameGiven (name before after : List ℕ) (r : ℕ) : Type 0 where
 
 abbrev pub Named : List ℕ → Lent → ℕ → Type 0
 Named name lent r = NameGiven name lent.entry.now lent.exit.now r
-
--- ---- names in a row, as the code has them
-
--- of names that each have a zero behind them, the one behind n zeros
-unfoldable pub piece_of : ℕ → List ℕ → List ℕ
-piece_of n [] = []
-piece_of zero (zero ∷ bs) = []
-piece_of zero (suc b ∷ bs) = suc b ∷ piece_of zero bs
-piece_of (suc n) (zero ∷ bs) = piece_of n bs
-piece_of (suc n) (suc b ∷ bs) = piece_of (suc n) bs
-
--- how many of the zeros are left behind a byte
-unfoldable pub left_behind : ℕ → ℕ → ℕ
-left_behind left byte = pred left if eqb byte 0 else left
-
--- a name starts there
-pub record Starts (bs : List ℕ) (n start : ℕ) : Type 0 where
-  pub within : start ≤ length bs
-  pub piece : piece_of 0 (drop start bs) ≡ piece_of n bs
 
 -- ---- examples
 

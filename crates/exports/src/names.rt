@@ -1,7 +1,7 @@
 // The names of the refusals, for people.
-ghost use Rattle.std.specs.Prelude.{◌≡◌, ◌+◌, ◌≤◌, ◌<◌, length, drop};
+ghost use Rattle.std.specs.Prelude.{◌≡◌, length};
 ghost use Rattle.exports.specs.Answers.{written};
-ghost use Rattle.exports.specs.Names.{piece_of, left_behind, Starts, Named, refusal_name};
+ghost use Rattle.exports.specs.Names.{Named, refusal_name};
 
 // Fills a slice: the bytes, as many as there is room for, and zeros behind them.
 // Kept: apart from `fill` of answers.rt, since at a type parameter std's `fill` owes that a clone can't fail and
@@ -14,110 +14,59 @@ fn fill_bytes(to: &mut [u8], bytes: &[u8])
     to[held..].fill(0);
 }
 
-// How many zeros are left to pass behind a byte.
-#[tactic(auto, using(ebpf::specs::Choice::choices), unfolding(crate::specs::Names::left_behind))]
-fn left_behind(left: u32, byte: u8) -> u32
-    requires { 0 < left }
-    ensures { result ≡ left_behind left byte }
+// The name of the refusal with a number, empty where no refusal has it.
+#[tactic(auto, using(ebpf::specs::Choice::choices), unfolding(crate::specs::Names::names, crate::specs::Names::name_in, crate::specs::Names::bytes, crate::specs::Names::refusal_name))]
+fn name_of(number: u32) -> &'static [u8]
+    ensures { result.now ≡ refusal_name number }
 {
-    if byte == 0 {
-        return left - 1;
+    match number {
+        1 => b"InvalidFileHeader".as_slice(),
+        2 => b"InvalidProgramHeader".as_slice(),
+        3 => b"InvalidSectionHeader".as_slice(),
+        4 => b"StringTooLong".as_slice(),
+        5 => b"OutOfBounds".as_slice(),
+        6 => b"InvalidSize".as_slice(),
+        7 => b"Overlap".as_slice(),
+        8 => b"SectionNotInOrder".as_slice(),
+        9 => b"NoSectionNameStringTable".as_slice(),
+        10 => b"InvalidDynamicSectionTable".as_slice(),
+        11 => b"InvalidAlignment".as_slice(),
+        12 => b"NoStringTable".as_slice(),
+        13 => b"NoDynamicStringTable".as_slice(),
+        20 => b"EntrypointOutOfBounds".as_slice(),
+        21 => b"InvalidEntrypoint".as_slice(),
+        22 => b"UnresolvedSymbol".as_slice(),
+        23 => b"RelativeJumpOutOfBounds".as_slice(),
+        24 => b"SymbolHashCollision".as_slice(),
+        25 => b"WrongAbi".as_slice(),
+        26 => b"WrongMachine".as_slice(),
+        27 => b"NotOneTextSection".as_slice(),
+        28 => b"WritableSectionNotSupported".as_slice(),
+        29 => b"InvalidVirtualAddress".as_slice(),
+        30 => b"UnknownRelocation".as_slice(),
+        31 => b"WrongType".as_slice(),
+        32 => b"UnknownSymbol".as_slice(),
+        33 => b"ValueOutOfBounds".as_slice(),
+        34 => b"UnsupportedSBPFVersion".as_slice(),
+        40 => b"FileTooLong".as_slice(),
+        41 => b"BufferShort".as_slice(),
+        42 => b"BuiltinsNotAscending".as_slice(),
+        43 => b"TableFull".as_slice(),
+        44 => b"TextOutsideReadOnly".as_slice(),
+        45 => b"NoSuchIndex".as_slice(),
+        46 => b"NotASection".as_slice(),
+        47 => b"AddendNegative".as_slice(),
+        48 => b"BadHashTable".as_slice(),
+        49 => b"StringUnterminated".as_slice(),
+        _ => b"".as_slice(),
     }
-    left
 }
 
-// Where the name with a number starts among names that each have a zero behind them, the first by 0;
-// at the end where there is none.
-fn name_start(names: &[u8], number: u32) -> usize
-    ensures { Starts names.now number result }
-{
-    let mut left = number;
-    for at in 0..names.len() {
-        if left == 0 {
-            return at;
-        }
-        left = left_behind(left, names[at]);
-    }
-    names.len()
-}
-
-// Where the name that starts there ends: at its zero, or where all ends.
-fn name_end(names: &[u8], start: usize) -> usize
-    requires { start ≤ length names.now }
-    ensures { result ≡ start + length (piece_of 0 (drop start names.now)) }
-{
-    for at in start..names.len() {
-        if names[at] == 0 {
-            return at;
-        }
-    }
-    names.len()
-}
-
-// The name with a number, as a part of the names.
-fn name_part<'a>(names: &'a [u8], number: u32) -> &'a [u8]
-    ensures { result.now ≡ piece_of number names.now }
-{
-    let start = name_start(names, number);
-    let end = name_end(names, start);
-    &names[start..end]
-}
-
-// Gives a name: its bytes in the lent slice, and its length.
-fn give_name(name: &mut [u8], text: &[u8]) -> u32
-    requires { length text.now < 64 }
-    ensures { Named text.now name result }
-{
-    fill_bytes(name, text);
-    text.len() as u32
-}
-
-// The name of the refusal with a number: the one that stands here behind as many zeros.
+// Gives the name of the refusal with a number: its bytes in the lent slice, and its length.
 pub(crate) fn refusal_name(name: &mut [u8], number: u32) -> u32
     ensures { Named (refusal_name number) name result }
 {
-    let names = b"\
-        \0\
-        InvalidFileHeader\0\
-        InvalidProgramHeader\0\
-        InvalidSectionHeader\0\
-        StringTooLong\0\
-        OutOfBounds\0\
-        InvalidSize\0\
-        Overlap\0\
-        SectionNotInOrder\0\
-        NoSectionNameStringTable\0\
-        InvalidDynamicSectionTable\0\
-        InvalidAlignment\0\
-        NoStringTable\0\
-        NoDynamicStringTable\0\
-        \0\0\0\0\0\0\
-        EntrypointOutOfBounds\0\
-        InvalidEntrypoint\0\
-        UnresolvedSymbol\0\
-        RelativeJumpOutOfBounds\0\
-        SymbolHashCollision\0\
-        WrongAbi\0\
-        WrongMachine\0\
-        NotOneTextSection\0\
-        WritableSectionNotSupported\0\
-        InvalidVirtualAddress\0\
-        UnknownRelocation\0\
-        WrongType\0\
-        UnknownSymbol\0\
-        ValueOutOfBounds\0\
-        UnsupportedSBPFVersion\0\
-        \0\0\0\0\0\
-        FileTooLong\0\
-        BufferShort\0\
-        BuiltinsNotAscending\0\
-        TableFull\0\
-        TextOutsideReadOnly\0\
-        NoSuchIndex\0\
-        NotASection\0\
-        AddendNegative\0\
-        BadHashTable\0\
-        StringUnterminated\0\
-        ";
-    give_name(name, name_part(names, number))
+    let text = name_of(number);
+    fill_bytes(name, text);
+    text.len() as u32
 }
