@@ -16,15 +16,13 @@ use Rattle.program.specs.Runs.{moves_gone}
 use Rattle.program.specs.Table.{Slices, capacity, rows_of}
 use Rattle.loader.specs.declared.deeds.Deed.{Deed}
 use Rattle.loader.specs.declared.deeds.Deed.TheVariants.{Skip, Halves, Word, Key, Register, RegisterOnly, RegisterOutside}
-use Rattle.loader.specs.declared.deeds.Entry.{Entry}
-use Rattle.loader.specs.declared.deeds.Entry.TheVariants.{Nothing, Register as Enter}
 use Rattle.loader.specs.declared.validate.Job.{Job}
 use Rattle.loader.specs.Deeds.{Held}
 use Rattle.loader.specs.declared.error.ElfError.{ElfError}
 use Rattle.std.specs.Prelude.{Result, Ok, Err}
 use Rattle.loader.specs.Bytes.{put, length_put}
 use Rattle.loader.specs.Trace.{Trace, done, stop, register, forget, Settled, accepted, refused, on_registered, settle}
-use Rattle.loader.specs.Deeds.{written, entry_of, entry_trace, deed_trace, DeedFits}
+use Rattle.loader.specs.Deeds.{Entry, Nothing, Enter, written, entry_of, entry_trace, deed_trace, DeedFits}
 use Rattle.loader.specs.Calls.{immediate, call_deed, slot_trace}
 use Rattle.loader.specs.CallLoop.{ahead}
 use Rattle.loader.specs.InnerContracts.{outcome, Settles}

@@ -4,8 +4,7 @@ use mathlib.Core.Path.{◌≡◌}
 use mathlib.Core.Logic.{◌⊎◌, ◌↔◌}
 use mathlib.Core.Bool.{true, false}
 use Rattle.program.specs.declared.Row.{Row}
-use Rattle.loader.specs.declared.deeds.Entry.{Entry}
-use Rattle.loader.specs.declared.deeds.Entry.TheVariants.{Nothing, Register as Enter}
+use Rattle.loader.specs.Deeds.{Entry, Nothing, Enter}
 use Rattle.std.specs.Prelude.{Result, Ok, Err}
 use Rattle.loader.specs.declared.error.ElfError.{ElfError}
 use Rattle.loader.specs.Trace.{Trace, done, stop, register, forget}

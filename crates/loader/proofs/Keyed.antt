@@ -24,9 +24,7 @@ use Rattle.loader.specs.declared.read_only.Placing.{Placing}
 use Rattle.loader.specs.declared.error.ElfError.{ElfError}
 use Rattle.loader.specs.declared.validate.Job.{Job}
 use Rattle.loader.specs.Trace.{Trace, and_then, accepted, settle}
-use Rattle.loader.specs.declared.deeds.Entry.{Entry as EntryOf}
-use Rattle.loader.specs.declared.deeds.Entry.TheVariants.{Nothing, Register as Enter}
-use Rattle.loader.specs.Deeds.{entry_of, deed_trace}
+use Rattle.loader.specs.Deeds.{Entry as EntryOf, Nothing, Enter, entry_of, deed_trace}
 use Rattle.loader.specs.Deeds as deeds
 use Rattle.loader.specs.Labels.{labels_trace}
 use Rattle.loader.specs.Entry.{entry_deed, forget_trace}

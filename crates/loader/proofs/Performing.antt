@@ -1,6 +1,7 @@
 -- What carrying a deed out leaves, by what the deed asks of the table. Assumes nothing.
-use mathlib.Core.Path.{◌≡◌, refl, sym, ap₂, ◌∙◌, subst}
+use mathlib.Core.Path.{◌≡◌, refl, sym, subst}
 use mathlib.Core.Bool.{Bool, true, false}
+use mathlib.Core.Logic.{◌⊎◌, inl, inr}
 use mathlib.Core.List.{List}
 use Prim.Native.Nat.{ℕ}
 use native.Mathlib.Omega.{arith}
@@ -15,29 +16,16 @@ use Rattle.program.proofs.Cases.{zero_one}
 use Rattle.loader.specs.declared.error.ElfError.{ElfError}
 use Rattle.loader.specs.declared.error.ElfError.TheVariants.{ValueOutOfBounds}
 use Rattle.loader.specs.declared.deeds.Deed.{Deed}
-use Rattle.loader.specs.declared.deeds.Entry.{Entry}
-use Rattle.loader.specs.declared.deeds.Entry.TheVariants.{Nothing, Register}
+use Rattle.loader.specs.declared.deeds.Deed.TheVariants.{Skip, Halves, Word, Key, Register, RegisterOnly}
 use Rattle.loader.specs.Deeds.{Held}
 use Rattle.std.specs.Prelude.{Result, Ok, Err}
 use Rattle.loader.specs.declared.validate.Job.{Job}
 use Rattle.loader.specs.Entry.{entry_deed, forget_trace}
 use Rattle.loader.specs.Entry as part
-use Rattle.loader.specs.Trace.{Trace, done, stop, register, accepted, refused, on_registered, settle, and_then}
-use Rattle.loader.specs.Deeds.{written, entry_of, behind, entry_trace, deed_trace, holding}
-use Rattle.loader.specs.declared.deeds.Outputs.{Outputs}
-use Rattle.loader.specs.InnerContracts.{held_of, finished_by, Settles}
+use Rattle.loader.specs.Trace.{done, stop, register, accepted, refused, on_registered, settle, and_then}
+use Rattle.loader.specs.Deeds.{Nothing, Enter, written, entry_of, deed_trace, holding}
+use Rattle.loader.specs.InnerContracts.{Settles}
 use Rattle.loader.proofs.Entering.{EntersIn}
-
--- a registration's outcome, refused all the same where the place of its key is outside
-abbrev pub finished_in : Result Held ElfError → Bool → Result Held ElfError
-finished_in (Err r) outside = Err r
-finished_in (Ok held) false = Ok held
-finished_in (Ok held) true = Err ValueOutOfBounds
-
-pub finished_held : (o : Outputs) (a : Result (Unit {0}) ElfError) (outside : Bool) (b : Result (Unit {0}) ElfError) → b ≡ finished_by a outside → held_of b o ≡ finished_in (held_of a o) outside
-finished_held o (Ok tt) false b e = rw e refl
-finished_held o (Ok tt) true b e = rw e refl
-finished_held o (Err r) outside b e = rw e refl
 
 -- a registration that is held, and then refused
 held_stop : (x : RegisterResult) (rows key m : ℕ) (im : List ℕ) (rs rs' : List Row) (m' : ℕ) (r : ElfError)
@@ -57,9 +45,14 @@ refused_stop (Ok Repeat) rows key m im rs q r e = absurd (zero_one (cc))
 refused_stop (Err Collision) rows key m im rs q r e = e
 refused_stop (Err Full) rows key m im rs q r e = e
 
+-- the refusal behind a registration's answer
+abbrev pub refused_behind : Result Held ElfError → Result Held ElfError
+refused_behind (Ok held) = Err ValueOutOfBounds
+refused_behind (Err r) = Err r
+
 outside_row : (row : Row) (im : List ℕ) (t u : Slices) (used moves : ℕ) (a : Result Held ElfError)
     → Settles (register row (done im)) im t u 1 used moves a
-    → Settles (register row (stop ValueOutOfBounds)) im t u 1 used moves (finished_in a true)
+    → Settles (register row (stop ValueOutOfBounds)) im t u 1 used moves (refused_behind a)
 unfolding settle
 outside_row row im t u used moves (Ok held) did =
     record {
@@ -76,13 +69,6 @@ outside_row row im t u used moves (Err r) did =
       sound = tt;
       near = tt;
     }
-
-finished_row : (row : Row) (outside : Bool) (im : List ℕ) (t u : Slices) (used moves : ℕ) (a : Result Held ElfError)
-    → Settles (register row (done im)) im t u 1 used moves a
-    → Settles (register row (behind outside im)) im t u 1 used moves (finished_in a outside)
-finished_row row false im t u used moves (Ok held) did = did
-finished_row row false im t u used moves (Err r) did = did
-finished_row row true im t u used moves a did = outside_row row im t u used moves a did
 
 -- a refusal, whatever the table
 pub refuses : (r : ElfError) (im im' : List ℕ) (t u : Slices) (n used moves : ℕ) → Settles (deed_trace (Err r) im) im' t u n used moves (Err r)
@@ -102,21 +88,30 @@ entry_refused builtins j im t used moves r e = record {
     go true = refl
     go false = refl
 
-module _ (d : Result Deed ElfError) (im im' : List ℕ) (t : Slices) (used moves : ℕ) (e : Result Entry ElfError) (is : e ≡ entry_of d) (w : im' ≡ written d im) where
-  trace_is : (x : Result Entry ElfError) → e ≡ x → entry_trace x im' ≡ deed_trace d im
-  unfolding deed_trace
-  trace_is x p = ap₂ entry_trace (sym p ∙ is) w
+module _ (d : Result Deed ElfError) (im im' : List ℕ) (t : Slices) (used moves : ℕ) (w : im' ≡ written d im) where
+  -- it asks nothing of the table
+  pub performs_nothing : entry_of d ≡ Ok Nothing → Ready t used → Settles (deed_trace d im) im' t t 1 used moves (holding used moves)
+  unfolding settle deed_trace
+  performs_nothing e ready = rw (e, w) (record { answers = refl; sound = ready; near = (omega arith, omega arith) })
 
-  trace_as : (x : Result Entry ElfError) → e ≡ x → (u : Slices) (a : Result Held ElfError) → Settles (entry_trace x im') im' t u 1 used moves a → Settles (deed_trace d im) im' t u 1 used moves a
-  trace_as x p u a did = subst (λ (T : Trace). Settles T im' t u 1 used moves a) (trace_is x p) did
+  -- it registers a row
+  module _ (row : Row) (u : Slices) (last : List ℕ) (stays : last ≡ im') where
+    pub performs_row : (a : Result Held ElfError) → entry_of d ≡ Ok (Enter row false) → EntersIn row t u used moves a → Settles (deed_trace d im) last t u 1 used moves a
+    unfolding deed_trace
+    performs_row a e did = rw (e, stays, ← w) (did im')
 
-  pub performs_nothing : e ≡ Ok Nothing → Ready t used → Settles (deed_trace d im) im' t t 1 used moves (holding used moves)
-  unfolding settle
-  performs_nothing p ready = trace_as (Ok Nothing) p t (holding used moves) (record { answers = refl; sound = ready; near = (omega arith, omega arith) })
+    -- the place of its key is outside: it is refused behind whatever the registration answers
+    pub performs_outside : (a : Result Held ElfError) → entry_of d ≡ Ok (Enter row true) → EntersIn row t u used moves a → Settles (deed_trace d im) last t u 1 used moves (refused_behind a)
+    unfolding deed_trace
+    performs_outside a e did = rw (e, stays) (outside_row row im' t u used moves a (did im'))
 
-  pub performs_row : (row : Row) (outside : Bool) (u : Slices) (a b : Result Held ElfError)
-      → e ≡ Ok (Register row outside)
-      → EntersIn row t u used moves a
-      → b ≡ finished_in a outside
-      → Settles (deed_trace d im) im' t u 1 used moves b
-  performs_row row outside u a b p did f = trace_as (Ok (Register row outside)) p u b (rw f (finished_row row outside im' t u used moves a (did im')))
+-- what the arms over a deed know of it
+pub asks_nothing : (d : Deed) → (d ≡ Skip) ⊎ (((low : ℕ) × (high : ℕ) × (v : ℕ) × (d ≡ Halves low high v)) ⊎ (((at : ℕ) × (v : ℕ) × (d ≡ Word at v)) ⊎ ((at : ℕ) × (k : ℕ) × (d ≡ Key at k)))) → entry_of (Ok d) ≡ Ok Nothing
+asks_nothing d (inl e) = rw e refl
+asks_nothing d (inr (inl (low, high, v, e))) = rw e refl
+asks_nothing d (inr (inr (inl (at, v, e)))) = rw e refl
+asks_nothing d (inr (inr (inr (at, k, e)))) = rw e refl
+
+pub asks_row : (d : Deed) (row : Row) → ((at : ℕ) × (d ≡ Register row at)) ⊎ (d ≡ RegisterOnly row) → entry_of (Ok d) ≡ Ok (Enter row false)
+asks_row d row (inl (at, e)) = rw e refl
+asks_row d row (inr e) = rw e refl

@@ -22,11 +22,9 @@ use Rattle.program.specs.declared.FunctionName.TheVariants.{OfIndex, Entrypoint}
 use Rattle.program.proofs.Cases.{zero_one}
 use Rattle.loader.specs.declared.error.ElfError.TheVariants.{InvalidEntrypoint}
 use Rattle.loader.specs.declared.deeds.Deed.{Deed}
-use Rattle.loader.specs.declared.deeds.Entry.{Entry}
-use Rattle.loader.specs.declared.deeds.Entry.TheVariants.{Nothing, Register as Enter}
 use Rattle.loader.specs.declared.validate.Job.{Job}
 use Rattle.loader.specs.declared.error.ElfError.{ElfError}
-use Rattle.loader.specs.Deeds.{entry_of, written, entry_trace, deed_trace}
+use Rattle.loader.specs.Deeds.{Entry, Nothing, Enter, entry_of, written, entry_trace, deed_trace}
 use Rattle.loader.specs.Functions.{row_for, symbol_function, index_of}
 use Rattle.loader.specs.Addresses.{sum_up_to}
 use Rattle.loader.specs.Calls.{call_at, text_of, slot_count, immediate, call_row, call_by, call_deed, slot_trace, calls_trace}

@@ -4,8 +4,7 @@ use Rattle.std.proofs.Common.{◌∙◌}
 use Rattle.loader.specs.declared.error.ElfError.TheVariants.{ValueOutOfBounds}
 use Rattle.loader.specs.declared.deeds.Deed.{Deed}
 use Rattle.loader.specs.declared.deeds.Deed.TheVariants.{Skip, Halves, Word, Key, Register, RegisterOnly, RegisterOutside}
-use Rattle.loader.specs.declared.deeds.Entry.{Entry}
-use Rattle.loader.specs.declared.deeds.Entry.TheVariants.{Nothing, Register as Enter}
+use Rattle.program.specs.declared.Row.{Row}
 use Rattle.loader.specs.declared.error.ElfError.{ElfError}
 use Rattle.loader.specs.Bytes.{put, length_put}
 use Rattle.loader.specs.Trace.{Trace, done, stop, register}
@@ -48,7 +47,11 @@ writes (Ok (Register row at)) b = is_in at 4 b
 writes (Ok (RegisterOnly row)) b = false
 writes (Ok (RegisterOutside row)) b = false
 
--- what it asks of the table
+-- what a deed asks of the table: nothing, or to register a row, behind which the place of its key is in the file or outside it
+pub data Entry : Type 0 where
+  Nothing : Entry
+  Enter : Row → Bool → Entry
+
 abbrev pub entry_of : Result Deed ElfError → Result Entry ElfError
 entry_of (Ok Skip) = Ok Nothing
 entry_of (Err r) = Err r

@@ -2,10 +2,10 @@
 use Rattle.program.specs.Rows.{RegisterResult}
 use Rattle.program.specs.declared.RegisterError.TheVariants.{Collision, Full}
 use Rattle.program.specs.declared.Registered.TheVariants.{Inserted, Repeat}
-use Rattle.std.specs.Prelude.{ℕ, ◌+◌, ◌*◌, ◌≤◌, ◌^◌, ◌≡◌, List, Bool, true, false, length, Ok, Err, Result}
+use Rattle.std.specs.Prelude.{ℕ, ◌+◌, ◌*◌, ◌≤◌, ◌^◌, ◌≡◌, List, Bool, length, Ok, Err, Result}
 use Rattle.program.specs.declared.Row.{Row}
 use Rattle.program.specs.Table.{Slices, SameLens, SameColumns, columns_of, capacity, rows_of, Ready}
-use Rattle.loader.specs.declared.error.ElfError.TheVariants.{SymbolHashCollision, TableFull, ValueOutOfBounds}
+use Rattle.loader.specs.declared.error.ElfError.TheVariants.{SymbolHashCollision, TableFull}
 use Rattle.loader.specs.declared.deeds.Outputs.{Outputs}
 use Rattle.loader.specs.declared.inputs.Inputs.{Inputs}
 use Rattle.loader.specs.declared.error.ElfError.{ElfError}
@@ -25,12 +25,6 @@ entered_by (Ok (Inserted n)) used moves key rows = holding (used + 1) (moves + n
 entered_by (Ok Repeat) used moves key rows = holding used moves
 entered_by (Err Collision) used moves key rows = Err (SymbolHashCollision key)
 entered_by (Err Full) used moves key rows = Err (TableFull rows)
-
--- the outcome of a registration: one that was held is refused all the same where the place of its key is outside the file
-abbrev pub finished_by : Result (Unit {0}) ElfError → Bool → Result (Unit {0}) ElfError
-finished_by (Err r) outside = Err r
-finished_by (Ok tt) false = Ok tt
-finished_by (Ok tt) true = Err ValueOutOfBounds
 
 -- what came of a trace, as an answer, an image and a table say it
 abbrev pub outcome : Result Held ElfError → List ℕ → Slices → Settled

@@ -4,9 +4,9 @@ ghost use Rattle.std.specs.Prelude.{Ok, ◌≡◌, ◌+◌, ◌/◌, ◌%◌, �
 ghost use Rattle.program.specs.Table.{capacity, columns_of};
 ghost use Rattle.program.specs.Runs.{moves_of};
 ghost use Rattle.loader.specs.Bytes.{put};
-ghost use Rattle.loader.specs.Deeds.{DeedFits, written, entry_of, deed_trace};
+ghost use Rattle.loader.specs.Deeds.{DeedFits, written, deed_trace};
 ghost use Rattle.loader.specs.CallLoop.{AlikeIn, StillAlike};
-ghost use Rattle.loader.specs.InnerContracts.{entered_as, moved_by, finished_by, Begins, Keeps, Enters, SettlesTo};
+ghost use Rattle.loader.specs.InnerContracts.{entered_as, moved_by, Begins, Keeps, Enters, SettlesTo};
 
 use crate::error::ElfError;
 use program::{FunctionRegistry, RegisterError, Registered, Row};
@@ -28,33 +28,12 @@ pub enum Deed {
     RegisterOutside { row: Row },
 }
 
-// What a deed asks of the table.
-// Kept: an Option of a struct leaves the proofs no case by `outside`.
-#[derive(Clone, Copy, PartialEq, Eq, Debug)]
-pub enum Entry {
-    Nothing,
-    Register { row: Row, outside: bool },
-}
-
 // What a load fills: the image, the table, and the moves up to here.
 #[derive(Drop)]
 pub struct Outputs<'o, 't> {
     pub image: &'o mut [u8],
     pub registry: &'o mut FunctionRegistry<'t>,
     pub moves: u64,
-}
-
-fn entry_of(deed: Deed) -> Entry
-    ensures { Ok result ≡ entry_of (Ok deed) }
-{
-    match deed {
-        Deed::Skip | Deed::Halves { .. } | Deed::Word { .. } | Deed::Key { .. } => Entry::Nothing,
-        Deed::Register { row, .. } | Deed::RegisterOnly { row } => Entry::Register {
-            row,
-            outside: false,
-        },
-        Deed::RegisterOutside { row } => Entry::Register { row, outside: true },
-    }
 }
 
 // Four bytes, the lowest first.
@@ -86,17 +65,6 @@ fn write(image: &mut [u8], deed: Deed)
         Deed::Key { at, key } => store_u32(image, at, key),
         Deed::Register { row, at } => store_u32(image, at, row.key),
     }
-}
-
-// A registration that was held is refused all the same where the key's place is outside.
-fn finished(outcome: Result<(), ElfError>, outside: bool) -> Result<(), ElfError>
-    ensures { result ≡ finished_by outcome outside }
-{
-    outcome?;
-    if outside {
-        return Err(ElfError::ValueOutOfBounds);
-    }
-    Ok(())
 }
 
 impl Outputs<'_, '_> {
@@ -153,16 +121,20 @@ impl Outputs<'_, '_> {
         self.entered(answer, row.key)
     }
 
-    // Carries a deed out.
+    // Carries a deed out. A key outside the file refuses, behind whatever the registration answers.
     pub(crate) fn perform(&mut self, deed: Deed) -> Result<(), ElfError>
         requires { DeedFits (length self.old.image.now) (Ok deed) × Begins 1 self.old }
         ensures keeps { Keeps self.old self.new }
         ensures settles { SettlesTo (deed_trace (Ok deed) self.old.image.now) 1 self.old self.new result }
     {
         write(self.image, deed);
-        match entry_of(deed) {
-            Entry::Nothing => Ok(()),
-            Entry::Register { row, outside } => finished(self.enter(row), outside),
+        match deed {
+            Deed::Skip | Deed::Halves { .. } | Deed::Word { .. } | Deed::Key { .. } => Ok(()),
+            Deed::Register { row, .. } | Deed::RegisterOnly { row } => self.enter(row),
+            Deed::RegisterOutside { row } => {
+                self.enter(row)?;
+                Err(ElfError::ValueOutOfBounds)
+            }
         }
     }
 }
