@@ -12,9 +12,8 @@ use Rattle.program.specs.declared.Registered.TheVariants.{Inserted, Repeat}
 use Rattle.std.specs.Prelude.{Ok, Err}
 use Rattle.ebpf.specs.Choice.{◌if◌else◌}
 use Rattle.program.specs.declared.Row.{Row}
-use Rattle.program.specs.declared.KeptName.{KeptName}
 use Rattle.program.specs.declared.FunctionName.TheVariants.{OfIndex}
-use Rattle.program.specs.HashedLegacy.{LegacyResult, is_taken, kept_name, row_of, legacy_row, collision}
+use Rattle.program.specs.HashedLegacy.{LegacyResult, is_taken, kept_name, row_of, row_under, legacy_row, collision}
 use Rattle.program.specs.Rows.{registered, Repeats, RegisterResult}
 use Rattle.program.specs.Rows as table
 use Rattle.program.specs.Table.{Slices, capacity, rows_of, Ready, Alike, RegistersAlike}
@@ -67,29 +66,41 @@ still_alike_row o r o' row a res alike did moved held =
     subst (λ (u : Slices). StillAlikeIn row u (held_of res o')) (ap (λ (x : Outputs). columns_of x.registry.now) (sym moved))
     (still_alike (columns_of o.registry.now) (columns_of r.now) o.registry.now.used o.moves row.key (capacity (columns_of o.registry.now)) row alike a did (held_of res o') held)
 
-module _ (j : Job) (key index : ℕ) (name : KeptName) (is : name ≡ kept_name j.labels OfIndex) where
-  pub target_alike : (t : Slices) (n : ℕ) → Alike t n (target_row j) → Alike t n (row_of key index name)
-  target_alike t n = alike_named t n (target_row j) (row_of key index name) (ap (λ (k : KeptName). k.kind) (sym is)) (ap (λ (k : KeptName). k.start) (sym is)) (ap (λ (k : KeptName). k.length) (sym is))
-
-  pub still_target : (u : Slices) (a : Result Held ElfError) → StillAlikeIn (row_of key index name) u a → StillAlikeIn (target_row j) u a
-  still_target u (Ok held) h = alike_named u held.used (row_of key index name) (target_row j) (ap (λ (k : KeptName). k.kind) is) (ap (λ (k : KeptName). k.start) is) (ap (λ (k : KeptName). k.length) is) h
-  still_target u (Err r) h = tt
-
 -- ---- a target's row
 
-module _ (builtins : List ℕ) (j : Job) (key index : ℕ) (k : key ≡ target_key j index) where
-  target_row_lem : (b : Bool) → is_taken builtins j.version2 j.check_collision key ≡ b → row_for builtins j OfIndex index ≡ (Err (collision key) if b else Ok (row_of key index (kept_name j.labels OfIndex)))
-  unfolding row_for legacy_row
-  target_row_lem b e = rw (← k, e) refl
-
-  pub targets_taken : (t : Slices) (used moves : ℕ) → is_taken builtins j.version2 j.check_collision key ≡ true → TargetsIn (row_for builtins j OfIndex index) t t used moves (Err (SymbolHashCollision key))
-  unfolding settle ◌if◌else◌
-  targets_taken t used moves e im = rw (target_row_lem true e) (record { answers = refl; sound = tt; near = tt })
-
-  pub targets_free : (name : KeptName) → name ≡ kept_name j.labels OfIndex → (t u : Slices) (used moves : ℕ) (a : Result Held ElfError) → is_taken builtins j.version2 j.check_collision key ≡ false
-      → EntersIn (row_of key index name) t u used moves a → TargetsIn (row_for builtins j OfIndex index) t u used moves a
+module _ (builtins : List ℕ) (j : Job) (key index : ℕ) (row : Row) (is : row_under builtins j.version2 j.check_collision j.labels key OfIndex index ≡ Ok row) where
+  target_named : row ≡ row_of key index (kept_name j.labels OfIndex)
   unfolding ◌if◌else◌
-  targets_free name is t u used moves a e did im = rw (target_row_lem false e, ← is) (did im)
+  target_named = go (is_taken builtins j.version2 j.check_collision key) is
+    where
+      go : (b : Bool) → (Err (collision key) if b else Ok (row_of key index (kept_name j.labels OfIndex))) ≡ Ok row → row ≡ row_of key index (kept_name j.labels OfIndex)
+      go true e = absurd (zero_one (cc))
+      go false e = cc
+
+  pub target_alike : (t : Slices) (n : ℕ) → Alike t n (target_row j) → Alike t n row
+  target_alike t n =
+      let e = sym target_named in
+      alike_named t n (target_row j) row (ap (λ (r : Row). r.kind) e) (ap (λ (r : Row). r.start) e) (ap (λ (r : Row). r.length) e)
+
+  pub still_target : (u : Slices) (a : Result Held ElfError) → StillAlikeIn row u a → StillAlikeIn (target_row j) u a
+  still_target u (Ok held) h =
+      let e = target_named in
+      alike_named u held.used row (target_row j) (ap (λ (r : Row). r.kind) e) (ap (λ (r : Row). r.start) e) (ap (λ (r : Row). r.length) e) h
+  still_target u (Err r) h = tt
+
+module _ (builtins : List ℕ) (j : Job) (key index : ℕ) (k : key ≡ target_key j index) where
+  target_row_lem : row_for builtins j OfIndex index ≡ row_under builtins j.version2 j.check_collision j.labels key OfIndex index
+  unfolding row_for legacy_row
+  target_row_lem = rw (← k) refl
+
+  pub targets_taken : (at : ℕ) (t : Slices) (used moves : ℕ) → row_under builtins j.version2 j.check_collision j.labels key OfIndex index ≡ Err (collision at)
+      → TargetsIn (row_for builtins j OfIndex index) t t used moves (Err (SymbolHashCollision at))
+  unfolding settle
+  targets_taken at t used moves e im = rw (target_row_lem ∙ e) (record { answers = refl; sound = tt; near = tt })
+
+  pub targets_free : (row : Row) (t u : Slices) (used moves : ℕ) (a : Result Held ElfError) → row_under builtins j.version2 j.check_collision j.labels key OfIndex index ≡ Ok row
+      → EntersIn row t u used moves a → TargetsIn (row_for builtins j OfIndex index) t u used moves a
+  targets_free row t u used moves a e did im = rw (target_row_lem ∙ e) (did im)
 
 -- ---- a slot, by what it calls
 

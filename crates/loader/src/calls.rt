@@ -11,7 +11,7 @@ use crate::error::ElfError;
 use crate::inputs::Inputs;
 use crate::read_only::copy_bytes;
 use ebpf::{CALL_IMM, Insn, get_insn};
-use program::{FunctionName, Row, is_taken, kept_name, legacy_key};
+use program::FunctionName;
 
 // The target `to` of the call in slot number `i`.
 #[tactic(auto, using(ebpf::specs::Choice::choices), unfolding(crate::specs::Calls::inside))]
@@ -145,19 +145,11 @@ fn register_target(
     ensures targets { Targets (row_for inputs.now.builtins.now inputs.now.job OfIndex index) out.old out.new result }
     ensures alike { StillAlike (target_row inputs.now.job) out.new result }
 {
-    let version2 = inputs.job.version2;
-    let check_collision = inputs.job.check_collision;
-    if is_taken(inputs.builtins, version2, check_collision, key) {
-        return Err(ElfError::SymbolHashCollision { key });
+    let legacy = inputs.hashed_legacy();
+    match legacy.row_under(key, FunctionName::OfIndex, index) {
+        Ok(row) => out.enter_alike(row),
+        Err(taken) => Err(ElfError::SymbolHashCollision { key: taken.key }),
     }
-    let name = kept_name(inputs.job.labels, FunctionName::OfIndex);
-    out.enter_alike(Row {
-        key,
-        index,
-        kind: name.kind,
-        start: name.start,
-        length: name.length,
-    })
 }
 
 // A slot of the job's text: the key of what it calls is written, and the target registered.
@@ -178,7 +170,9 @@ fn call_step(
     let Some(index) = call_at(&inputs.file[start..end], version2, i)? else {
         return Ok(());
     };
-    let key = legacy_key(inputs.table, version2, FunctionName::OfIndex, index);
+    let key = inputs
+        .hashed_legacy()
+        .legacy_key(FunctionName::OfIndex, index);
     store_u32(out.image, start + 8 * i + 4, key);
     if is_seen(seen, index) {
         return Ok(());

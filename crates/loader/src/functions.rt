@@ -4,7 +4,23 @@ ghost use Rattle.loader.specs.Functions.{Keyed, row_for, symbol_function};
 
 use crate::inputs::Inputs;
 use elf_parser::Place;
-use program::{FunctionName, Row, SymbolHashCollision, legacy_row};
+use program::{FunctionName, HashedLegacy, Row, SymbolHashCollision};
+
+impl<'a> Inputs<'a> {
+    // What functions are registered by, beside their names and indices.
+    #[inline(always)]
+    pub(crate) fn hashed_legacy(&self) -> HashedLegacy<'a>
+        ensures { result ≡ record { table = self.now.table; builtins = self.now.builtins; version2 = self.now.job.version2; check_collision = self.now.job.check_collision; labels = self.now.job.labels } }
+    {
+        HashedLegacy {
+            table: self.table,
+            builtins: self.builtins,
+            version2: self.job.version2,
+            check_collision: self.job.check_collision,
+            labels: self.job.labels,
+        }
+    }
+}
 
 // By the lent table of keys, where it is right (`Keyed`).
 pub(crate) fn row_for(
@@ -14,15 +30,7 @@ pub(crate) fn row_for(
 ) -> Result<Row, SymbolHashCollision>
     ensures { result ≡ row_for inputs.now.builtins.now inputs.now.job name index }
 {
-    legacy_row(
-        inputs.table,
-        inputs.builtins,
-        inputs.job.version2,
-        inputs.job.check_collision,
-        inputs.job.labels,
-        name,
-        index,
-    )
+    inputs.hashed_legacy().legacy_row(name, index)
 }
 
 // A name that is a part of the file.

@@ -66,7 +66,10 @@ LegacyResult = Result Row SymbolHashCollision
 abbrev pub collision : ℕ → SymbolHashCollision
 collision k = record { key = k }
 
+-- under a key
+abbrev pub row_under : List ℕ → Bool → Bool → Bool → ℕ → FunctionName → ℕ → LegacyResult
+row_under builtins version2 check labels key name index = Err (collision key) if is_taken builtins version2 check key else Ok (row_of key index (kept_name labels name))
+
+-- under that of the name and the index
 unfoldable pub legacy_row : List ℕ → List ℕ → Bool → Bool → Bool → FunctionName → ℕ → LegacyResult
-legacy_row table builtins version2 check labels name index =
-    Err (collision (legacy_key table version2 name index)) if is_taken builtins version2 check (legacy_key table version2 name index)
-    else Ok (row_of (legacy_key table version2 name index) index (kept_name labels name))
+legacy_row table builtins version2 check labels name index = row_under builtins version2 check labels (legacy_key table version2 name index) name index

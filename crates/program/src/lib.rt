@@ -7,7 +7,7 @@ mod registry;
 mod search;
 mod table;
 
-pub use hashed_legacy::{ENTRYPOINT_KEY, is_builtin, is_taken, kept_name, legacy_key, legacy_row};
+pub use hashed_legacy::{ENTRYPOINT_KEY, is_builtin};
 pub use table::{index_ascending, row_ascending};
 
 // What a row says of its name: it is empty or not kept, a part of the file, the text entrypoint, or
@@ -91,6 +91,19 @@ pub enum FunctionName {
     OfIndex,
     // The entry's own text.
     Entrypoint,
+}
+
+// What a function is registered by, beside its name and index.
+#[derive(Clone, Copy)]
+pub struct HashedLegacy<'a> {
+    // The keys of the first indices; those of the others are worked out.
+    pub table: &'a [u32],
+    // The keys of the built-ins.
+    pub builtins: &'a [u32],
+    pub version2: bool,
+    // The settings: whether a key that a built-in has is refused, and whether rows keep names.
+    pub check_collision: bool,
+    pub labels: bool,
 }
 
 // What a row keeps of a name.

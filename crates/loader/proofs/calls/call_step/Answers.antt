@@ -36,14 +36,14 @@ returns-then-is_seen-clause-settles c =
     let i = c.args.inputs.now in
     let o = c.args.out.now in
     let r = (goal.at.returns-then-is_seen-clause-settles c).After-call_at in
-    let keyed : c.legacy_key-key.result ≡ target_key i.job c.in-Some.index = c.legacy_key-key.ensures ∙ same_key _ _ _ _ c.args.inputs.now.keyed in
+    let keyed : c.legacy_key-key.result ≡ target_key i.job c.in-Some.index = (rw c.hashed_legacy.ensures at c.legacy_key-key.ensures) ∙ same_key _ _ _ _ c.args.inputs.now.keyed in
     let hit = known_hit i.builtins.now i.job (rows_of (columns_of o.registry.now) o.registry.now.used) c.args.seen.now c.in-Some.index c.requires.2.known (eqb-true _ _ (rw c.is_seen.ensures at c.if-is_seen.true)) in
     settles_target i.file.now i.builtins.now i.job c.args.i o.image.now c.legacy_key-key.result c.in-Some.index (called r _ (c.in_ok-index.was ∙ ap Ok c.in-Some.is)) keyed c.store_u32.new.image (columns_of o.registry.now) (columns_of o.registry.now) o.registry.now.used o.moves _ c.store_u32.ensures
     (targets_known i.builtins.now i.job c.in-Some.index (columns_of o.registry.now) o.registry.now.used o.moves c.requires.0.1.ready hit)
 
 pub register_target-requires : goal.register_target-requires
 register_target-requires c =
-    let keyed : c.legacy_key-key.result ≡ target_key c.args.inputs.now.job c.in-Some.index = c.legacy_key-key.ensures ∙ same_key _ _ _ _ c.args.inputs.now.keyed in
+    let keyed : c.legacy_key-key.result ≡ target_key c.args.inputs.now.job c.in-Some.index = (rw c.hashed_legacy.ensures at c.legacy_key-key.ensures) ∙ same_key _ _ _ _ c.args.inputs.now.keyed in
     (keyed, c.requires.0.1, c.requires.2.alike)
 
 pub returns-in_default-clause-settles : goal.returns-in_default-clause-settles
@@ -65,7 +65,7 @@ returns-clause-settles c =
     let o = c.args.out.now in
     let o' = c.register_target.new.out in
     let r = (goal.at.returns-clause-settles c).After-call_at in
-    let keyed : c.legacy_key-key.result ≡ target_key i.job c.in-Some.index = c.legacy_key-key.ensures ∙ same_key _ _ _ _ c.args.inputs.now.keyed in
+    let keyed : c.legacy_key-key.result ≡ target_key i.job c.in-Some.index = (rw c.hashed_legacy.ensures at c.legacy_key-key.ensures) ∙ same_key _ _ _ _ c.args.inputs.now.keyed in
     subst (λ (im : List ℕ). Settles (slot_trace i.file.now i.builtins.now i.job c.args.i o.image.now) im (columns_of o.registry.now) (columns_of o'.registry.now) 1 o.registry.now.used o.moves (held_of c.register_target.result o')) (sym c.register_target.ensures.image)
     (settles_target i.file.now i.builtins.now i.job c.args.i o.image.now c.legacy_key-key.result c.in-Some.index (called r _ (c.in_ok-index.was ∙ ap Ok c.in-Some.is)) keyed c.store_u32.new.image (columns_of o.registry.now) (columns_of o'.registry.now) o.registry.now.used o.moves _ c.store_u32.ensures c.register_target.ensures.targets)
 

@@ -7,4 +7,4 @@ use Rattle.loader.proofs.functions.row_for.Goals as goal
 
 pub returns : goal.returns
 unfolding row_for
-returns c = c.legacy_row.ensures ∙ same_row _ _ _ _ _ _ _ c.args.inputs.now.keyed
+returns c = (rw c.hashed_legacy.ensures at c.legacy_row.ensures) ∙ same_row _ _ _ _ _ _ _ c.args.inputs.now.keyed
