@@ -53,10 +53,9 @@ impl Profile<'_> {
         }
         let from = self.indices[r] as usize;
         let end = (word - FLAG) as usize;
-        let d = self.depth_over(work, from, end);
-        if d == 0 {
+        let Some(d) = self.depth_over(work, from, end) else {
             return 0;
-        }
+        };
         work[r] = d;
         1
     }
