@@ -6,6 +6,7 @@ use Rattle.ebpf.specs.Instructions.{insn_at}
 use Rattle.ebpf.specs.declared.Insn.{Insn}
 use Rattle.program.specs.Table.{row_ascending_in}
 use Rattle.call_graph.specs.Profile.{Profile, next_above, nth_of}
+use Rattle.call_graph.specs.Words.{Scan}
 use Rattle.call_depth.specs.declared.Profile.{Profile as LentProfile}
 
 -- a call by a key: opcode 0x85, and in version 2 source not 0
@@ -54,3 +55,8 @@ pub record WorkLent (text indices w : List ℕ) : Type 0 where
   pub long : length w ≡ length indices
   pub slots : slots_in text < 0x4000_0000
   pub rows : length indices < 0x4000_0000
+
+-- a scan's answer: none where a slot calls a row that is not settled, else 1 and the largest depth
+abbrev pub Scanned : (ℕ → ℕ) → List ℕ → ℕ → ℕ → Option ℕ → Type 0
+Scanned callee w from end None = Scan callee w from end 0
+Scanned callee w from end (Some d) = Scan callee w from end d × (0 < d)

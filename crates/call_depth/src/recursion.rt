@@ -48,9 +48,8 @@ fn kept(word: u32, r: usize, entry: usize) -> u32
 fn keep_marked(work: &mut [u32], entry: usize)
     ensures { Each (keep entry) (length work.old) work.old work.new }
 {
-    // Kept: by index, since the library says nothing of what is written through an enumerated `iter_mut`.
-    for r in 0..work.len() {
-        work[r] = kept(work[r], r, entry);
+    for (r, word) in work.iter_mut().enumerate() {
+        *word = kept(*word, r, entry);
     }
 }
 

@@ -36,9 +36,8 @@ impl Profile<'_> {
         ensures { Each (unsettled (profile_of self)) (length self.entry.indices.now) work.old work.new }
     {
         let count = (self.text.len() / 8) as u32;
-        // Kept: by index, since the library says nothing of what is written through a zipped `iter_mut`.
-        for r in 0..self.indices.len() {
-            work[r] = FLAG + end_of(self.indices, self.indices[r], count);
+        for (r, word) in work.iter_mut().enumerate() {
+            *word = FLAG + end_of(self.indices, self.indices[r], count);
         }
     }
 
@@ -54,10 +53,9 @@ impl Profile<'_> {
         }
         let from = self.indices[r] as usize;
         let end = (word - FLAG) as usize;
-        let d = self.depth_over(work, from, end);
-        if d == 0 {
+        let Some(d) = self.depth_over(work, from, end) else {
             return 0;
-        }
+        };
         work[r] = d;
         1
     }

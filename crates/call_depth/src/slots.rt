@@ -1,8 +1,7 @@
 // The slots of a function: what they call, and the words of the rows that they call.
 ghost use Rattle.std.specs.Prelude.{◌≡◌, ◌≤◌, ◌<◌};
 ghost use Rattle.call_graph.specs.Marks.{Slots, always};
-ghost use Rattle.call_graph.specs.Words.{Scan};
-ghost use Rattle.call_depth.specs.Called.{calls_key, row_under, callee_by, callee_in, slots_in};
+ghost use Rattle.call_depth.specs.Called.{calls_key, row_under, callee_by, callee_in, slots_in, Scanned};
 
 use crate::Profile;
 use ebpf::{CALL_IMM, Insn, get_insn};
@@ -71,21 +70,21 @@ impl Profile<'_> {
         self.callee_by(get_insn(self.text, s))
     }
 
-    // 0 where a slot calls a row that is not settled, else 1 and the largest depth of those called.
+    // None where a slot calls a row that is not settled, else 1 and the largest depth of those called.
     #[tactic(auto, using(call_graph::proofs::Scans::over_start, call_graph::proofs::Scans::over_next, call_graph::proofs::Scans::scan_stop, call_graph::proofs::Scans::scan_end))]
-    pub(crate) fn depth_over(self, work: &[u32], from: usize, end: usize) -> u32
+    pub(crate) fn depth_over(self, work: &[u32], from: usize, end: usize) -> Option<u32>
         requires { end ≤ slots_in self.text.now }
-        ensures { Scan (callee_in self.entry.text.now self.entry.keys.now self.entry.version2) work.now from end result }
+        ensures { Scanned (callee_in self.entry.text.now self.entry.keys.now self.entry.version2) work.now from end result }
     {
         let mut most = 0;
         for s in from..end {
             let d = work.get(self.callee_of(s)).copied().unwrap_or(0);
             if FLAG <= d {
-                return 0;
+                return None;
             }
             most = most.max(d);
         }
-        most + 1
+        Some(most + 1)
     }
 
     // Marks what some slots call: how many rows are newly marked.

@@ -51,21 +51,21 @@ Fills file answer numbers r = Filling file numbers (asked file.entry.now answer)
 abbrev pub OnlyZeros : List ℕ → Type 0
 OnlyZeros s = (b : ℕ) → ◌≡◌ {A = ℕ} (get_or s b 0) 0
 
--- `code` stands at each place below len of which P holds, and all else is as it was
-pub record Marked (P : ℕ → Bool) (code len : ℕ) (s s' : List ℕ) : Type 0 where
+-- `code` stands at each place of which P holds, and all else is as it was
+pub record Marked (P : ℕ → Bool) (code : ℕ) (s s' : List ℕ) : Type 0 where
   pub length_as : length s' ≡ length s
-  pub at : (b : ℕ) → get_or s' b 0 ≡ (code if P b && ltb b len else get_or s b 0)
+  pub at : (b : ℕ) → get_or s' b 0 ≡ (code if P b && ltb b (length s) else get_or s b 0)
 
-abbrev pub Marks : (ℕ → Bool) → ℕ → ℕ → Lent → Type 0
-Marks P code len numbers = Marked P code len numbers.entry.now numbers.exit.now
+abbrev pub Marks : (ℕ → Bool) → ℕ → Lent → Type 0
+Marks P code numbers = Marked P code numbers.entry.now numbers.exit.now
 
--- below len stand the numbers of these writers, and zeros behind
-pub record Holds (w : ℕ → Writer) (len : ℕ) (s s' : List ℕ) : Type 0 where
+-- the numbers are those of these writers
+pub record Holds (w : ℕ → Writer) (s s' : List ℕ) : Type 0 where
   pub length_as : length s' ≡ length s
-  pub at : (b : ℕ) → get_or s' b 0 ≡ (code_of (w b) if ltb b len else 0)
+  pub at : (b : ℕ) → get_or s' b 0 ≡ (code_of (w b) if ltb b (length s) else 0)
 
 abbrev pub HoldsCalls : List ℕ → LoadedText → Lent → Type 0
-HoldsCalls file t numbers = Holds (call_writer file t) (length file) numbers.entry.now numbers.exit.now
+HoldsCalls file t numbers = Holds (call_writer file t) numbers.entry.now numbers.exit.now
 
 abbrev pub HoldsAll : List ℕ → Layout → LoadedText → Lent → Type 0
-HoldsAll file l t numbers = Holds (by_names file l t) (length file) numbers.entry.now numbers.exit.now
+HoldsAll file l t numbers = Holds (by_names file l t) numbers.entry.now numbers.exit.now

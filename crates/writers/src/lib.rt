@@ -95,7 +95,7 @@ fn fill_by(numbers: &mut [u32], file: &[u8], loaded: LoadedText) -> Result<(), E
         return Err(ElfError::BufferShort);
     }
     let elf = Elf64 { file, layout };
-    mark_all(numbers, &Text { elf, loaded });
+    mark_all(&mut numbers[..file.len()], &Text { elf, loaded });
     Ok(())
 }
 

@@ -1,5 +1,5 @@
 // A number for each byte of the file: who wrote it.
-ghost use Rattle.std.specs.Prelude.{◌&&◌, ◌+◌, ◌*◌, ◌≤◌, ◌<◌, ◌^◌, length};
+ghost use Rattle.std.specs.Prelude.{◌&&◌, ◌+◌, ◌≤◌, ◌<◌, ◌^◌};
 ghost use Rattle.loader.specs.Deeds.{is_in};
 ghost use Rattle.writers.specs.Named.{is_named, is_call, immediate_of};
 ghost use Rattle.writers.specs.Whole.{Marks, OnlyZeros, HoldsCalls, HoldsAll};
@@ -9,45 +9,43 @@ use crate::naming::{Named, named_next, relocation_count};
 use crate::text::Text;
 use elf_parser::Elf64;
 
-// `code` at a place below `len`.
-fn mark_one(numbers: &mut [u32], len: usize, at: usize, code: u32)
-    requires { len ≤ length numbers.old }
-    ensures { Marks (is_in at 1) code len numbers }
+// `code` at a place, if there is such a number.
+fn mark_one(numbers: &mut [u32], at: usize, code: u32)
+    ensures { Marks (is_in at 1) code numbers }
 {
-    if at < len {
+    if at < numbers.len() {
         numbers[at] = code;
     }
 }
 
-// `code` at the four places from the `n`th behind `r` on, as far as they are below `len`.
-fn mark_four(numbers: &mut [u32], len: usize, r: u64, n: usize, code: u32)
-    requires { (len ≤ length numbers.old) × (len ≤ 2 ^ 24) × (n ≤ 12) }
-    ensures { Marks (is_in (r + n) 4) code len numbers }
+// `code` at the four places from the `n`th behind `r` on, as far as there are numbers.
+fn mark_four(numbers: &mut [u32], r: u64, n: usize, code: u32)
+    requires { n ≤ 12 }
+    ensures { Marks (is_in (r + n) 4) code numbers }
 {
-    if r < len as u64 {
+    if r < numbers.len() as u64 {
         let from = r as usize + n;
         for k in 0..4 {
-            mark_one(numbers, len, from + k, code);
+            mark_one(numbers, from + k, code);
         }
     }
 }
 
 // `code` for each byte that a relocation names, if it names any.
 #[tactic(auto, using(crate::proofs::Marking::named_immediate))]
-fn mark_named(numbers: &mut [u32], len: usize, named: Option<Named>, code: u32)
-    requires { (len ≤ length numbers.old) × (len ≤ 2 ^ 24) }
-    ensures { Marks (is_named named) code len numbers }
+fn mark_named(numbers: &mut [u32], named: Option<Named>, code: u32)
+    ensures { Marks (is_named named) code numbers }
 {
     match named {
         None => {}
-        Some(Named::Immediate(r)) => mark_four(numbers, len, r, 4, code),
+        Some(Named::Immediate(r)) => mark_four(numbers, r, 4, code),
         Some(Named::Halves(r)) => {
-            mark_four(numbers, len, r, 4, code);
-            mark_four(numbers, len, r, 12, code);
+            mark_four(numbers, r, 4, code);
+            mark_four(numbers, r, 12, code);
         }
         Some(Named::Word(r)) => {
-            mark_four(numbers, len, r, 0, code);
-            mark_four(numbers, len, r, 4, code);
+            mark_four(numbers, r, 0, code);
+            mark_four(numbers, r, 4, code);
         }
     }
 }
@@ -55,23 +53,17 @@ fn mark_named(numbers: &mut [u32], len: usize, named: Option<Named>, code: u32)
 // Slot number `i`, for the bytes of its immediate, if it is a local call.
 #[tactic(auto, using(crate::proofs::Marking::marked_if))]
 fn mark_call(numbers: &mut [u32], text: &Text<'_>, i: usize)
-    requires { (length text.now.elf.file.now ≤ length numbers.old) × (i < 2 ^ 24) }
-    ensures { Marks (λ b. is_in (immediate_of text.now.loaded i) 4 b && is_call text.now.elf.file.now text.now.loaded i) (i + 1) (length text.now.elf.file.now) numbers }
+    requires { i < 2 ^ 24 }
+    ensures { Marks (λ b. is_in (immediate_of text.now.loaded i) 4 b && is_call text.now.elf.file.now text.now.loaded i) (i + 1) numbers }
 {
     if is_call(text, i) {
-        mark_four(
-            numbers,
-            text.elf.file.len(),
-            (text.loaded.start + 8 * i) as u64,
-            4,
-            i as u32 + 1,
-        );
+        mark_four(numbers, (text.loaded.start + 8 * i) as u64, 4, i as u32 + 1);
     }
 }
 
 // The calls of all slots, in numbers that are zero.
 fn mark_calls(numbers: &mut [u32], text: &Text<'_>)
-    requires { (length text.now.elf.file.now ≤ length numbers.old) × OnlyZeros numbers.old }
+    requires { OnlyZeros numbers.old }
     ensures { HoldsCalls text.now.elf.file.now text.now.loaded numbers }
 {
     for i in 0..text.loaded.length / 8 {
@@ -81,16 +73,15 @@ fn mark_calls(numbers: &mut [u32], text: &Text<'_>)
 
 // The calls of all slots, and then all relocations in turn, in numbers that are zero.
 pub(crate) fn mark_all(numbers: &mut [u32], text: &Text<'_>)
-    requires { (length text.now.elf.file.now ≤ length numbers.old) × OnlyZeros numbers.old }
+    requires { OnlyZeros numbers.old }
     ensures { HoldsAll text.now.elf.file.now text.now.elf.layout text.now.loaded numbers }
 {
     mark_calls(numbers, text);
-    let len = text.elf.file.len();
     let count = relocation_count(text.elf.layout);
     let mut header = None;
     for i in 0..count {
         let next = named_next(text, header, i);
         header = next.header;
-        mark_named(numbers, len, next.named, 0x8000_0000 + i);
+        mark_named(numbers, next.named, 0x8000_0000 + i);
     }
 }

@@ -7,7 +7,7 @@ use Rattle.std.specs.Prelude.{Ok, Err}
 use Rattle.std.proofs.lemmas.Result.{err_from_is_err_and}
 use Rattle.writers.specs.Asked.{text_of}
 use lib.Dec.{ltb}
-use Rattle.writers.proofs.Marking.{only_zero}
+use Rattle.writers.proofs.Marking.{only_zero, zeros_front, joined_long, joined_at}
 use Rattle.writers.proofs.Telling.{short_filled, short_tells, whole_filled, whole_tells}
 use Rattle.writers.proofs.fill_by.Goals as goal
 
@@ -37,6 +37,9 @@ returns c =
     let e : text_of c.args.file.now c.args.loaded ≡ Ok l = sym c.layout_of.ensures ∙ c.in_ok-layout.was in
     record {
       answers = rw e (whole_filled c.args.file.now c.args.loaded (length c.args.numbers.now) l c.if-numbers-file.false);
-      length_as = c.mark_all.ensures.length_as;
-      tells = λ b. rw e (c.mark_all.ensures.at b ∙ whole_tells c.args.file.now c.args.loaded (length c.args.numbers.now) l c.if-numbers-file.false b);
+      length_as = joined_long _ _ _ _ c.if-numbers-file.false c.requires c.mark_all.ensures;
+      tells = λ b. rw e (joined_at _ _ _ _ c.if-numbers-file.false c.requires c.mark_all.ensures b ∙ whole_tells c.args.file.now c.args.loaded (length c.args.numbers.now) l c.if-numbers-file.false b);
     }
+
+pub mark_all-requires : goal.mark_all-requires
+mark_all-requires c = zeros_front _ _ c.requires

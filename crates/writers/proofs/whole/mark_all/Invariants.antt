@@ -4,7 +4,6 @@
 use Prim.Native.Nat.{ℕ}
 use mathlib.Core.Path.{◌≡◌}
 use mathlib.Core.List.{List}
-use lib.ListN.{length}
 use Rattle.loader.specs.Relocations.{used_before}
 use Rattle.writers.specs.declared.Writer.{Writer}
 use Rattle.writers.specs.declared.Writer.TheVariants.{Relocation}
@@ -20,4 +19,4 @@ up_to file l t n b = last_of Relocation (λ k. names_byte file l t k b) n (call_
 
 abbrev pub invariant-loop-i : goal.invariant-loop-i
 invariant-loop-i l =
-    (l.header ≡ used_before l.text.elf.file.now l.text.elf.layout l.text.loaded.version2 l.i) × Holds (up_to l.text.elf.file.now l.text.elf.layout l.text.loaded l.i) (length l.text.elf.file.now) l.initial.numbers l.numbers
+    (l.header ≡ used_before l.text.elf.file.now l.text.elf.layout l.text.loaded.version2 l.i) × Holds (up_to l.text.elf.file.now l.text.elf.layout l.text.loaded l.i) l.initial.numbers l.numbers

@@ -6,4 +6,4 @@ use Rattle.writers.specs.Whole.{Marked}
 use Rattle.writers.proofs.whole.mark_four.Given as goal
 
 abbrev pub invariant-loop-k : goal.invariant-loop-k
-invariant-loop-k l = Marked (is_in (l.r + l.n) l.k) l.code l.len l.initial.numbers l.numbers
+invariant-loop-k l = Marked (is_in (l.r + l.n) l.k) l.code l.initial.numbers l.numbers
