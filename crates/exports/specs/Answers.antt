@@ -79,9 +79,13 @@ abbrev pub parse_answer : Result Layout ElfParserError → Answer
 parse_answer (Ok l) = laid_out l
 parse_answer (Err e) = refused e
 
--- a place in the file: its start and its length
+-- a place: its start and its length
+abbrev pub place_words : Place → Answer
+place_words p = accepted (p.start ∷ p.length ∷ [])
+
+-- a place in the file
 abbrev pub place_answer : Result Place ElfParserError → Answer
-place_answer (Ok p) = accepted (p.start ∷ p.length ∷ [])
+place_answer (Ok p) = place_words p
 place_answer (Err e) = refused e
 
 -- a table: its offset and its number of entries
@@ -168,9 +172,9 @@ pub record GivesLoad (file builtins : Shared) (settings : ℕ) (image ro keys in
       Loads file builtins (config_of settings) image ro before (table_after keys indices kinds starts lengths) (answer_of (load_of_lent file builtins (config_of settings) image ro before))
   pub gives : Gives (load_answer (answer_of (load_of_lent file builtins (config_of settings) image ro (table_before keys indices kinds starts lengths)))) answer r
 
--- the text's place: its start and its length
+-- the text's place
 abbrev pub text_answer : Result Place ElfError → Answer
-text_answer (Ok p) = accepted (p.start ∷ p.length ∷ [])
+text_answer (Ok p) = place_words p
 text_answer (Err e) = reported (load.report_of e)
 
 -- ---- what private contracts cite

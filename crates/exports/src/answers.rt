@@ -1,6 +1,6 @@
 // What the exported functions answer, and how it is written into a lent slice.
-ghost use Rattle.std.specs.Prelude.{◌≡◌, ◌∷◌, ◌++◌, ◌≤◌, length, get_or, drop};
-ghost use Rattle.exports.specs.Answers.{written, Gives, answer_with, reported, refused, laid_out, parse_answer, place_answer, table_answer, symbol_answer, row_answer, word_or_none, nine_words};
+ghost use Rattle.std.specs.Prelude.{MatchResult, ◌≡◌, ◌∷◌, ◌++◌, ◌≤◌, length, get_or, drop};
+ghost use Rattle.exports.specs.Answers.{written, Gives, answer_with, reported, laid_out, parse_answer, place_words, place_answer, table_answer, symbol_answer, row_answer, word_or_none, nine_words};
 
 use elf_parser::{ElfParserError, Entries, Layout, Place, Report};
 use hash_table::BadHashTable;
@@ -46,10 +46,19 @@ pub(crate) fn reported(r: Report) -> Answer
     answer_with(r.number, &[r.value, r.start, r.length])
 }
 
-pub(crate) fn refused(e: ElfParserError) -> Answer
-    ensures { result ≡ refused e }
+// What comes of a question: its answer, or its refusal in numbers.
+#[inline(always)]
+pub(crate) fn answered<T, E: Into<Report>, F: FnOnce(T) -> Answer>(
+    asked: Result<T, E>,
+    tell: F,
+) -> Answer
+    requires { F.IsAlwaysCallable tell }
+    ensures { MatchResult asked (λ x. F.post tell x result) (λ e. (r : Report) × E.converts e r × result ≡ reported r) }
 {
-    reported(Report::from(e))
+    match asked {
+        Ok(x) => tell(x),
+        Err(e) => reported(e.into()),
+    }
 }
 
 fn laid_out(l: Layout) -> Answer
@@ -86,28 +95,26 @@ fn laid_out(l: Layout) -> Answer
 pub(crate) fn parse_answer(parsed: Result<Layout, ElfParserError>) -> Answer
     ensures { result ≡ parse_answer parsed }
 {
-    match parsed {
-        Ok(layout) => laid_out(layout),
-        Err(e) => refused(e),
-    }
+    answered(parsed, laid_out)
+}
+
+// The words of a place: its start and its length.
+pub(crate) fn place_words(p: Place) -> Answer
+    ensures { result ≡ place_words p }
+{
+    answer_with(0, &[0, 0, 0, p.start as u64, p.length as u64])
 }
 
 pub(crate) fn place_answer(place: Result<Place, ElfParserError>) -> Answer
     ensures { result ≡ place_answer place }
 {
-    match place {
-        Ok(p) => answer_with(0, &[0, 0, 0, p.start as u64, p.length as u64]),
-        Err(e) => refused(e),
-    }
+    answered(place, place_words)
 }
 
 pub(crate) fn table_answer(table: Result<Entries, ElfParserError>) -> Answer
     ensures { result ≡ table_answer table }
 {
-    match table {
-        Ok(t) => answer_with(0, &[0, 0, 0, t.offset, t.count]),
-        Err(e) => refused(e),
-    }
+    answered(table, |t| answer_with(0, &[0, 0, 0, t.offset, t.count]))
 }
 
 pub(crate) fn symbol_answer(found: Result<Option<u32>, BadHashTable>) -> Answer

@@ -16,7 +16,7 @@ ghost use Rattle.exports.specs.Wrote.{who_wrote_answer, GivesNumbers, GivesLoadW
 ghost use Rattle.exports.specs.Names.{Named, refusal_name};
 
 use answers::{
-    give, give_row, parse_answer, place_answer, refused, symbol_answer, table_answer, word_or_none,
+    answered, give, give_row, parse_answer, place_answer, symbol_answer, table_answer, word_or_none,
 };
 use ebpf::hash_symbol_name;
 use elf_parser::{Elf64, parse};
@@ -100,13 +100,10 @@ pub fn sbpf_symbol_table(file: &[u8], answer: &mut [u64]) -> u32
 pub fn sbpf_find_symbol(file: &[u8], name: &[u8], answer: &mut [u64]) -> u32
     ensures { GivesAsked file (λ f l. symbol_answer (find_symbol f l name.now)) answer result }
 {
-    match parse(file) {
-        Ok(layout) => give(
-            answer,
-            symbol_answer(find_symbol(&Elf64 { file, layout }, name)),
-        ),
-        Err(e) => give(answer, refused(e)),
-    }
+    let found = answered(parse(file), |layout| {
+        symbol_answer(find_symbol(&Elf64 { file, layout }, name))
+    });
+    give(answer, found)
 }
 
 // The first used row with the key, whatever the five slices hold; at most the rows lent count.

@@ -2,8 +2,8 @@
 ghost use Rattle.std.specs.Prelude.{◌≡◌};
 ghost use Rattle.exports.specs.Answers.{config_of, loaded_with, load_answer, text_answer};
 
-use crate::answers::{Answer, answer_with, reported};
-use elf_parser::{Place, Report};
+use crate::answers::{Answer, answer_with, answered, place_words};
+use elf_parser::Place;
 use loader::{Accepted, Config, ElfError};
 
 // The settings of a load by their bits.
@@ -48,17 +48,11 @@ pub(crate) fn loaded_with(number: u32, a: Accepted, last: u64, behind: u64) -> A
 pub(crate) fn load_answer(a: Result<Accepted, ElfError>) -> Answer
     ensures { result ≡ load_answer a }
 {
-    match a {
-        Ok(a) => loaded_with(0, a, 0, 0),
-        Err(e) => reported(Report::from(e)),
-    }
+    answered(a, |a| loaded_with(0, a, 0, 0))
 }
 
 pub(crate) fn text_answer(p: Result<Place, ElfError>) -> Answer
     ensures { result ≡ text_answer p }
 {
-    match p {
-        Ok(place) => answer_with(0, &[0, 0, 0, place.start as u64, place.length as u64]),
-        Err(e) => reported(Report::from(e)),
-    }
+    answered(p, place_words)
 }

@@ -4,8 +4,9 @@ ghost use Rattle.exports.specs.Answers.{written};
 ghost use Rattle.exports.specs.Names.{Named, refusal_name};
 
 // Fills a slice: the bytes, as many as there is room for, and zeros behind them.
-// Kept: apart from `fill` of answers.rt, since at a type parameter std's `fill` owes that a clone can't fail and
-// is the value.
+// Kept: apart from `fill` of answers.rt. One `fill` for any `T: Copy` was tried: std's `fill` then asks of `T` that
+// a clone can't fail, and tells of clones and not of the value; and `written`, which every answer is stated by,
+// would take a type and its zero wherever it stands, to save these three lines.
 fn fill_bytes(to: &mut [u8], bytes: &[u8])
     ensures { to.new ≡ written (length to.old) bytes.now }
 {

@@ -2,7 +2,7 @@
 ghost use Rattle.std.specs.Prelude.{◌≡◌};
 ghost use Rattle.exports.specs.Wrote.{kind_of, number_in, wrote_answer, refusal_in, refused_in, text_told, who_wrote_answer, filled_answer, Numbers, accepted_wrote, load_wrote_answer};
 
-use crate::answers::{Answer, answer_with, reported, word_in};
+use crate::answers::{Answer, answer_with, answered, reported, word_in};
 use crate::loading::loaded_with;
 use elf_parser::{ElfParserError, Report};
 use loader::{Accepted, ElfError, clear_words};
@@ -31,13 +31,10 @@ impl From<Writer> for WriterWords {
 fn wrote_answer(wrote: Result<Writer, ElfError>) -> Answer
     ensures { result ≡ wrote_answer wrote }
 {
-    match wrote {
-        Ok(w) => {
-            let WriterWords { kind, number } = WriterWords::from(w);
-            answer_with(0, &[0, 0, 0, kind, number])
-        }
-        Err(e) => reported(Report::from(e)),
-    }
+    answered(wrote, |w| {
+        let WriterWords { kind, number } = WriterWords::from(w);
+        answer_with(0, &[0, 0, 0, kind, number])
+    })
 }
 
 // The number of the refusal that a load's answer is, or 0.
@@ -80,10 +77,7 @@ pub(crate) fn who_wrote_answer(file: &[u8], loaded: &[u64], offset: u64) -> Answ
 fn filled_answer(filled: Result<(), ElfError>) -> Answer
     ensures { result ≡ filled_answer filled }
 {
-    match filled {
-        Ok(()) => answer_with(0, &[0]),
-        Err(e) => reported(Report::from(e)),
-    }
+    answered(filled, |_| answer_with(0, &[0]))
 }
 
 // Who wrote each byte, by the words of a load's answer.
@@ -118,8 +112,5 @@ pub(crate) fn load_wrote_answer(
 ) -> Answer
     ensures { result ≡ load_wrote_answer load wrote }
 {
-    match load {
-        Ok(a) => accepted_wrote(a, wrote),
-        Err(e) => reported(Report::from(e)),
-    }
+    answered(load, |a| accepted_wrote(a, wrote))
 }

@@ -1,6 +1,8 @@
 #![tactic(auto)]
 // The functions of `exports` under their names for C, each with the contract that it has there. A slice is a
 // pointer and a length.
+// Kept: one function for each name that C calls, alike as they are; each has the parameters that C gives, the columns
+// one by one.
 ghost use Rattle.std.specs.Prelude.{◌≡◌};
 ghost use Rattle.ebpf.specs.Murmur3.{murmur3};
 ghost use Rattle.elf_parser.specs.Names.{section_name, symbol_name, dynamic_symbol_name};

@@ -1,11 +1,27 @@
 #![tactic(auto)]
 // Reading until a buffer is full, and record by record.
-ghost use Rattle.std.specs.Prelude.{◌<◌, ◌≤◌, length, take, IfOk};
+ghost use Rattle.std.specs.Prelude.{◌≡◌, ◌<◌, ◌≤◌, length, take, IfOk};
 ghost use Rattle.std.specs.Io.KnownBytes.{Consumes, IsAtEnd};
 ghost use Rattle.input.specs.Repeats.{Repeats};
+ghost use Rattle.input.specs.declared.RecordError.TheVariants.{Io};
 
 use std::io;
 use std::io::Read;
+
+// Why a record of the input has no line: what is read or written failed, or the record is no right one.
+#[derive(Debug)]
+pub enum RecordError {
+    Io(io::Error),
+    Bad,
+}
+
+impl From<io::Error> for RecordError {
+    ghost from_gives = { λ e r. r ≡ Io e };
+
+    fn from(e: io::Error) -> RecordError {
+        RecordError::Io(e)
+    }
+}
 
 // Reads until the buffer is full or the input ends, and answers how many bytes came. A read that a
 // signal interrupts is an error like any other.

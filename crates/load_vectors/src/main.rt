@@ -4,7 +4,7 @@
 // README.md says how. What a case is lent are parts of arrays of fixed lengths, filled with
 // anything but zeros, so that what a load should clear and does not changes a hash of the line.
 use ebpf::little_endian::read;
-use input::{read_full, until_none};
+use input::{RecordError, read_full, until_none};
 use lines::print_line;
 use loader::{Config, load};
 use program::FunctionRegistry;
@@ -41,24 +41,17 @@ struct Sizes {
     lengths: usize,
 }
 
-// Kept: three outcomes, since the end of the input is neither a case nor a bad one.
-#[derive(Clone, Copy, PartialEq, Eq, Debug)]
-enum Head {
-    Case(Sizes),
-    Cut,
-    End,
-}
-
-fn read_head(input: &mut impl Read) -> io::Result<Head> {
+// The numbers of the next case, or none where the input ends.
+fn read_head(input: &mut impl Read) -> Result<Option<Sizes>, RecordError> {
     let mut bytes = [0u8; HEAD_SIZE];
     let n = read_full(input, &mut bytes)?;
     if n == 0 {
-        return Ok(Head::End);
+        return Ok(None);
     }
     if n < HEAD_SIZE {
-        return Ok(Head::Cut);
+        return Err(RecordError::Bad);
     }
-    Ok(Head::Case(Sizes {
+    Ok(Some(Sizes {
         file: read::<u32>(&bytes, 0) as usize,
         settings: read(&bytes, 4),
         builtins: read::<u32>(&bytes, 8) as usize,
@@ -83,10 +76,12 @@ fn config_of(settings: u32) -> Config {
     }
 }
 
-// Reads until the bytes are full, and answers whether they are.
-fn read_whole(input: &mut impl Read, bytes: &mut [u8]) -> io::Result<bool> {
-    let n = read_full(input, bytes)?;
-    Ok(n == bytes.len())
+// Reads until the bytes are full.
+fn read_whole(input: &mut impl Read, bytes: &mut [u8]) -> Result<(), RecordError> {
+    if read_full(input, bytes)? < bytes.len() {
+        return Err(RecordError::Bad);
+    }
+    Ok(())
 }
 
 // The numbers that the bytes hold.
@@ -111,12 +106,12 @@ fn replay(
 }
 
 // Lends what the case asks for, where it asks for no more than there is.
-fn lend(rt: &impl Print, c: Sizes, file: &[u8], builtins: &[u32]) -> io::Result<bool> {
+fn lend(rt: &impl Print, c: Sizes, file: &[u8], builtins: &[u32]) -> Result<(), RecordError> {
     if LENT < c.image || LENT < c.ro_section {
-        return Ok(false);
+        return Err(RecordError::Bad);
     }
     if ROWS < c.keys || ROWS < c.indices || ROWS < c.kinds || ROWS < c.starts || ROWS < c.lengths {
-        return Ok(false);
+        return Err(RecordError::Bad);
     }
     let mut image = [0xa1u8; LENT];
     let mut ro_section = [0xa2u8; LENT];
@@ -142,7 +137,7 @@ fn lend(rt: &impl Print, c: Sizes, file: &[u8], builtins: &[u32]) -> io::Result<
         &mut ro_section[..c.ro_section],
         &mut registry,
     )?;
-    Ok(true)
+    Ok(())
 }
 
 // Reads the built-ins and the file behind a case's numbers, and loads it.
@@ -153,39 +148,43 @@ fn read_case(
     file: &mut [u8],
     builtins: &mut [u32],
     bytes: &mut [u8],
-) -> io::Result<bool> {
+) -> Result<(), RecordError> {
     if file.len() < c.file || builtins.len() < c.builtins || bytes.len() / 4 < c.builtins {
-        return Ok(false);
+        return Err(RecordError::Bad);
     }
     let size = 4 * c.builtins;
-    if !read_whole(input, &mut bytes[..size])? {
-        return Ok(false);
-    }
-    if !read_whole(input, &mut file[..c.file])? {
-        return Ok(false);
-    }
+    read_whole(input, &mut bytes[..size])?;
+    read_whole(input, &mut file[..c.file])?;
     fill_keys(builtins, bytes);
     lend(rt, c, &file[..c.file], &builtins[..c.builtins])
 }
 
-// One case, and whether there was a whole one.
-fn next_case(rt: &impl Print, input: &mut impl Read) -> io::Result<bool> {
+// One case, and whether there was one.
+fn next_case(rt: &impl Print, input: &mut impl Read) -> Result<bool, RecordError> {
     let mut file = [0u8; LENT];
     let mut builtins = [0u32; BUILTINS];
     let mut bytes = [0u8; BUILTINS_SIZE];
-    let whole = match read_head(input)? {
-        Head::Case(c) => read_case(rt, input, c, &mut file, &mut builtins, &mut bytes)?,
-        Head::Cut => false,
-        Head::End => return Ok(false),
+    let Some(sizes) = read_head(input)? else {
+        return Ok(false);
     };
-    if !whole {
-        println!(rt; "bad case")?;
+    read_case(rt, input, sizes, &mut file, &mut builtins, &mut bytes)?;
+    Ok(true)
+}
+
+// One case, and whether there was a whole one.
+fn next_line(rt: &impl Print, input: &mut impl Read) -> io::Result<bool> {
+    match next_case(rt, input) {
+        Ok(more) => Ok(more),
+        Err(RecordError::Io(e)) => Err(e),
+        Err(RecordError::Bad) => {
+            println!(rt; "bad case")?;
+            Ok(false)
+        }
     }
-    Ok(whole)
 }
 
 // Kept: each program has a main of its own, with its bound and its record.
 fn main(rt: HostRuntime) -> io::Result<()> {
     let mut input = rt.stdin();
-    until_none(MOST_CASES, || next_case(&rt, &mut input))
+    until_none(MOST_CASES, || next_line(&rt, &mut input))
 }

@@ -12,7 +12,7 @@ use exports::{
     sbpf_dynamic_symbol_name, sbpf_find_symbol, sbpf_load, sbpf_load_who_wrote, sbpf_section_name,
     sbpf_section_place, sbpf_symbol_name, sbpf_who_wrote, sbpf_who_wrote_all,
 };
-use input::{read_full, until_none};
+use input::{RecordError, read_full, until_none};
 use lines::{FILE, ROWS, print_answer, print_load, print_writer};
 use program::FunctionTable;
 use std::io;
@@ -53,9 +53,9 @@ fn record_of(bytes: &[u8; NUMBERS]) -> Record {
 }
 
 // Loads, and prints what was answered. The shortest column says how many rows there are.
-fn load_and_print(rt: &impl Print, file: &[u8], record: Record) -> io::Result<bool> {
+fn load_and_print(rt: &impl Print, file: &[u8], record: Record) -> Result<(), RecordError> {
     if 1 < record.builtins || ROWS < record.rows {
-        return Ok(false);
+        return Err(RecordError::Bad);
     }
     let mut image = [0xa1u8; FILE];
     let mut ro = [0xa2u8; FILE];
@@ -88,7 +88,7 @@ fn load_and_print(rt: &impl Print, file: &[u8], record: Record) -> io::Result<bo
         used: answer[6] as usize,
     };
     print_load(rt, number, &answer, file, &image, table)?;
-    Ok(true)
+    Ok(())
 }
 
 // Asks who wrote a byte by the words of a load's answer, alone and among all bytes, and prints that
@@ -104,9 +104,9 @@ fn print_wrote(rt: &impl Print, file: &[u8], loaded: &[u64; 24], offset: u64) ->
 }
 
 // Loads, with the question who wrote a byte.
-fn load_and_print_wrote(rt: &impl Print, file: &[u8], record: Record) -> io::Result<bool> {
+fn load_and_print_wrote(rt: &impl Print, file: &[u8], record: Record) -> Result<(), RecordError> {
     if 1 < record.builtins || ROWS < record.rows {
-        return Ok(false);
+        return Err(RecordError::Bad);
     }
     let mut image = [0xa1u8; FILE];
     let mut ro = [0xa2u8; FILE];
@@ -132,11 +132,11 @@ fn load_and_print_wrote(rt: &impl Print, file: &[u8], record: Record) -> io::Res
         &mut answer,
     );
     print_wrote(rt, file, &answer, record.number as u64)?;
-    Ok(true)
+    Ok(())
 }
 
 // Asks the file for a place, and prints what was answered.
-fn ask_and_print<F: FnOnce(&mut [u64]) -> u32>(rt: &impl Print, ask: F) -> io::Result<bool>
+fn ask_and_print<F: FnOnce(&mut [u64]) -> u32>(rt: &impl Print, ask: F) -> Result<(), RecordError>
     requires { F.IsAlwaysCallable ask }
 {
     let mut answer = [0xa8a8_a8a8u64; 24];
@@ -147,7 +147,7 @@ fn ask_and_print<F: FnOnce(&mut [u64]) -> u32>(rt: &impl Print, ask: F) -> io::R
         &answer,
         || println!(rt; "{} bytes at {}", answer[5], answer[4]),
     )?;
-    Ok(true)
+    Ok(())
 }
 
 // Reads the name behind the file, asks for its symbol, and prints what was answered.
@@ -157,9 +157,9 @@ fn find_and_print(
     file: &[u8],
     name: &mut [u8],
     length: usize,
-) -> io::Result<bool> {
+) -> Result<(), RecordError> {
     if name.len() < length {
-        return Ok(false);
+        return Err(RecordError::Bad);
     }
     read_full(input, &mut name[..length])?;
     let mut answer = [0xa8a8_a8a8u64; 24];
@@ -170,19 +170,19 @@ fn find_and_print(
         &answer,
         || println!(rt; "symbol {} {}", answer[4], answer[5]),
     )?;
-    Ok(true)
+    Ok(())
 }
 
-// Reads the file behind a record's numbers, and loads or asks it; whether the record was a right one.
+// Reads the file behind a record's numbers, and loads or asks it.
 fn run(
     rt: &impl Print,
     input: &mut impl Read,
     record: Record,
     file: &mut [u8],
     name: &mut [u8],
-) -> io::Result<bool> {
+) -> Result<(), RecordError> {
     if file.len() < record.length {
-        return Ok(false);
+        return Err(RecordError::Bad);
     }
     read_full(input, &mut file[..record.length])?;
     let file = &file[..record.length];
@@ -195,12 +195,12 @@ fn run(
         4 => ask_and_print(rt, |answer| sbpf_dynamic_symbol_name(file, number, answer)),
         5 => find_and_print(rt, input, file, name, number as usize),
         6 => load_and_print_wrote(rt, file, record),
-        _ => Ok(false),
+        _ => Err(RecordError::Bad),
     }
 }
 
-// One record, and whether there was a right one. What is cut off reads as zeros.
-fn next_record(rt: &impl Print, input: &mut impl Read) -> io::Result<bool> {
+// One record, and whether there was one. What is cut off reads as zeros.
+fn next_record(rt: &impl Print, input: &mut impl Read) -> Result<bool, RecordError> {
     let mut title = [0u8; TITLE];
     let mut numbers = [0u8; NUMBERS];
     let mut file = [0u8; FILE];
@@ -210,15 +210,24 @@ fn next_record(rt: &impl Print, input: &mut impl Read) -> io::Result<bool> {
     }
     rt.write_all(&title)?;
     read_full(input, &mut numbers)?;
-    let right = run(rt, input, record_of(&numbers), &mut file, &mut name)?;
-    if !right {
-        println!(rt; "bad record")?;
+    run(rt, input, record_of(&numbers), &mut file, &mut name)?;
+    Ok(true)
+}
+
+// One record, and whether there was a right one.
+fn next_line(rt: &impl Print, input: &mut impl Read) -> io::Result<bool> {
+    match next_record(rt, input) {
+        Ok(more) => Ok(more),
+        Err(RecordError::Io(e)) => Err(e),
+        Err(RecordError::Bad) => {
+            println!(rt; "bad record")?;
+            Ok(false)
+        }
     }
-    Ok(right)
 }
 
 // Kept: each program has a main of its own, with its bound and its record.
 fn main(rt: HostRuntime) -> io::Result<()> {
     let mut input = rt.stdin();
-    until_none(MOST, || next_record(&rt, &mut input))
+    until_none(MOST, || next_line(&rt, &mut input))
 }
