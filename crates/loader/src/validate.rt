@@ -3,7 +3,7 @@
 ghost use Rattle.std.specs.Prelude.{◌≡◌};
 ghost use Rattle.loader.specs.Validate.{size_check, ascends, header_check, writable_error, sections_check, text_check, job_of, file_check, validated, prepared};
 
-use crate::addresses::{machine_addr, pick};
+use crate::addresses::machine_addr;
 use crate::error::ElfError;
 use crate::overview::look_over;
 use crate::read_only::{Placing, place_gathered};
@@ -188,8 +188,8 @@ fn job_of(
         e_entry,
         sh_addr: h.sh_addr,
         sh_size: h.sh_size,
-        start: pick(nobits, 0, h.sh_offset) as usize,
-        length: pick(nobits, 0, h.sh_size) as usize,
+        start: if nobits { 0 } else { h.sh_offset as usize },
+        length: if nobits { 0 } else { h.sh_size as usize },
         addr,
         placing,
     }
