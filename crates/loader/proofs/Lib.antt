@@ -1,4 +1,5 @@
 pub mod Stored
+pub mod Bits
 pub mod Going
 pub mod Entering
 pub mod Performing
