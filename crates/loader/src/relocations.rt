@@ -18,11 +18,12 @@ use elf_parser::types::{Elf64Rel, Elf64Rela, Elf64Sym};
 use elf_parser::{Elf64, Place, bytes_at, past};
 use program::{FunctionName, Row, SymbolHashCollision, is_builtin};
 
-const R_BPF_64_64: u32 = 1;
+// The types of relocations.
+pub const R_BPF_64_64: u32 = 1;
 
-const R_BPF_64_RELATIVE: u32 = 8;
+pub const R_BPF_64_RELATIVE: u32 = 8;
 
-const R_BPF_64_32: u32 = 10;
+pub const R_BPF_64_32: u32 = 10;
 
 // A relocation of either kind, with the addend that it brings, if it is of the kind that does: its bits as
 // an unsigned number.
