@@ -1,4 +1,6 @@
 pub mod Stored
+pub mod Bits
+pub mod Mapped
 pub mod Going
 pub mod Entering
 pub mod Performing

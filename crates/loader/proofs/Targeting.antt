@@ -5,7 +5,7 @@ use mathlib.Core.List.{List}
 use Prim.Native.Nat.{ℕ, zero, suc, ◌+◌, ◌%◌, ◌≤◌, ◌<◌}
 use native.Mathlib.Decide.{ℕ_discrete}
 use native.Mathlib.Omega.{arith}
-use lib.ListN.{length, get_or, set, replicate, length-set, length-replicate}
+use lib.ListN.{length, get_or, set, replicate}
 use lib.Seq.{get_or-set_same, get_or-set_other}
 use Rattle.program.specs.declared.RegisterError.TheVariants.{Collision, Full}
 use Rattle.program.specs.declared.Registered.TheVariants.{Inserted, Repeat}
@@ -156,7 +156,7 @@ module _ (builtins : List ℕ) (j : Job) where
       go (no other) = known_stays cap row rs v (h k v (sym (get_or-set_other seen (index % 1024) k (index + 1) 0 other) ∙ is))
 
   -- a target that was registered is known, and what was known still is
-  module _ (index : ℕ) (seen : List ℕ) (t u : Slices) (used moves : ℕ) (held : CallsHeld builtins j seen t used) where
+  module _ (index : ℕ) (seen : List ℕ) (t u : Slices) (used moves : ℕ) (held : CallsHeld builtins j seen t used) (long : length seen ≡ 1024) where
     rows_known : (used' moves' : ℕ) → TargetsIn (row_for builtins j OfIndex index) t u used moves (holding used' moves') → Seen builtins j (rows_of u used') (set seen (index % 1024) (index + 1))
     unfolding settle
     rows_known used' moves' did = go (row_for builtins j OfIndex index) refl (did seen).answers
@@ -166,10 +166,10 @@ module _ (builtins : List ℕ) (j : Job) where
             → Seen builtins j (rows_of u used') (set seen (index % 1024) (index + 1))
         by_answer row e (Ok (Inserted n)) is a =
             let rs : rows_of u used' ≡ registered (capacity t) row (rows_of t used) = cc in
-            rw rs (seen_more (capacity t) index row (rows_of t used) seen held.room e (find_registered_same (capacity t) row (rows_of t used) (λ h. zero_one (cc)) (λ h. zero_one (cc))) held.known)
+            rw rs (seen_more (capacity t) index row (rows_of t used) seen (omega (arith, long)) e (find_registered_same (capacity t) row (rows_of t used) (λ h. zero_one (cc)) (λ h. zero_one (cc))) held.known)
         by_answer row e (Ok Repeat) is a =
             let rs : rows_of u used' ≡ registered (capacity t) row (rows_of t used) = cc in
-            rw rs (seen_more (capacity t) index row (rows_of t used) seen held.room e (find_registered_same (capacity t) row (rows_of t used) (λ h. zero_one (cc)) (λ h. zero_one (cc))) held.known)
+            rw rs (seen_more (capacity t) index row (rows_of t used) seen (omega (arith, long)) e (find_registered_same (capacity t) row (rows_of t used) (λ h. zero_one (cc)) (λ h. zero_one (cc))) held.known)
         by_answer row e (Err Collision) is a = absurd (zero_one (cc))
         by_answer row e (Err Full) is a = absurd (zero_one (cc))
 
@@ -178,13 +178,12 @@ module _ (builtins : List ℕ) (j : Job) where
         go (Err taken) e a = absurd (zero_one (cc))
 
     pub held_after : (a : Result Held ElfError) → TargetsIn (row_for builtins j OfIndex index) t u used moves a → StillAlikeIn (target_row j) u a → StillHeldIn builtins j (set seen (index % 1024) (index + 1)) u a
-    held_after (Ok kept) did still = record { room = simp length-set held.room; known = rows_known kept.used kept.moves did; alike = still }
+    held_after (Ok kept) did still = record { known = rows_known kept.used kept.moves did; alike = still }
     held_after (Err r) did still = tt
 
 -- nothing is remembered at the start, and there are no rows
-pub none_held : (builtins : List ℕ) (j : Job) (t : Slices) (n : ℕ) → 1024 ≤ n → CallsHeld builtins j (replicate n 0) t 0
-none_held builtins j t n h = record {
-  room = rw (length-replicate {A = ℕ} n 0) h;
+pub none_held : (builtins : List ℕ) (j : Job) (t : Slices) (n : ℕ) → CallsHeld builtins j (replicate n 0) t 0
+none_held builtins j t n = record {
   known = λ k v e. absurd (zeros n k v e);
   alike = alike_none t (target_row j);
 }

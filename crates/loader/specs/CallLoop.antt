@@ -1,5 +1,5 @@
 -- What a loop over the slots of a text keeps, and what a run of slots leads to.
-use Rattle.std.specs.Prelude.{ℕ, suc, ◌+◌, ◌-◌, ◌*◌, ◌≤◌, ◌<◌, ◌≡◌, List, [], ◌++◌, length, get_or, take, drop, Ok, Err, Result}
+use Rattle.std.specs.Prelude.{ℕ, suc, ◌+◌, ◌-◌, ◌*◌, ◌≤◌, ◌<◌, ◌≡◌, List, [], ◌++◌, get_or, take, drop, Ok, Err, Result}
 use Rattle.program.specs.declared.Row.{Row}
 use Rattle.program.specs.declared.FunctionName.TheVariants.{OfIndex}
 use Rattle.program.specs.HashedLegacy.{LegacyResult, legacy_key, kept_name, row_of}
@@ -38,7 +38,6 @@ Seen builtins j rs seen = (k v : ℕ) → get_or seen k 0 ≡ suc v → Known bu
 
 -- what the loop keeps beside the table: the targets that are remembered, and that no row has a name of its own
 pub record CallsHeld (builtins : List ℕ) (j : Job) (seen : List ℕ) (t : Slices) (used : ℕ) : Type 0 where
-  pub room : 1024 ≤ length seen
   pub known : Seen builtins j (rows_of t used) seen
   pub alike : Alike t used (target_row j)
 

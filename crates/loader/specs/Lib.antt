@@ -7,6 +7,7 @@ pub mod Placed
 pub mod GetBytes
 pub mod PlacedExamples
 pub mod Validate
+pub mod Settings
 pub mod Functions
 pub mod Bytes
 pub mod Trace

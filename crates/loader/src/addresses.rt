@@ -1,21 +1,8 @@
-// A choice, and addresses in the machine.
+// Addresses in the machine.
 ghost use Rattle.std.specs.Prelude.{◌≡◌, ◌&&◌, leb, ltb};
-ghost use Rattle.ebpf.specs.Choice.{◌if◌else◌};
 ghost use Rattle.loader.specs.Addresses.{machine_addr, sum_up_to};
 
 use ebpf::MM_PROGRAM_START;
-
-// `x` where `b` holds, else `y`.
-// Kept: at an `if` in its place the branches join, and a later call's proof no longer knows the value.
-#[tactic(auto, using(ebpf::specs::Choice::choices))]
-pub(crate) fn pick<T: Copy>(b: bool, x: T, y: T) -> T
-    ensures { result ≡ (x if b else y) }
-{
-    if b {
-        return x;
-    }
-    y
-}
 
 // Where a section of that sh_addr stands in the machine.
 #[tactic(auto, using(ebpf::specs::Choice::choices), unfolding(crate::specs::Addresses::machine_addr))]

@@ -2,7 +2,6 @@
 ghost use Rattle.std.specs.Prelude.{◌≡◌, ◌-◌, ◌≤◌, ◌^◌};
 ghost use Rattle.loader.specs.Load.{accepted_as, answer_by};
 
-use crate::addresses::pick;
 use crate::deeds::Outputs;
 use crate::error::ElfError;
 use crate::read_only::Placing;
@@ -28,6 +27,7 @@ pub struct Accepted {
 }
 
 // The answer of an accepted load, with the place of the read-only bytes.
+#[tactic(auto, using(ebpf::specs::Choice::choices))]
 fn accepted_as(
     job: Job,
     copied: bool,
@@ -41,7 +41,7 @@ fn accepted_as(
 {
     let entry = job.e_entry.saturating_sub(job.sh_addr) / 8;
     Accepted {
-        version: pick(job.version2, 2, 1),
+        version: if job.version2 { 2 } else { 1 },
         entry: entry as u32,
         used: out.registry.used,
         moves: out.moves,

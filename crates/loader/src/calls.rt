@@ -116,16 +116,16 @@ const COPIED: usize = 512;
 
 // Whether a call's target is remembered as one that was registered. Most calls repeat a target, and
 // then the table need not be searched.
-fn is_seen(seen: &[u32], index: u32) -> bool
-    requires { (1024 ≤ length seen.now) × (index < 2 ^ 24) }
+fn is_seen(seen: &[u32; SEEN], index: u32) -> bool
+    requires { index < 2 ^ 24 }
     ensures { result ≡ eqb (get_or seen.now (index % 1024) 0) (index + 1) }
 {
     let at = index as usize % SEEN;
     seen[at] == index + 1
 }
 
-fn see(seen: &mut [u32], index: u32)
-    requires { (1024 ≤ length seen.old) × (index < 2 ^ 24) }
+fn see(seen: &mut [u32; SEEN], index: u32)
+    requires { index < 2 ^ 24 }
     ensures { seen.new ≡ set seen.old (index % 1024) (index + 1) }
 {
     let at = index as usize % SEEN;
@@ -155,7 +155,7 @@ fn register_target(
 // A slot of the job's text: the key of what it calls is written, and the target registered.
 fn call_step(
     out: &mut Outputs<'_, '_>,
-    seen: &mut [u32],
+    seen: &mut [u32; SEEN],
     inputs: &Inputs<'_>,
     i: usize,
 ) -> Result<(), ElfError>
@@ -185,7 +185,7 @@ fn call_step(
 // refusal.
 fn register_slots(
     out: &mut Outputs<'_, '_>,
-    seen: &mut [u32],
+    seen: &mut [u32; SEEN],
     inputs: &Inputs<'_>,
     from: usize,
     to: usize,

@@ -3,7 +3,6 @@
 ghost use Rattle.std.specs.Prelude.{◌≡◌, length};
 ghost use Rattle.loader.specs.GetBytes.{text_place, ro_place, lent_for, ro_of, text_place_of, LiesIn, part_of, part_for};
 
-use crate::addresses::pick;
 use crate::answer::Accepted;
 use crate::error::ElfError;
 use ebpf::MM_PROGRAM_START;
@@ -81,28 +80,29 @@ pub fn ro_bytes(lent: &[u8], start: u64, n: u64) -> &[u8]
 }
 
 // The read-only bytes of an accepted load, of the lent image or of the lent buffer.
-#[tactic(auto, using(crate::specs::GetBytes::lent_now))]
+#[tactic(auto, using(ebpf::specs::Choice::choices, crate::specs::GetBytes::lent_now))]
 pub fn get_ro_section<'a>(a: Accepted, image: &'a [u8], ro_section: &'a [u8]) -> &'a [u8]
     ensures { result.now ≡ part_for a image ro_section (ro_of a) }
 {
-    let lent = pick(a.ro_copied, ro_section, image);
+    let lent = if a.ro_copied { ro_section } else { image };
     ro_bytes(lent, a.ro_start, a.ro_length)
 }
 
 // Where they stand, by how many bytes are lent for the image and for the buffer.
+#[tactic(auto, using(ebpf::specs::Choice::choices))]
 pub fn get_ro_place(a: Accepted, image: u64, ro_section: u64) -> Result<Place, ElfError>
     ensures { result ≡ ro_of a (lent_for a image ro_section) }
 {
-    let lent = pick(a.ro_copied, ro_section, image);
+    let lent = if a.ro_copied { ro_section } else { image };
     ro_place(lent, a.ro_start, a.ro_length)
 }
 
 // The text's bytes of an accepted load.
-#[tactic(auto, using(crate::specs::GetBytes::lent_now))]
+#[tactic(auto, using(ebpf::specs::Choice::choices, crate::specs::GetBytes::lent_now))]
 pub fn get_text_bytes<'a>(a: Accepted, image: &'a [u8], ro_section: &'a [u8]) -> &'a [u8]
     ensures { result.now ≡ part_for a image ro_section (text_place_of a) }
 {
-    let lent = pick(a.ro_copied, ro_section, image);
+    let lent = if a.ro_copied { ro_section } else { image };
     text_bytes(
         lent,
         a.ro_offset,
@@ -114,10 +114,11 @@ pub fn get_text_bytes<'a>(a: Accepted, image: &'a [u8], ro_section: &'a [u8]) ->
 }
 
 // Where it stands.
+#[tactic(auto, using(ebpf::specs::Choice::choices))]
 pub fn get_text_place(a: Accepted, image: u64, ro_section: u64) -> Result<Place, ElfError>
     ensures { result ≡ text_place_of a (lent_for a image ro_section) }
 {
-    let lent = pick(a.ro_copied, ro_section, image);
+    let lent = if a.ro_copied { ro_section } else { image };
     text_place(
         lent,
         a.ro_offset,

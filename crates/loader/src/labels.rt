@@ -31,10 +31,9 @@ fn label_as(inputs: &Inputs<'_>, part: &[u8], index: u32, place: Place) -> Resul
 fn named_label(inputs: &Inputs<'_>, index: u32, st_name: u32) -> Result<Deed, ElfError>
     ensures { result ≡ named_label inputs.now.file.now inputs.now.builtins.now inputs.now.job index st_name (symbol_name inputs.now.file.now inputs.now.job.layout st_name) }
 {
-    match inputs.elf().symbol_name(st_name) {
-        Ok(place) => label_as(inputs, bytes_at(inputs.file, place), index, place),
-        Err(_) => Err(ElfError::UnknownSymbol { number: st_name }),
-    }
+    let unknown = |_| ElfError::UnknownSymbol { number: st_name };
+    let place = inputs.elf().symbol_name(st_name).map_err(unknown)?;
+    label_as(inputs, bytes_at(inputs.file, place), index, place)
 }
 
 #[tactic(auto, using(ebpf::specs::Choice::choices), unfolding(crate::specs::Labels::label_of))]

@@ -37,7 +37,10 @@ pub use get_bytes::{
     get_ro_place, get_ro_section, get_text_bytes, get_text_place, ro_bytes, ro_place, text_bytes,
     text_place,
 };
-pub use relocations::{Relocation, UsedHeader, is_within, r_place, relocation_at, used_header};
+pub use relocations::{
+    R_BPF_64_32, R_BPF_64_64, R_BPF_64_RELATIVE, Relocation, UsedHeader, is_within, r_place,
+    relocation_at, used_header,
+};
 pub use validate::Config;
 
 // A load that leaves anything where it refuses. The image's front is not cleared, since the file is

@@ -3,7 +3,7 @@ ghost use Rattle.std.specs.Prelude.{◌≡◌, ◌+◌, ◌≤◌, length, drop}
 ghost use Rattle.std.proofs.Math.Seq.{paste};
 ghost use Rattle.loader.specs.ReadOnly.{read_only, gives, invalid_by, end_of, grown, taken, gather_next, nothing, from_start, can_borrow, borrowed, owned, placed, placing_by, copied_to, copy_step, copied_from};
 
-use crate::addresses::{machine_addr, pick};
+use crate::addresses::machine_addr;
 use crate::error::ElfError;
 use crate::sections::section_at;
 use crate::validate::Rules;
@@ -101,8 +101,12 @@ fn grow(version2: bool, index: u64, addr: u64, offset: u64, n: u64, x: Extent) -
         highest: x.highest.max(addr.saturating_add(n)),
         filled: x.filled.saturating_add(n),
         invalid: is_invalid(version2, addr, offset, x),
-        shift: pick(gives, Some(addr.saturating_sub(offset)), x.shift),
-        first: pick(x.many == 0, index, x.first),
+        shift: if gives {
+            Some(addr.saturating_sub(offset))
+        } else {
+            x.shift
+        },
+        first: if x.many == 0 { index } else { x.first },
         last: index,
         many: x.many.saturating_add(1),
     }
@@ -209,7 +213,7 @@ fn borrow_sections(version2: bool, x: Extent) -> Result<Placing, ElfError>
 fn own_sections(len: u64, optimize: bool, x: Extent) -> Result<Placing, ElfError>
     ensures { result ≡ owned len optimize x }
 {
-    let lowest = pick(optimize, x.lowest, 0);
+    let lowest = if optimize { x.lowest } else { 0 };
     let length = x.highest.saturating_sub(lowest);
     if len < length {
         return Err(ElfError::ValueOutOfBounds);

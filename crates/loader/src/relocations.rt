@@ -18,11 +18,12 @@ use elf_parser::types::{Elf64Rel, Elf64Rela, Elf64Sym};
 use elf_parser::{Elf64, Place, bytes_at, past};
 use program::{FunctionName, Row, SymbolHashCollision, is_builtin};
 
-const R_BPF_64_64: u32 = 1;
+// The types of relocations.
+pub const R_BPF_64_64: u32 = 1;
 
-const R_BPF_64_RELATIVE: u32 = 8;
+pub const R_BPF_64_RELATIVE: u32 = 8;
 
-const R_BPF_64_32: u32 = 10;
+pub const R_BPF_64_32: u32 = 10;
 
 // A relocation of either kind, with the addend that it brings, if it is of the kind that does: its bits as
 // an unsigned number.
@@ -112,14 +113,11 @@ pub struct UsedHeader {
 fn header_at(elf: &Elf64<'_>, index: u32) -> Option<UsedHeader>
     ensures { result ≡ header_at elf.now.file.now elf.now.layout index }
 {
-    match elf.program_header(index) {
-        Ok(h) => Some(UsedHeader {
-            p_vaddr: h.p_vaddr,
-            end: h.p_vaddr.saturating_add(h.p_memsz),
-            p_offset: h.p_offset,
-        }),
-        Err(_) => None,
-    }
+    elf.program_header(index).ok().map(|h| UsedHeader {
+        p_vaddr: h.p_vaddr,
+        end: h.p_vaddr.saturating_add(h.p_memsz),
+        p_offset: h.p_offset,
+    })
 }
 
 fn does_contain(used: Option<UsedHeader>, a: u64) -> bool
@@ -261,10 +259,9 @@ fn symbol_address(
         return Err(ElfError::ValueOutOfBounds);
     }
     let addend = addend.unwrap_or(read::<u32>(image, at as usize) as u64);
-    match elf.dynamic_symbol(number) {
-        Ok(y) => Ok(program_address(y.st_value.saturating_add(addend))),
-        Err(_) => Err(ElfError::UnknownSymbol { number }),
-    }
+    let unknown = |_| ElfError::UnknownSymbol { number };
+    let y = elf.dynamic_symbol(number).map_err(unknown)?;
+    Ok(program_address(y.st_value.saturating_add(addend)))
 }
 
 // Type 1 in the text, and in version 1: an instruction's two halves.
@@ -462,13 +459,10 @@ fn named_call(inputs: &Inputs<'_>, len: u64, r: u64, y: Elf64Sym) -> Result<Deed
     ensures { result ≡ named_call inputs.now.file.now inputs.now.builtins.now inputs.now.job len r y (dynamic_symbol_name inputs.now.file.now inputs.now.job.layout y.st_name) }
 {
     let number = y.st_name;
-    match inputs.elf().dynamic_symbol_name(number) {
-        Ok(place) => {
-            let part = bytes_at(inputs.file, place);
-            call_by_name(inputs, part, len, r, y, place)
-        }
-        Err(_) => Err(ElfError::UnknownSymbol { number }),
-    }
+    let unknown = |_| ElfError::UnknownSymbol { number };
+    let place = inputs.elf().dynamic_symbol_name(number).map_err(unknown)?;
+    let part = bytes_at(inputs.file, place);
+    call_by_name(inputs, part, len, r, y, place)
 }
 
 // Type 10: a call by the name of a symbol.
@@ -476,10 +470,9 @@ fn named_call(inputs: &Inputs<'_>, len: u64, r: u64, y: Elf64Sym) -> Result<Deed
 fn plan_64_32(inputs: &Inputs<'_>, len: u64, r: u64, number: u32) -> Result<Deed, ElfError>
     ensures { result ≡ plan6432 inputs.now.file.now inputs.now.builtins.now inputs.now.job len r number }
 {
-    match inputs.elf().dynamic_symbol(number) {
-        Ok(y) => named_call(inputs, len, r, y),
-        Err(_) => Err(ElfError::UnknownSymbol { number }),
-    }
+    let unknown = |_| ElfError::UnknownSymbol { number };
+    let y = inputs.elf().dynamic_symbol(number).map_err(unknown)?;
+    named_call(inputs, len, r, y)
 }
 
 // A relocation at a place of the file, by its type.

@@ -2,7 +2,6 @@
 ghost use Rattle.std.specs.Prelude.{◌≡◌, ◌≤◌, ◌<◌};
 ghost use Rattle.loader.specs.Sections.{section_at, starts_with, unsupported, no_survey, survey_named};
 
-use crate::addresses::pick;
 use elf_parser::types::Elf64Shdr;
 use elf_parser::{Elf64, past};
 
@@ -66,7 +65,7 @@ pub(crate) fn no_survey() -> Survey
 }
 
 // With one section more, of that header and name, in a file of `len` bytes.
-#[tactic(auto, using(elf_parser::specs::SectionNames::same_tested, crate::specs::Sections::outside_past))]
+#[tactic(auto, using(ebpf::specs::Choice::choices, elf_parser::specs::SectionNames::same_tested, crate::specs::Sections::outside_past))]
 pub(crate) fn survey_next(len: u64, index: u32, h: Elf64Shdr, name: &[u8], v: Survey) -> Survey
     requires { (v.texts ≤ index) × (index < 65536) }
     ensures { result ≡ survey_named len index h name.now v }
@@ -77,9 +76,13 @@ pub(crate) fn survey_next(len: u64, index: u32, h: Elf64Shdr, name: &[u8], v: Su
     let first = v.texts == 0;
     let first_bad = v.unsupported.is_none() & bad;
     Survey {
-        texts: pick(is_text, v.texts + 1, v.texts),
-        text: pick(is_text & first, index, v.text),
-        unsupported: pick(first_bad, Some(h.sh_name), v.unsupported),
+        texts: if is_text { v.texts + 1 } else { v.texts },
+        text: if is_text & first { index } else { v.text },
+        unsupported: if first_bad {
+            Some(h.sh_name)
+        } else {
+            v.unsupported
+        },
         outside: v.outside | outside,
     }
 }

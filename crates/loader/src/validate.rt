@@ -1,9 +1,10 @@
 // The checks ahead of a load: sizes, built-ins, the parse, the header, the sections and the text's
 // place. What a load needs of them afterwards is one struct of numbers.
 ghost use Rattle.std.specs.Prelude.{◌≡◌};
+ghost use Rattle.loader.specs.Settings.{config_of};
 ghost use Rattle.loader.specs.Validate.{size_check, ascends, header_check, writable_error, sections_check, text_check, job_of, file_check, validated, prepared};
 
-use crate::addresses::{machine_addr, pick};
+use crate::addresses::machine_addr;
 use crate::error::ElfError;
 use crate::overview::look_over;
 use crate::read_only::{Placing, place_gathered};
@@ -22,6 +23,22 @@ pub struct Config {
     pub optimize_rodata: bool,
     pub enable_sbpf_v1: bool,
     pub enable_sbpf_v2: bool,
+}
+
+// The settings by their bits.
+impl From<u32> for Config {
+    ghost from_gives = { λ settings c. c ≡ config_of settings };
+
+    fn from(settings: u32) -> Config {
+        Config {
+            enable_symbol_and_section_labels: settings & 1 != 0,
+            reject_broken_elfs: settings & 2 != 0,
+            external_internal_function_hash_collision: settings & 4 != 0,
+            optimize_rodata: settings & 8 != 0,
+            enable_sbpf_v1: settings & 16 != 0,
+            enable_sbpf_v2: settings & 32 != 0,
+        }
+    }
 }
 
 // What a file is checked and its sections are placed by: its version, and the settings.
@@ -188,8 +205,8 @@ fn job_of(
         e_entry,
         sh_addr: h.sh_addr,
         sh_size: h.sh_size,
-        start: pick(nobits, 0, h.sh_offset) as usize,
-        length: pick(nobits, 0, h.sh_size) as usize,
+        start: if nobits { 0 } else { h.sh_offset as usize },
+        length: if nobits { 0 } else { h.sh_size as usize },
         addr,
         placing,
     }

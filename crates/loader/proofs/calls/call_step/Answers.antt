@@ -26,10 +26,10 @@ small : (r : After-call_at) (to : ℕ) → r.call_at.result ≡ Ok (Some to) →
 small r to e = to_small r.args.inputs.now.file.now r.args.inputs.now.job r.args.i to r.args.inputs.now.in_file.short (r.requires.1, called r (Ok (Some to)) e)
 
 pub is_seen-requires : goal.is_seen-requires
-is_seen-requires c = (c.requires.2.room, small (goal.at.is_seen-requires c).After-call_at _ (c.in_ok-index.was ∙ ap Ok c.in-Some.is))
+is_seen-requires c = small (goal.at.is_seen-requires c).After-call_at _ (c.in_ok-index.was ∙ ap Ok c.in-Some.is)
 
 pub see-requires : goal.see-requires
-see-requires c = (c.requires.2.room, small (goal.at.see-requires c).After-call_at _ (c.in_ok-index.was ∙ ap Ok c.in-Some.is))
+see-requires c = small (goal.at.see-requires c).After-call_at _ (c.in_ok-index.was ∙ ap Ok c.in-Some.is)
 
 pub returns-then-is_seen-clause-settles : goal.returns-then-is_seen-clause-settles
 returns-then-is_seen-clause-settles c =
@@ -74,4 +74,4 @@ returns-clause-held c =
     let i = c.args.inputs.now in
     let o = c.args.out.now in
     let o' = c.register_target.new.out in
-    rw c.see.ensures (held_after i.builtins.now i.job c.in-Some.index c.args.seen.now (columns_of o.registry.now) (columns_of o'.registry.now) o.registry.now.used o.moves c.requires.2 (held_of c.register_target.result o') c.register_target.ensures.targets c.register_target.ensures.alike)
+    rw c.see.ensures (held_after i.builtins.now i.job c.in-Some.index c.args.seen.now (columns_of o.registry.now) (columns_of o'.registry.now) o.registry.now.used o.moves c.requires.2 c.told-seen (held_of c.register_target.result o') c.register_target.ensures.targets c.register_target.ensures.alike)

@@ -5,7 +5,7 @@ use mathlib.Core.Path.{◌≡◌, sym, subst, ◌∙◌}
 use mathlib.Core.List.{List}
 use Prim.Native.Nat.{ℕ, ◌+◌, ◌-◌, ◌*◌, ◌<◌, ◌≤◌, min}
 use native.Mathlib.Omega.{arith}
-use lib.ListN.{length, drop, length-replicate}
+use lib.ListN.{length, drop}
 use lib.Seq.{paste}
 use Rattle.program.specs.Table.{columns_of}
 use Rattle.std.specs.Prelude.{Result, Ok}
@@ -48,8 +48,7 @@ loop-i-init c =
     let front : ahead (i.job.start + 0) c.copy_bytes.new.to i.file.now ≡ i.file.now = rw (e, c.copy_bytes.ensures) (ahead_more o.image.now i.file.now 0 i.job.start c.requires.0 (omega (arith, c.args.inputs.now.in_file.text))) in (
       keeps_all _,
       rw front (going_start (slot_trace i.file.now i.builtins.now i.job) (slot_count i.job) i.file.now (columns_of o.registry.now) o.registry.now.used o.moves c.requires.1.0),
-      rw c.requires.1.1 (none_held i.builtins.now i.job (columns_of o.registry.now) 1024 (omega arith)),
-      length-replicate {A = ℕ} 1024 0,
+      rw c.requires.1.1 (none_held i.builtins.now i.job (columns_of o.registry.now) 1024),
     )
 
 pub copy_bytes-requires-in-loop-i : goal.copy_bytes-requires-in-loop-i
@@ -128,7 +127,6 @@ loop-i-preserved c =
       in_run (slot_trace i.file.now i.builtins.now i.job) (slot_count i.job) 0 (slot_count i.job) (omega arith) i.file.now (ahead (i.job.start + 8 * c.loop-i.i) o.image.now i.file.now) (columns_of o₀.registry.now) (columns_of o.registry.now) o₀.registry.now.used o₀.moves o.registry.now.used o.moves c.loop-i.i (all_begin (slot_count i.job) (columns_of o₀.registry.now) o₀.registry.now.used o₀.moves c.requires.1.0) c.loop-i.invariant.1 c.run_end-to.result (omega (arith, bounds.0)) bounds.1 (ahead (i.job.start + 8 * c.run_end-to.result) o'.image.now i.file.now) (columns_of o'.registry.now) o'.registry.now.used o'.moves c.register_slots.ensures.keeps.table_as same
           (ran_all (goal.at.loop-i-preserved c).After-register_slots (Ok tt) c.in_ok-register_slots.was),
       subst (StillHeld i c.register_slots.new.seen o') c.in_ok-register_slots.was c.register_slots.ensures.held,
-      c.register_slots.auto.seen ∙ c.loop-i.invariant.3,
     )
 
 pub copy_bytes-requires-2 : goal.copy_bytes-requires-2

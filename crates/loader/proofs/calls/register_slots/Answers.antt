@@ -1,7 +1,7 @@
 -- `loader::calls::register_slots` meets its contract. The loop's invariant: the slots that are left, with the rows and moves held now,
 -- settle to what all from `from` on settle to; and what the loop keeps beside the table.
 -- Assumes nothing.
-use mathlib.Core.Path.{◌≡◌, refl, sym, subst, ◌∙◌}
+use mathlib.Core.Path.{◌≡◌, sym, subst, ◌∙◌}
 use mathlib.Core.List.{List}
 use Prim.Native.Nat.{ℕ, ◌+◌, ◌-◌, ◌*◌, ◌≤◌}
 use native.Mathlib.Omega.{arith}
@@ -36,7 +36,6 @@ loop-i-init c =
           (in_start step (slot_count i.job) c.args.from c.args.to c.requires.2 im (columns_of o.registry.now) o.registry.now.used o.moves c.requires.1 c.requires.0.1)
           c.next_call-i.ensures,
       c.requires.3,
-      refl,
     )
 
 pub call_step-requires : goal.call_step-requires
@@ -100,7 +99,6 @@ loop-i-preserved c =
       keeps_on o₀ o o' c.loop-i.invariant.0 c.call_step.ensures.keeps,
       calls_ahead i.file.now i.builtins.now i.job c.args.inputs.now.in_file c.args.from c.args.to c.requires.2 (ahead q o₀.image.now i.file.now) (ahead q o'.image.now i.file.now) (columns_of o₀.registry.now) (columns_of o'.registry.now) o₀.registry.now.used o₀.moves _ _ (c.loop-i.i + 1) c.next_call-i-in-loop-i.result c.requires.0.1 on c.next_call-i-in-loop-i.ensures,
       subst (StillHeld i c.call_step.new.seen o') c.in_ok-call_step.was c.call_step.ensures.held,
-      c.call_step.auto.seen ∙ c.loop-i.invariant.3,
     )
 
 pub returns-clause-leads : goal.returns-clause-leads
