@@ -1,6 +1,6 @@
 // The row that a function is registered as.
 ghost use Rattle.std.specs.Prelude.{◌≡◌, ◌≤◌, ◌^◌, length};
-ghost use Rattle.loader.specs.Functions.{Keyed, row_for, symbol_function};
+ghost use Rattle.loader.specs.Functions.{row_for, symbol_function};
 
 use crate::inputs::Inputs;
 use elf_parser::Place;
