@@ -10,7 +10,10 @@ use lib.Dec.{ltb, leb, eqb}
 use borrow.Author.Tests.{ltb-false, eq-eqb, eqb-true, ne_eqb}
 use Rattle.ebpf.specs.Choice.{◌if◌else◌}
 use Rattle.ebpf.specs.Instructions.{slot_at, insn_at}
-use Rattle.std.specs.Prelude.{Some, None, position, cond}
+use Rattle.std.specs.Prelude.{Option, Some, None, position, cond}
+use Rattle.ebpf.specs.declared.Insn.{Insn}
+use Rattle.program.specs.Table.{row_ascending_in}
+use Rattle.program.proofs.Steps.{row_below}
 use Rattle.std.specs.List.{position_or_len}
 use Rattle.std.proofs.lemmas.List.Quantifiers.{position-Some}
 use Rattle.std.proofs.lemmas.List.Recursion.{is_position_or_len}
@@ -20,13 +23,31 @@ use Rattle.program.proofs.Cases.{by_eq, by_test, zero_one}
 use Rattle.call_depth.specs.Called.{calls_key, callee_by, callee_in}
 
 -- another opcode
-pub no_call : (text keys : List ℕ) (version2 : Bool) (s : ℕ) → (get_or text (8 * s) 0 ≡ 0x85 → ⊥) → length keys ≡ callee_in text keys version2 s
-unfolding callee_in calls_key insn_at slot_at ◌if◌else◌
+pub no_call : (text keys : List ℕ) (version2 : Bool) (s : ℕ) → (get_or text (8 * s) 0 ≡ 0x85 → ⊥) → None ≡ callee_by keys version2 (insn_at text s)
+unfolding calls_key insn_at slot_at ◌if◌else◌
 no_call text keys version2 s n = go (leb (length text / 8) s)
   where
-    go : (b : Bool) → length keys ≡ callee_by keys version2 (None if b else Some (slot_at text (8 * s)))
+    go : (b : Bool) → None ≡ callee_by keys version2 (None if b else Some (slot_at text (8 * s)))
     go true = refl
     go false = rw (le_byte text (8 * s), ne_eqb (get_or text (8 * s) 0) 0x85 n) refl
+
+-- a slot that calls a row, and one that calls none
+module _ (text keys : List ℕ) (version2 : Bool) (s : ℕ) where
+  pub callee_some : (r : ℕ) → callee_by keys version2 (insn_at text s) ≡ Some r → r ≡ callee_in text keys version2 s
+  unfolding callee_in
+  callee_some r e = rw e refl
+
+  pub callee_none : callee_by keys version2 (insn_at text s) ≡ None → length keys ≡ callee_in text keys version2 s
+  unfolding callee_in
+  callee_none e = rw e refl
+
+  pub callee_below : (r : ℕ) → callee_by keys version2 (insn_at text s) ≡ Some r → r < length keys
+  unfolding ◌if◌else◌
+  callee_below r e = by_slot (insn_at text s) e
+    where
+      by_slot : (x : Option Insn) → callee_by keys version2 x ≡ Some r → r < length keys
+      by_slot None q = absurd (zero_one (cc))
+      by_slot (Some insn) q = by_test (calls_key version2 insn) (λ b. (row_ascending_in keys (length keys) insn.imm if b else None) ≡ Some r → r < length keys) (λ _ h. omega (arith, row_below keys (length keys) insn.imm r h)) (λ _ h. absurd (zero_one (cc))) q
 
 -- the first row with an index
 first_is : (k : ℕ) (xs : List ℕ) → index_of k xs ≡ position_or_len (λ x. eqb x k) xs

@@ -7,7 +7,7 @@ use Rattle.ebpf.specs.declared.Insn.{Insn}
 use Rattle.program.specs.Table.{row_ascending_in}
 use Rattle.call_graph.specs.Profile.{Profile, next_above, nth_of}
 use Rattle.call_graph.specs.Words.{Scan}
-use Rattle.call_depth.specs.declared.Profile.{Profile as LentProfile}
+use Rattle.call_depth.specs.declared.profile.Profile.{Profile as LentProfile}
 
 -- a call by a key: opcode 0x85, and in version 2 source not 0
 unfoldable pub calls_key : Bool → Insn → Bool
@@ -18,17 +18,14 @@ abbrev pub row_or : ℕ → Option ℕ → ℕ
 row_or rows (Some r) = r
 row_or rows None = rows
 
--- the row under a key
-abbrev pub row_under : List ℕ → ℕ → ℕ
-row_under keys key = row_or (length keys) (row_ascending_in keys (length keys) key)
-
-abbrev pub callee_by : List ℕ → Bool → Option Insn → ℕ
-callee_by keys version2 None = length keys
-callee_by keys version2 (Some insn) = row_under keys insn.imm if calls_key version2 insn else length keys
+-- the row that a slot calls, if it is a call and its key finds one
+abbrev pub callee_by : List ℕ → Bool → Option Insn → Option ℕ
+callee_by keys version2 None = None
+callee_by keys version2 (Some insn) = row_ascending_in keys (length keys) insn.imm if calls_key version2 insn else None
 
 -- the row that slot number s calls; as many as there are rows where it is no call, or its key finds none
 unfoldable pub callee_in : List ℕ → List ℕ → Bool → ℕ → ℕ
-callee_in text keys version2 s = callee_by keys version2 (insn_at text s)
+callee_in text keys version2 s = row_or (length keys) (callee_by keys version2 (insn_at text s))
 
 -- whole slots
 abbrev pub slots_in : List ℕ → ℕ

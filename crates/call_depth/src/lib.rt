@@ -14,11 +14,13 @@ ghost use Rattle.call_depth.specs.Loads.{LoadsAndMeasures};
 use call_graph::Recursive;
 use elf_parser::past;
 use loader::{Accepted, Config, ElfError, load};
+use profile::Profile;
 use program::{FunctionRegistry, FunctionTable};
 use slots::FLAG;
 
 mod error;
 mod marking;
+mod profile;
 mod recursion;
 mod settling;
 mod slots;
@@ -30,16 +32,6 @@ pub use error::CallDepthError;
 pub struct LoadDepth {
     pub load: Result<Accepted, ElfError>,
     pub depth: Result<u32, CallDepthError>,
-}
-
-// What says which function calls which: the text in the image, the columns of keys and of indices of the
-// used rows, and whether the version is 2.
-#[derive(Clone, Copy, PartialEq, Eq, Debug)]
-pub(crate) struct Profile<'a> {
-    pub(crate) text: &'a [u8],
-    pub(crate) keys: &'a [u32],
-    pub(crate) indices: &'a [u32],
-    pub(crate) version2: bool,
 }
 
 impl Profile<'_> {

@@ -4,7 +4,7 @@ ghost use Rattle.call_graph.specs.Marks.{end_in, Shaped, Followed, Begun, Circle
 ghost use Rattle.call_graph.specs.Words.{FLAG};
 ghost use Rattle.call_depth.specs.Called.{profile_now, profile_of, slots_in};
 
-use crate::Profile;
+use crate::profile::Profile;
 use crate::slots::{BOTH, FLAG};
 
 // The end of a row's slots, in its word.

@@ -7,7 +7,7 @@ ghost use Rattle.call_graph.specs.Marks.{Short, bare, keep, Each, Plain, Open, T
 ghost use Rattle.call_graph.specs.Words.{FLAG};
 ghost use Rattle.call_depth.specs.Called.{profile_now, profile_of, slots_in};
 
-use crate::Profile;
+use crate::profile::Profile;
 use crate::slots::{BOTH, FLAG, MARK};
 
 #[tactic(auto, using(ebpf::specs::Choice::choices))]
@@ -54,6 +54,8 @@ fn keep_marked(work: &mut [u32], entry: usize)
 }
 
 // Row `r`, or `best`, whichever is left and has the smaller index.
+// Kept: `indices.len()` is no row. An Option is no plainer: `smallest`, where a row is always left, would
+// have an arm for none, and here `best` would still have to be tested before its index is read.
 #[tactic(auto, using(call_graph::proofs::Least::lowest_settled, call_graph::proofs::Least::lowest_kept, call_graph::proofs::Least::lowest_new))]
 fn lower(work: &[u32], indices: &[u32], best: usize, r: usize) -> usize
     requires { (length work.now ≡ length indices.now) × (r < length indices.now) }

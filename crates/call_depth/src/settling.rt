@@ -6,7 +6,7 @@ ghost use Rattle.call_graph.specs.Marks.{Each};
 ghost use Rattle.call_graph.specs.Words.{unsettled, WordsReady, RowTried, Passing, Stopped};
 ghost use Rattle.call_depth.specs.Called.{profile_now, profile_of, slots_in, WorkLent};
 
-use crate::Profile;
+use crate::profile::Profile;
 use crate::slots::FLAG;
 
 #[tactic(auto, using(ebpf::specs::Choice::choices))]

@@ -1,9 +1,10 @@
 // The slots of a function: what they call, and the words of the rows that they call.
-ghost use Rattle.std.specs.Prelude.{◌≡◌, ◌≤◌, ◌<◌};
+ghost use Rattle.std.specs.Prelude.{◌≡◌, ◌≤◌, ◌<◌, length};
+ghost use Rattle.ebpf.specs.Instructions.{insn_at};
 ghost use Rattle.call_graph.specs.Marks.{Slots, always};
-ghost use Rattle.call_depth.specs.Called.{calls_key, row_under, callee_by, callee_in, slots_in, Scanned};
+ghost use Rattle.call_depth.specs.Called.{calls_key, callee_by, callee_in, slots_in, Scanned};
 
-use crate::Profile;
+use crate::profile::Profile;
 use ebpf::{CALL_IMM, Insn, get_insn};
 use program::row_ascending;
 
@@ -22,20 +23,12 @@ fn calls_key(version2: bool, insn: Insn) -> bool
     (insn.opc == CALL_IMM) & !near
 }
 
-fn row_under(keys: &[u32], key: u32) -> usize
-    ensures { result ≡ row_under keys.now key }
-{
-    row_ascending(keys, keys.len(), key).unwrap_or(keys.len())
-}
-
 // Marks a row that is neither settled nor marked: 1 where it is newly marked, else 0.
-#[tactic(auto, using(call_graph::proofs::Marking::row_past, call_graph::proofs::Marking::row_kept))]
+#[tactic(auto, using(call_graph::proofs::Marking::row_kept))]
 fn mark_row(work: &mut [u32], r: usize) -> usize
+    requires { r < length work.old }
     ensures { Slots (always r) 0 1 1 work.old work.new result }
 {
-    if work.len() <= r {
-        return 0;
-    }
     let word = work[r];
     if word < FLAG {
         return 0;
@@ -49,23 +42,27 @@ fn mark_row(work: &mut [u32], r: usize) -> usize
 
 impl Profile<'_> {
     #[tactic(auto, using(ebpf::specs::Choice::choices))]
-    fn callee_by(self, slot: Option<Insn>) -> usize
+    fn callee_by(self, slot: Option<Insn>) -> Option<usize>
         ensures { result ≡ callee_by self.entry.keys.now self.entry.version2 slot }
     {
         match slot {
-            Some(insn) if calls_key(self.version2, insn) => row_under(self.keys, insn.imm),
-            _ => self.keys.len(),
+            Some(insn) if calls_key(self.version2, insn) => row_ascending(
+                self.keys,
+                self.keys.len(),
+                insn.imm,
+            ),
+            _ => None,
         }
     }
 
-    // The row that a slot calls. Most slots are no call, which the opcode says.
-    #[tactic(auto, using(crate::proofs::Entries::no_call), unfolding(crate::specs::Called::callee_in))]
-    fn callee_of(self, s: usize) -> usize
+    // The row that a slot calls, if it calls one. Most slots are no call, which the opcode says.
+    #[tactic(auto, using(crate::proofs::Entries::no_call))]
+    fn callee_of(self, s: usize) -> Option<usize>
         requires { s < slots_in self.text.now }
-        ensures { result ≡ callee_in self.entry.text.now self.entry.keys.now self.entry.version2 s }
+        ensures { result ≡ callee_by self.entry.keys.now self.entry.version2 (insn_at self.entry.text.now s) }
     {
         if self.text[8 * s] != CALL_IMM {
-            return self.keys.len();
+            return None;
         }
         self.callee_by(get_insn(self.text, s))
     }
@@ -73,12 +70,15 @@ impl Profile<'_> {
     // None where a slot calls a row that is not settled, else 1 and the largest depth of those called.
     #[tactic(auto, using(call_graph::proofs::Scans::over_start, call_graph::proofs::Scans::over_next, call_graph::proofs::Scans::scan_stop, call_graph::proofs::Scans::scan_end))]
     pub(crate) fn depth_over(self, work: &[u32], from: usize, end: usize) -> Option<u32>
-        requires { end ≤ slots_in self.text.now }
+        requires { (end ≤ slots_in self.text.now) × (length work.now ≡ length self.indices.now) }
         ensures { Scanned (callee_in self.entry.text.now self.entry.keys.now self.entry.version2) work.now from end result }
     {
         let mut most = 0;
         for s in from..end {
-            let d = work.get(self.callee_of(s)).copied().unwrap_or(0);
+            let Some(r) = self.callee_of(s) else {
+                continue;
+            };
+            let d = work[r];
             if FLAG <= d {
                 return None;
             }
@@ -90,12 +90,14 @@ impl Profile<'_> {
     // Marks what some slots call: how many rows are newly marked.
     #[tactic(auto, using(call_graph::proofs::Marking::slots_start, call_graph::proofs::Marking::slots_next, call_graph::proofs::Marking::slots_end))]
     pub(crate) fn mark_slots(self, work: &mut [u32], from: usize, end: usize) -> usize
-        requires { end ≤ slots_in self.text.now }
+        requires { (end ≤ slots_in self.text.now) × (length work.old ≡ length self.indices.now) }
         ensures { Slots (callee_in self.entry.text.now self.entry.keys.now self.entry.version2) from end end work.old work.new result }
     {
         let mut more = 0;
         for s in from..end {
-            more += mark_row(work, self.callee_of(s));
+            if let Some(r) = self.callee_of(s) {
+                more += mark_row(work, r);
+            }
         }
         more
     }

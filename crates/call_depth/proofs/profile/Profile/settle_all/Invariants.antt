@@ -1,0 +1,11 @@
+use Prim.Native.Nat.{◌-◌}
+use lib.ListN.{length}
+use Rattle.call_graph.specs.Words.{WordsReady, settled_in}
+use Rattle.call_depth.specs.Called.{profile_now, slots_in}
+use Rattle.call_depth.proofs.profile.Profile.settle_all.Given as goal
+
+abbrev pub invariant-loop-entry : goal.invariant-loop-entry
+invariant-loop-entry l = WordsReady (profile_now l.self) (slots_in l.self.text.now) l.work
+
+abbrev pub decreases-loop-entry : goal.decreases-loop-entry
+decreases-loop-entry l = length l.self.indices.now - settled_in l.work
