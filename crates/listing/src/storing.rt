@@ -1,5 +1,8 @@
 // Bytes, and the digits of numbers, stored in a lent slice from a place on. Each function answers the
 // place behind what it stored; where the slice ends before, the bytes past its end are left out.
+// Kept: tried as `write!` into a writer over the lent slice. std says what a writer holds only after `Ok`, and
+// nowhere that one which can't fail gives `Ok`; `list_file` has no failure to answer, and promises the lines in the
+// slice, as far as there is room, and how many bytes they are.
 ghost use Rattle.std.specs.Prelude.{◌≡◌, [], ◌∷◌, ◌+◌, ◌^◌, ◌≤◌, length, replicate};
 ghost use Rattle.listing.specs.Decimal.{last_digit, decimal};
 ghost use Rattle.listing.specs.Lines.{spaced, Stores};
