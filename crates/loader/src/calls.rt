@@ -198,7 +198,8 @@ fn register_slots(
     let file = inputs.file;
     let start = inputs.job.start;
     let mut i = next_call(file, start, from, to);
-    // Kept: a turn goes on at the next call, and not at the next slot.
+    // Kept: a turn goes on at the next call, and not at the next slot. An iterator over the calls would be
+    // a struct of these four words whose `next` finds the next call: more lines, and no plainer.
     while i < to {
         call_step(out, seen, inputs, i)?;
         i = next_call(file, start, i + 1, to);
@@ -228,7 +229,8 @@ pub(crate) fn register_calls(out: &mut Outputs<'_, '_>, inputs: &Inputs<'_>) -> 
     let mut seen = [0u32; SEEN];
     copy_bytes(out.image, file, 0, 0, start);
     let mut i = 0;
-    // Kept: a turn goes on where its run ends, which is worked out once.
+    // Kept: a `for` over `(0..count).step_by(COPIED)` was tried. It is left behind its last turn, without a
+    // step, and the proof of what holds there did not close.
     while i < count {
         let to = run_end(i, count);
         let at = start + 8 * i;
