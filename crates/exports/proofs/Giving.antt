@@ -12,7 +12,8 @@ use Rattle.loader.specs.Load.{Loading, load_of, answer_of, Loaded}
 use Rattle.loader.specs.Demand.{Demand3}
 use Rattle.loader.specs.Loads.{OnUsed, Loads}
 use Rattle.exports.specs.declared.answers.Answer.{Answer}
-use Rattle.exports.specs.Answers.{Given, Gives, GivesLoad, config_of, load_answer}
+use Rattle.exports.specs.Answers.{Given, Gives, GivesLoad, load_answer}
+use Rattle.loader.specs.Settings.{config_of}
 
 module _ (file builtins im ro : List ℕ) (t : Slices) where
   abbrev whole : Config → Loading

@@ -14,7 +14,8 @@ use Rattle.writers.specs.declared.Writer.{Writer}
 use Rattle.writers.specs.Loads.{LoadsAndTells}
 use Rattle.writers.specs.Writers.{wrote_of}
 use Rattle.exports.specs.declared.answers.Answer.{Answer}
-use Rattle.exports.specs.Answers.{Given, Gives, config_of}
+use Rattle.exports.specs.Answers.{Given, Gives}
+use Rattle.loader.specs.Settings.{config_of}
 use Rattle.exports.specs.Wrote.{load_wrote_answer, GivesLoadWrote}
 use Rattle.exports.proofs.Giving.{loaded_by, keyed_by, used_by}
 

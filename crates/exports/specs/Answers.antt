@@ -15,6 +15,7 @@ use Rattle.loader.specs.declared.validate.Config.{Config}
 use Rattle.loader.specs.Errors as load
 use Rattle.loader.specs.Load.{load_of_lent, answer_of}
 use Rattle.loader.specs.Loads.{Loads}
+use Rattle.loader.specs.Settings.{config_of}
 use Rattle.exports.specs.declared.answers.Answer.{Answer}
 use Rattle.elf_parser.specs.declared.records.Entries.{Entries}
 use Rattle.elf_parser.specs.declared.parts.Place.{Place}
@@ -123,21 +124,6 @@ word_or_none (Some n) = n
 word_or_none None = none_word
 
 -- ---- a load
-
--- the bit of that value, a power of two, is set
-unfoldable pub bit_of : ℕ → ℕ → Bool
-bit_of settings value = eqb (settings / value % 2) 1
-
--- 1 labels, 2 reject broken files, 4 collision check, 8 optimize, 16 version 1, 32 version 2
-abbrev pub config_of : ℕ → Config
-config_of settings = record {
-  enable_symbol_and_section_labels = bit_of settings 1;
-  reject_broken_elfs = bit_of settings 2;
-  external_internal_function_hash_collision = bit_of settings 4;
-  optimize_rodata = bit_of settings 8;
-  enable_sbpf_v1 = bit_of settings 16;
-  enable_sbpf_v2 = bit_of settings 32;
-}
 
 -- an accepted load: its numbers, in the order of `Accepted`, with a number before them and two words behind them
 abbrev pub loaded_with : ℕ → Accepted → ℕ → ℕ → Answer

@@ -2,7 +2,8 @@
 use Rattle.std.specs.Prelude.{Bool, true, false, List, [], ◌∷◌, ◌≡◌, refl, Some, None}
 use Rattle.program.specs.declared.Row.{Row}
 use Rattle.loader.specs.declared.validate.Config.{Config}
-use Rattle.exports.specs.Answers.{bit_of, config_of, written, words_of, row_answer}
+use Rattle.exports.specs.Answers.{written, words_of, row_answer}
+use Rattle.loader.specs.Settings.{bit_of, config_of}
 
 -- in the scope's order: labels, reject broken, collision check, optimize, version 1, version 2
 abbrev on_off : Config → List Bool

@@ -18,7 +18,8 @@ use Rattle.writers.specs.Loads.{LoadsAndTells}
 use Rattle.writers.specs.Whole.{code_by, filled_in}
 use Rattle.writers.specs.Writers.{wrote_of}
 use Rattle.exports.specs.declared.answers.Answer.{Answer}
-use Rattle.exports.specs.Answers.{answer_with, reported, accepted, config_of, loaded_with, Gives}
+use Rattle.exports.specs.Answers.{answer_with, reported, accepted, loaded_with, Gives}
+use Rattle.loader.specs.Settings.{config_of}
 
 -- 0 the file, 1 a call, 2 a relocation; and the number of the slot or of the relocation
 abbrev pub kind_of : Writer → ℕ

@@ -21,8 +21,8 @@ use answers::{
 use ebpf::hash_symbol_name;
 use elf_parser::{Elf64, parse};
 use hash_table::find_symbol;
-use loader::{load, text_place};
-use loading::{config_of, load_answer, text_answer};
+use loader::{Config, load, text_place};
+use loading::{load_answer, text_answer};
 use names::refusal_name;
 use program::{FunctionRegistry, FunctionTable, index_ascending, row_ascending};
 use writers::load_who_wrote;
@@ -204,7 +204,7 @@ pub fn sbpf_load(
     let a = load(
         file,
         builtins,
-        config_of(settings),
+        Config::from(settings),
         image,
         ro,
         &mut registry,
@@ -263,7 +263,7 @@ pub fn sbpf_load_who_wrote(
     let a = load_who_wrote(
         file,
         builtins,
-        config_of(settings),
+        Config::from(settings),
         image,
         ro,
         &mut registry,

@@ -1,24 +1,10 @@
-// The settings of a load by their bits, and what a load answers in words.
+// What a load answers in words.
 ghost use Rattle.std.specs.Prelude.{◌≡◌};
-ghost use Rattle.exports.specs.Answers.{config_of, loaded_with, load_answer, text_answer};
+ghost use Rattle.exports.specs.Answers.{loaded_with, load_answer, text_answer};
 
 use crate::answers::{Answer, answer_with, answered, place_words};
 use elf_parser::Place;
-use loader::{Accepted, Config, ElfError};
-
-// The settings of a load by their bits.
-pub(crate) fn config_of(settings: u32) -> Config
-    ensures { result ≡ config_of settings }
-{
-    Config {
-        enable_symbol_and_section_labels: settings & 1 != 0,
-        reject_broken_elfs: settings & 2 != 0,
-        external_internal_function_hash_collision: settings & 4 != 0,
-        optimize_rodata: settings & 8 != 0,
-        enable_sbpf_v1: settings & 16 != 0,
-        enable_sbpf_v2: settings & 32 != 0,
-    }
-}
+use loader::{Accepted, ElfError};
 
 // The words of an accepted load, with a number before them and two words behind them.
 pub(crate) fn loaded_with(number: u32, a: Accepted, last: u64, behind: u64) -> Answer

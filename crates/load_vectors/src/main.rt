@@ -65,17 +65,6 @@ fn read_head(input: &mut impl Read) -> Result<Option<Sizes>, RecordError> {
     }))
 }
 
-fn config_of(settings: u32) -> Config {
-    Config {
-        enable_symbol_and_section_labels: settings & 1 != 0,
-        reject_broken_elfs: settings & 2 != 0,
-        external_internal_function_hash_collision: settings & 4 != 0,
-        optimize_rodata: settings & 8 != 0,
-        enable_sbpf_v1: settings & 16 != 0,
-        enable_sbpf_v2: settings & 32 != 0,
-    }
-}
-
 // Reads until the bytes are full.
 fn read_whole(input: &mut impl Read, bytes: &mut [u8]) -> Result<(), RecordError> {
     if read_full(input, bytes)? < bytes.len() {
@@ -132,7 +121,7 @@ fn lend(rt: &impl Print, c: Sizes, file: &[u8], builtins: &[u32]) -> Result<(), 
         rt,
         file,
         builtins,
-        config_of(c.settings),
+        Config::from(c.settings),
         &mut image[..c.image],
         &mut ro_section[..c.ro_section],
         &mut registry,

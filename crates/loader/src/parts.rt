@@ -1,5 +1,7 @@
 // The parts of a load, joined two by two: a function over outputs and inputs takes long to check, so each
 // holds two calls over them and no more.
+// Kept: both are two calls; a function that takes the two calls would take two closures over outputs lent for
+// writing, and be no plainer.
 ghost use Rattle.loader.specs.Parts.{writing_trace, naming_trace};
 ghost use Rattle.loader.specs.InnerContracts.{FirstAsks, PartAsks, Keeps, SettlesTo};
 ghost use Rattle.loader.specs.Load.{writing_count, naming_count};

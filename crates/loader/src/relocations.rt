@@ -2,7 +2,6 @@
 // that it registers. Reads only; the caller registers and writes.
 ghost use Rattle.std.specs.Prelude.{◌≡◌, Ok, Bool, true, false, ◌&&◌, ◌≤◌, ◌<◌, ◌^◌, leb, ltb};
 ghost use Rattle.ebpf.specs.LittleEndian.{join};
-ghost use Rattle.elf_parser.specs.Records.{dynamic_relocation_of, dynamic_rela_of};
 ghost use Rattle.elf_parser.specs.Names.{dynamic_symbol_name};
 ghost use Rattle.loader.specs.Addresses.{sum_up_to};
 ghost use Rattle.loader.specs.Relocations.{relocation_or, rela_or, relocation_at, header_at, contains, first_from, used_header, place_of, within, program_address, immediate_at, halves_deed, word_deed, symbol_address, plan6464, relative_text, relative_value, is_negative, plan_relative, register_deed, function_call, builtin_call, call_by_name, named_call, plan6432, plan_at, plan_of};
@@ -64,28 +63,7 @@ impl From<Elf64Rela> for Relocation {
     }
 }
 
-// The relocation number `index` of the older table; a blank one where there is none.
-fn plain_relocation(elf: &Elf64<'_>, index: u32) -> Relocation
-    ensures { result ≡ relocation_or (dynamic_relocation_of elf.now.file.now elf.now.layout index) }
-{
-    match elf.dynamic_relocation(index) {
-        Ok(r) => Relocation::from(r),
-        Err(_) => BLANK,
-    }
-}
-
-// The relocation number `index` of the table whose relocations bring an addend; a blank one where there
-// is none.
-fn addend_relocation(elf: &Elf64<'_>, index: u32) -> Relocation
-    ensures { result ≡ rela_or (dynamic_rela_of elf.now.file.now elf.now.layout index) }
-{
-    match elf.dynamic_rela(index) {
-        Ok(r) => Relocation::from(r),
-        Err(_) => BLANK,
-    }
-}
-
-// The relocation number `index` of both tables, the older one first.
+// The relocation number `index` of both tables, the older one first; a blank one where there is none.
 #[tactic(auto, using(ebpf::specs::Choice::choices), unfolding(crate::specs::Relocations::relocation_at))]
 pub fn relocation_at(elf: &Elf64<'_>, index: u32) -> Relocation
     ensures { result ≡ relocation_at elf.now.file.now elf.now.layout index }
@@ -94,9 +72,15 @@ pub fn relocation_at(elf: &Elf64<'_>, index: u32) -> Relocation
     let older = relocations.count;
     let number = index as u64;
     if number < older {
-        return plain_relocation(elf, index);
+        return match elf.dynamic_relocation(index) {
+            Ok(r) => Relocation::from(r),
+            Err(_) => BLANK,
+        };
     }
-    addend_relocation(elf, (number - older) as u32)
+    match elf.dynamic_rela((number - older) as u32) {
+        Ok(r) => Relocation::from(r),
+        Err(_) => BLANK,
+    }
 }
 
 // A program header, as far as version 2 maps by it: the addresses from `p_vaddr` up to `end` stand
@@ -177,15 +161,16 @@ pub fn r_place(version2: bool, used: Option<UsedHeader>, r_offset: u64) -> Optio
     )
 }
 
-// Whether a place lies in the `length` bytes from `start` on.
+// Whether a byte is one of those at a place.
 #[tactic(auto, using(ebpf::specs::Choice::choices), unfolding(crate::specs::Relocations::within))]
-pub fn is_within(start: u64, length: u64, r: u64) -> bool
-    ensures { result ≡ within start length r }
+pub fn is_within(place: Place, r: u64) -> bool
+    ensures { result ≡ within place.start place.length r }
 {
+    let start = place.start as u64;
     if r < start {
         return false;
     }
-    r - start < length
+    r - start < place.length as u64
 }
 
 // An address in the machine: below the program's start it gains that.
@@ -488,7 +473,11 @@ fn plan_at(
 {
     let r_type = (r_info % 0x1_0000_0000) as u32;
     let r_sym = (r_info / 0x1_0000_0000) as u32;
-    let in_text = is_within(inputs.job.start as u64, inputs.job.length as u64, r);
+    let text = Place {
+        start: inputs.job.start,
+        length: inputs.job.length,
+    };
+    let in_text = is_within(text, r);
     let version2 = inputs.job.version2;
     let uses_addend = (r_type == R_BPF_64_64) | (r_type == R_BPF_64_RELATIVE);
     if uses_addend & is_negative(addend) {

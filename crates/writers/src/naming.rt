@@ -7,14 +7,11 @@ ghost use Rattle.writers.specs.Named.{is_named, Names, NamesNext, count_of, by_n
 use crate::Writer;
 use crate::calls::call_writer;
 use crate::text::{LoadedText, Text};
-use elf_parser::Layout;
-use loader::{UsedHeader, is_within, r_place, relocation_at, used_header};
-
-const R_BPF_64_64: u32 = 1;
-
-const R_BPF_64_RELATIVE: u32 = 8;
-
-const R_BPF_64_32: u32 = 10;
+use elf_parser::{Layout, Place};
+use loader::{
+    R_BPF_64_32, R_BPF_64_64, R_BPF_64_RELATIVE, UsedHeader, is_within, r_place, relocation_at,
+    used_header,
+};
 
 // The bytes that a relocation at place `r` names: an instruction's two halves, eight bytes, or an
 // instruction's immediate.
@@ -27,11 +24,15 @@ pub enum Named {
 
 // What a relocation at that place names, by the low half of its `r_info`; nothing where the place is none.
 #[tactic(auto, using(ebpf::specs::Choice::choices), unfolding(loader::specs::Demand::named_by))]
-fn named_in(text: LoadedText, place: Option<u64>, r_info: u64) -> Option<Named>
-    ensures { Names result (named_in text.version2 text.start text.length place (r_info % 2 ^ 32)) }
+fn named_in(text: LoadedText, at: Option<u64>, r_info: u64) -> Option<Named>
+    ensures { Names result (named_in text.version2 text.start text.length at (r_info % 2 ^ 32)) }
 {
-    let r = place?;
-    let in_text = is_within(text.start as u64, text.length as u64, r);
+    let r = at?;
+    let place = Place {
+        start: text.start,
+        length: text.length,
+    };
+    let in_text = is_within(place, r);
     match (r_info % 0x1_0000_0000) as u32 {
         R_BPF_64_64 if in_text | !text.version2 => Some(Named::Halves(r)),
         R_BPF_64_RELATIVE if in_text => Some(Named::Halves(r)),

@@ -9,7 +9,7 @@ pub returns : goal.returns
 returns c =
     let left = columns_of c.load-a.new.registry in
     let loads = c.load-a.ensures.loads in
-    given _ _ _ _ _ _ _ _ _ _ _ _ c.config_of.result c.config_of.ensures left c.load-a.result
+    given _ _ _ _ _ _ _ _ _ _ _ _ c.from.result c.from.ensures left c.load-a.result
     (record { loaded = loads.loaded; keyed = loads.keyed; ascending = loads.ascending })
     (one_by_one left _ _ _ _ _ (search rules) (search rules) (search rules) (search rules) (search rules))
     c.load_answer.result c.load_answer.ensures c.give.ensures

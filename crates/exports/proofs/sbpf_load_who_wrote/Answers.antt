@@ -11,7 +11,7 @@ returns c =
     let left = columns_of c.load_who_wrote-a.new.registry in
     let tells = c.load_who_wrote-a.ensures.tells in
     let loads = tells.loads in
-    given _ _ _ _ _ _ _ _ _ _ _ _ _ c.config_of.result c.config_of.ensures left c.load_who_wrote-a.result
+    given _ _ _ _ _ _ _ _ _ _ _ _ _ c.from.result c.from.ensures left c.load_who_wrote-a.result
     (record { loads = record { loaded = loads.loaded; keyed = loads.keyed; ascending = loads.ascending }; tells = tells.tells; kept = tells.kept })
     (one_by_one left _ _ _ _ _ (search rules) (search rules) (search rules) (search rules) (search rules))
     c.load_wrote_answer.result c.load_wrote_answer.ensures c.give.ensures
