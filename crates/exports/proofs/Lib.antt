@@ -4,4 +4,3 @@ mod Giving
 mod Named
 mod Told
 mod GivingBoth
-mod Bits

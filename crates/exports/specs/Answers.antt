@@ -1,6 +1,6 @@
 -- What the exported functions answer: a number, 0 or why there is nothing, and 23 words behind it.
 use Rattle.program.specs.declared.Row.{Row}
-use Rattle.std.specs.Prelude.{ℕ, zero, suc, unwrap_or, ◌-◌, ◌/◌, ◌%◌, ◌^◌, ◌≡◌, Bool, eqb, List, [], ◌∷◌, length, Option, Some, None, Result, Ok, Err}
+use Rattle.std.specs.Prelude.{ℕ, zero, suc, unwrap_or, ◌-◌, ◌^◌, ◌≡◌, List, [], ◌∷◌, length, Option, Some, None, Result, Ok, Err}
 use Rattle.std.specs.Int.{from_bool}
 use Rattle.elf_parser.specs.declared.error.ElfParserError.{ElfParserError}
 use Rattle.elf_parser.specs.declared.error.Report.{Report}
@@ -11,7 +11,6 @@ use Rattle.hash_table.specs.declared.BadHashTable.{BadHashTable}
 use Rattle.program.specs.Table.{Lent, Shared, table_before, table_after}
 use Rattle.loader.specs.declared.error.ElfError.{ElfError}
 use Rattle.loader.specs.declared.answer.Accepted.{Accepted}
-use Rattle.loader.specs.declared.validate.Config.{Config}
 use Rattle.loader.specs.Errors as load
 use Rattle.loader.specs.Load.{load_of_lent, answer_of}
 use Rattle.loader.specs.Loads.{Loads}
