@@ -66,7 +66,7 @@ fn relocations_at<T: Record>(len: u64, offset: u64, size: u64) -> Result<Entries
 }
 
 // The header tables of a file, which lie in it.
-#[derive(Clone, Copy)]
+#[derive(Clone, Copy, PartialEq, Eq, Debug)]
 pub(crate) struct HeaderTables<'a> {
     file: &'a [u8],
     tables: Tables,

@@ -121,7 +121,7 @@ fn bucket_of(hash: u32, nbucket: u32) -> u32
 }
 
 // A name that is looked for through a file's hash table, which has buckets and lies in the file.
-#[derive(Clone, Copy)]
+#[derive(Clone, Copy, PartialEq, Eq, Debug)]
 struct Search<'a> {
     elf: &'a Elf64<'a>,
     name: &'a [u8],

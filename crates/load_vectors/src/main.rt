@@ -161,6 +161,7 @@ fn next_case(rt: &impl Print, input: &mut impl Read) -> Result<bool, RecordError
 }
 
 // One case, and whether there was a whole one.
+// Kept: `worked` has one of this shape, with its own words for a bad record and its own way to read one.
 fn next_line(rt: &impl Print, input: &mut impl Read) -> io::Result<bool> {
     match next_case(rt, input) {
         Ok(more) => Ok(more),

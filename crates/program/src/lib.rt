@@ -45,7 +45,7 @@ pub struct FunctionRegistry<'a> {
 }
 
 // The same lent for reading.
-#[derive(Clone, Copy)]
+#[derive(Clone, Copy, PartialEq, Eq, Debug)]
 pub struct FunctionTable<'a> {
     pub keys: &'a [u32],
     pub indices: &'a [u32],
@@ -94,7 +94,7 @@ pub enum FunctionName {
 }
 
 // What a function is registered by, beside its name and index.
-#[derive(Clone, Copy)]
+#[derive(Clone, Copy, PartialEq, Eq, Debug)]
 pub struct HashedLegacy<'a> {
     // The keys of the first indices; those of the others are worked out.
     pub table: &'a [u32],

@@ -215,6 +215,7 @@ fn next_record(rt: &impl Print, input: &mut impl Read) -> Result<bool, RecordErr
 }
 
 // One record, and whether there was a right one.
+// Kept: `load_vectors` has one of this shape, with its own words for a bad case and its own way to read one.
 fn next_line(rt: &impl Print, input: &mut impl Read) -> io::Result<bool> {
     match next_record(rt, input) {
         Ok(more) => Ok(more),
