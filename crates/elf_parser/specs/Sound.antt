@@ -153,6 +153,7 @@ pub record Sound (s : List ℕ) (l : Layout) : Type 0 where
   -- the section name table's header lies in the file, and every section's name is in that table
   pub names : ℕ
   pub names_present : l.shstrtab ≡ Some names
+  pub names_there : names ≡ 0 → ⊥
   pub names_header : names + 64 ≤ length s
   pub names_table : (section_header s names).sh_type ≡ SHT_STRTAB
   pub named_in :
@@ -215,6 +216,7 @@ sound_steps s l x k e = subst (Sound s) (sym e) sound_whole
           some_section = omega (arith, fits);
           names = names;
           names_present = refl;
+          names_there = λ z. x.some_names (omega arith);
           names_header = omega (arith, fits);
           names_table = in_string_table s (section_header s names) _ 16 (name_at 0 (omega (arith, fits)));
           named_in = name_at;

@@ -123,7 +123,7 @@ impl<'a> HeaderTables<'a> {
         }
     }
 
-    // Kept: `or_else` was tried, and the proof didn't close: nothing is known of what its closure gives.
+    // Kept: `or_else` was tried, and the proof didn't close.
     #[tactic(auto, using(ebpf::specs::Choice::choices), unfolding(crate::specs::Dynamic::or_else))]
     fn dynamic_table(&self) -> Result<Entries, ElfParserError>
         ensures { result ≡ dynamic_table self.now.file.now self.now.tables }

@@ -10,7 +10,7 @@ use crate::table::Table;
 use crate::types::Elf64Shdr;
 
 // Where the two header tables stand.
-// Kept: four numbers, as the definitions' `overlap` takes them; as two ranges each would only be spelled longer.
+// Kept: four numbers and no two ranges, since a `Range` is not Copy; and the definitions take the numbers.
 #[derive(Clone, Copy, PartialEq, Eq, Debug)]
 pub struct Ranges {
     pub phoff: u64,

@@ -2,7 +2,6 @@
 // Reading until a buffer is full, and record by record.
 ghost use Rattle.std.specs.Prelude.{◌≡◌, ◌<◌, ◌≤◌, length, take, IfOk};
 ghost use Rattle.std.specs.Io.KnownBytes.{Consumes, IsAtEnd};
-ghost use Rattle.input.specs.Repeats.{Repeats};
 ghost use Rattle.input.specs.declared.RecordError.TheVariants.{Io};
 
 use std::io;
@@ -41,18 +40,4 @@ pub fn read_full<R: Read>(input: &mut R, bytes: &mut [u8]) -> io::Result<usize>
         filled += n;
     }
     Ok(filled)
-}
-
-// Calls `next`, which answers whether there was one more, until there is none: `most` times at most,
-// since a loop needs a bound and an input gives none.
-pub fn until_none<F: FnMut() -> io::Result<bool>>(most: usize, mut next: F) -> io::Result<()>
-    requires { F.IsAlwaysCallable next }
-    ensures { (last : F) × Repeats F.step most next result last }
-{
-    for done in 0..most {
-        if !next()? {
-            return Ok(());
-        }
-    }
-    Ok(())
 }

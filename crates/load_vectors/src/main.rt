@@ -4,7 +4,7 @@
 // README.md says how. What a case is lent are parts of arrays of fixed lengths, filled with
 // anything but zeros, so that what a load should clear and does not changes a hash of the line.
 use ebpf::little_endian::read;
-use input::{RecordError, read_full, until_none};
+use input::{RecordError, read_full};
 use lines::print_line;
 use loader::{Config, load};
 use program::FunctionRegistry;
@@ -161,7 +161,8 @@ fn next_case(rt: &impl Print, input: &mut impl Read) -> Result<bool, RecordError
 }
 
 // One case, and whether there was a whole one.
-// Kept: `worked` has one of this shape, with its own words for a bad record and its own way to read one.
+// Kept: `worked` has one of this shape; one function of both would take the words and a closure, and be no
+// shorter.
 fn next_line(rt: &impl Print, input: &mut impl Read) -> io::Result<bool> {
     match next_case(rt, input) {
         Ok(more) => Ok(more),
@@ -173,8 +174,14 @@ fn next_line(rt: &impl Print, input: &mut impl Read) -> io::Result<bool> {
     }
 }
 
-// Kept: each program has a main of its own, with its bound and its record.
+// Kept: each program has a loop of its own, with its bound and its record: a public function that takes a closure
+// would have to ask that the closure can be called, and public functions here ask nothing.
 fn main(rt: HostRuntime) -> io::Result<()> {
     let mut input = rt.stdin();
-    until_none(MOST_CASES, || next_line(&rt, &mut input))
+    for _ in 0..MOST_CASES {
+        if !next_line(&rt, &mut input)? {
+            break;
+        }
+    }
+    Ok(())
 }

@@ -12,7 +12,7 @@ use exports::{
     sbpf_dynamic_symbol_name, sbpf_find_symbol, sbpf_load, sbpf_load_who_wrote, sbpf_section_name,
     sbpf_section_place, sbpf_symbol_name, sbpf_who_wrote, sbpf_who_wrote_all,
 };
-use input::{RecordError, read_full, until_none};
+use input::{RecordError, read_full};
 use lines::{FILE, ROWS, print_answer, print_load, print_writer};
 use program::FunctionTable;
 use std::io;
@@ -215,7 +215,8 @@ fn next_record(rt: &impl Print, input: &mut impl Read) -> Result<bool, RecordErr
 }
 
 // One record, and whether there was a right one.
-// Kept: `load_vectors` has one of this shape, with its own words for a bad case and its own way to read one.
+// Kept: `load_vectors` has one of this shape; one function of both would take the words and a closure, and be no
+// shorter.
 fn next_line(rt: &impl Print, input: &mut impl Read) -> io::Result<bool> {
     match next_record(rt, input) {
         Ok(more) => Ok(more),
@@ -227,8 +228,14 @@ fn next_line(rt: &impl Print, input: &mut impl Read) -> io::Result<bool> {
     }
 }
 
-// Kept: each program has a main of its own, with its bound and its record.
+// Kept: each program has a loop of its own, with its bound and its record: a public function that takes a closure
+// would have to ask that the closure can be called, and public functions here ask nothing.
 fn main(rt: HostRuntime) -> io::Result<()> {
     let mut input = rt.stdin();
-    until_none(MOST, || next_line(&rt, &mut input))
+    for _ in 0..MOST {
+        if !next_line(&rt, &mut input)? {
+            break;
+        }
+    }
+    Ok(())
 }
