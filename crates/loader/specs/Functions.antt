@@ -2,6 +2,8 @@
 use Rattle.std.specs.Prelude.{ℕ, ◌-◌, ◌/◌, ◌≡◌, Bool, ◌&&◌, List, [], leb, ltb}
 use Rattle.ebpf.specs.IndexKeys.{index_key, key_in}
 use Rattle.elf_parser.specs.SectionNames.{same_bytes}
+use Rattle.std.specs.Borrow.{Bor}
+use Rattle.program.specs.declared.HashedLegacy.{HashedLegacy}
 use Rattle.program.specs.declared.FunctionName.{FunctionName}
 use Rattle.program.specs.declared.FunctionName.TheVariants.{Symbol}
 use Rattle.program.specs.HashedLegacy.{LegacyResult, entrypoint, legacy_row}
@@ -11,6 +13,16 @@ use Rattle.loader.specs.Addresses.{sum_up_to}
 -- a lent table that gives every index its key
 abbrev pub Keyed : List ℕ → Type 0
 Keyed table = (i : ℕ) → key_in table i ≡ index_key i
+
+-- what a job registers its functions by, with these keys of the first indices and these built-ins
+abbrev pub hashed_legacy : Bor (List ℕ) → Bor (List ℕ) → Job → HashedLegacy
+hashed_legacy table builtins j = record {
+  table = table;
+  builtins = builtins;
+  version2 = j.version2;
+  check_collision = j.check_collision;
+  labels = j.labels;
+}
 
 -- the row; its key is worked out, the table of keys being empty
 unfoldable pub row_for : List ℕ → Job → FunctionName → ℕ → LegacyResult

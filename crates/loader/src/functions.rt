@@ -1,6 +1,6 @@
 // The row that a function is registered as.
 ghost use Rattle.std.specs.Prelude.{◌≡◌, ◌≤◌, ◌^◌, length};
-ghost use Rattle.loader.specs.Functions.{row_for, symbol_function};
+ghost use Rattle.loader.specs.Functions.{hashed_legacy, row_for, symbol_function};
 
 use crate::inputs::Inputs;
 use elf_parser::Place;
@@ -10,7 +10,7 @@ impl<'a> Inputs<'a> {
     // What functions are registered by, beside their names and indices.
     #[inline(always)]
     pub(crate) fn hashed_legacy(&self) -> HashedLegacy<'a>
-        ensures { result ≡ record { table = self.now.table; builtins = self.now.builtins; version2 = self.now.job.version2; check_collision = self.now.job.check_collision; labels = self.now.job.labels } }
+        ensures { result ≡ hashed_legacy self.now.table self.now.builtins self.now.job }
     {
         HashedLegacy {
             table: self.table,
