@@ -5,21 +5,22 @@ use Rattle.ebpf.specs.Choice.{◌if◌else◌}
 use Rattle.elf_parser.specs.declared.error.ElfParserError.{ElfParserError}
 use Rattle.elf_parser.specs.declared.error.ElfParserError.TheVariants.{InvalidFileHeader, InvalidProgramHeader, InvalidSectionHeader, StringTooLong, OutOfBounds, InvalidSize, Overlap, SectionNotInOrder, NoSectionNameStringTable, InvalidDynamicSectionTable, InvalidAlignment, NoStringTable, NoDynamicStringTable, NoSuchIndex, NotASection, StringUnterminated}
 use Rattle.elf_parser.specs.declared.error.Report.{Report}
+use Rattle.elf_parser.specs.declared.parts.Place.{Place}
 
 -- a refusal that has a number and nothing else
 abbrev pub plain : ℕ → Report
 plain n = record { number = n; value = 0; start = 0; length = 0 }
 
 -- and one that speaks of a name
-abbrev pub named : ℕ → ℕ → ℕ → Report
-named n start k = record { number = n; value = 0; start = start; length = k }
+abbrev pub named : ℕ → Place → Report
+named n p = record { number = n; value = 0; start = p.start; length = p.length }
 
 -- the numbers of the scope
 abbrev pub report_of : ElfParserError → Report
 report_of InvalidFileHeader = plain 1
 report_of InvalidProgramHeader = plain 2
 report_of InvalidSectionHeader = plain 3
-report_of (StringTooLong start n) = named 4 start n
+report_of (StringTooLong p) = named 4 p
 report_of OutOfBounds = plain 5
 report_of InvalidSize = plain 6
 report_of Overlap = plain 7
@@ -31,7 +32,7 @@ report_of NoStringTable = plain 12
 report_of NoDynamicStringTable = plain 13
 report_of NoSuchIndex = plain 45
 report_of NotASection = plain 46
-report_of (StringUnterminated start n) = named 49 start n
+report_of (StringUnterminated p) = named 49 p
 
 -- a check: it passes, or names what it refuses
 abbrev pub Check : Type 0

@@ -6,6 +6,7 @@ use Rattle.elf_parser.specs.declared.error.ElfParserError.TheVariants.{InvalidFi
 use Rattle.elf_parser.specs.declared.types.Elf64Ehdr.{Elf64Ehdr}
 use Rattle.elf_parser.specs.declared.types.Elf64Shdr.{Elf64Shdr}
 use Rattle.elf_parser.specs.declared.layout.Layout.{Layout}
+use Rattle.elf_parser.specs.declared.parts.Place.{Place}
 use Rattle.elf_parser.specs.declared.section_headers.Ranges.{Ranges}
 use Rattle.elf_parser.specs.declared.records.Entries.{Entries}
 use Rattle.elf_parser.specs.declared.dynamic.Linked.{Linked}
@@ -27,18 +28,22 @@ long_names = replicate 200 97
 abbrev names_of : ℕ → Elf64Shdr
 names_of n = record { sh_name = 0; sh_type = 3; sh_flags = 0; sh_addr = 0; sh_offset = 4; sh_size = n }
 
+-- so many bytes from a place on
+abbrev part : ℕ → ℕ → Place
+part start n = record { start = start; length = n }
+
 -- no zero byte from the fourth of a table on: it ends one byte before the 16th byte of the name, at it, and one behind; the same for 64
 cut_off :
     string_in long_names (names_of 18) 3 16 ∷ string_in long_names (names_of 19) 3 16 ∷ string_in long_names (names_of 20) 3 16
     ∷ string_in long_names (names_of 66) 3 64 ∷ string_in long_names (names_of 67) 3 64 ∷ string_in long_names (names_of 68) 3 64 ∷ []
-    ≡ Err (StringUnterminated 7 15) ∷ Err (StringTooLong 7 16) ∷ Err (StringTooLong 7 16)
-    ∷ Err (StringUnterminated 7 63) ∷ Err (StringTooLong 7 64) ∷ Err (StringTooLong 7 64) ∷ []
+    ≡ Err (StringUnterminated (part 7 15)) ∷ Err (StringTooLong (part 7 16)) ∷ Err (StringTooLong (part 7 16))
+    ∷ Err (StringUnterminated (part 7 63)) ∷ Err (StringTooLong (part 7 64)) ∷ Err (StringTooLong (part 7 64)) ∷ []
 unfolding string_in string_check terminated no_zero before_zero ◌if◌else◌
 cut_off = refl
 
 -- a name that starts where the table ends is cut off with no bytes, and one further it is outside, for either limit
 name_at_end : string_in (replicate 120 0) (names_of 40) 40 16 ∷ string_in (replicate 120 0) (names_of 40) 41 16 ∷ string_in (replicate 120 0) (names_of 40) 40 64 ∷ string_in (replicate 120 0) (names_of 40) 41 64 ∷ []
-    ≡ Err (StringUnterminated 44 0) ∷ Err OutOfBounds ∷ Err (StringUnterminated 44 0) ∷ Err OutOfBounds ∷ []
+    ≡ Err (StringUnterminated (part 44 0)) ∷ Err OutOfBounds ∷ Err (StringUnterminated (part 44 0)) ∷ Err OutOfBounds ∷ []
 unfolding string_in string_check terminated no_zero before_zero ◌if◌else◌
 name_at_end = refl
 

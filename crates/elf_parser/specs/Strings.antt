@@ -35,17 +35,17 @@ before_zero zero s at = 0
 before_zero (suc n) s at = 0 if eqb (get_or s at 0) 0 else suc (before_zero n s (at + 1))
 
 -- no zero byte: `cut` says whether the section ends before the limit
-unfoldable pub no_zero : Bool → ℕ → ℕ → ElfParserError
-no_zero cut start k =
-    StringUnterminated start k if cut else
-    StringTooLong start k
+unfoldable pub no_zero : Bool → Place → ElfParserError
+no_zero cut p =
+    StringUnterminated p if cut else
+    StringTooLong p
 
 -- the n bytes from `start` on up to their first zero byte
 unfoldable pub terminated : Bool → ℕ → List ℕ → ℕ → Result Place ElfParserError
 terminated cut n s start =
     let k : ℕ = before_zero n s start in
     stands start k if ltb k n else
-    Err (no_zero cut start k)
+    Err (no_zero cut (record { start = start; length = k }))
 
 -- the name at an offset of a string table, of fewer than `most` bytes
 unfoldable pub string_in : List ℕ → Elf64Shdr → ℕ → ℕ → Result Place ElfParserError
@@ -125,12 +125,12 @@ module _ (missing : ElfParserError) (start end : ℕ) (s : List ℕ) (o : start 
       go false q = refl
 
 -- with the refusal that a name without an end has
-pub ended_terminated : (cut : Bool) (n : ℕ) (s : List ℕ) (start : ℕ) → ended (no_zero cut start n) n s start ≡ terminated cut n s start
+pub ended_terminated : (cut : Bool) (n : ℕ) (s : List ℕ) (start : ℕ) → ended (no_zero cut (record { start = start; length = n })) n s start ≡ terminated cut n s start
 unfolding ended terminated ◌if◌else◌
 ended_terminated cut n s start = go (ltb (before_zero n s start) n) refl
   where
     go : (b : Bool) → ltb (before_zero n s start) n ≡ b
-        → (stands start (before_zero n s start) if b else Err (no_zero cut start n)) ≡ (stands start (before_zero n s start) if b else Err (no_zero cut start (before_zero n s start)))
+        → (stands start (before_zero n s start) if b else Err (no_zero cut (record { start = start; length = n }))) ≡ (stands start (before_zero n s start) if b else Err (no_zero cut (record { start = start; length = before_zero n s start })))
     go true p = refl
     go false p = let k : before_zero n s start ≡ n = omega (arith, before_most n start s, ltb-false _ _ p) in rw k
 

@@ -9,9 +9,8 @@ pub enum ElfParserError {
     InvalidFileHeader,
     InvalidProgramHeader,
     InvalidSectionHeader,
-    // No zero byte within the limit: where the name starts in the file, and how many bytes were
-    // looked at.
-    StringTooLong { start: usize, length: usize },
+    // No zero byte within the limit: the place of the bytes that were looked at.
+    StringTooLong(Place),
     OutOfBounds,
     InvalidSize,
     Overlap,
@@ -24,7 +23,7 @@ pub enum ElfParserError {
     NoSuchIndex,
     NotASection,
     // The same where the section ends before the limit.
-    StringUnterminated { start: usize, length: usize },
+    StringUnterminated(Place),
 }
 
 // A refusal in numbers: its number, its value, and the place of the name that it speaks of.
@@ -66,7 +65,7 @@ impl From<ElfParserError> for Report {
             ElfParserError::InvalidFileHeader => plain(1),
             ElfParserError::InvalidProgramHeader => plain(2),
             ElfParserError::InvalidSectionHeader => plain(3),
-            ElfParserError::StringTooLong { start, length } => named(4, Place { start, length }),
+            ElfParserError::StringTooLong(place) => named(4, place),
             ElfParserError::OutOfBounds => plain(5),
             ElfParserError::InvalidSize => plain(6),
             ElfParserError::Overlap => plain(7),
@@ -78,9 +77,7 @@ impl From<ElfParserError> for Report {
             ElfParserError::NoDynamicStringTable => plain(13),
             ElfParserError::NoSuchIndex => plain(45),
             ElfParserError::NotASection => plain(46),
-            ElfParserError::StringUnterminated { start, length } => {
-                named(49, Place { start, length })
-            }
+            ElfParserError::StringUnterminated(place) => named(49, place),
         }
     }
 }

@@ -11,13 +11,13 @@ use crate::types::Elf64Shdr;
 // Why a name has no end: the section ends before the limit does, or the name is too long.
 // Kept: `cut` says which of two refusals it is and chooses no step; the refusal itself is what is handed on.
 #[tactic(auto, using(ebpf::specs::Choice::choices), unfolding(crate::specs::Strings::no_zero))]
-fn no_zero(cut: bool, start: usize, length: usize) -> ElfParserError
-    ensures { result ≡ no_zero cut start length }
+fn no_zero(cut: bool, place: Place) -> ElfParserError
+    ensures { result ≡ no_zero cut place }
 {
     if cut {
-        return ElfParserError::StringUnterminated { start, length };
+        return ElfParserError::StringUnterminated(place);
     }
-    ElfParserError::StringTooLong { start, length }
+    ElfParserError::StringTooLong(place)
 }
 
 // The index of the first zero byte.
@@ -72,6 +72,10 @@ pub fn get_string_in_section(
     if (file.len() as u64) < end {
         return Err(ElfParserError::OutOfBounds);
     }
-    let missing = no_zero(section_end < limit, start as usize, (end - start) as usize);
+    let searched = Place {
+        start: start as usize,
+        length: (end - start) as usize,
+    };
+    let missing = no_zero(section_end < limit, searched);
     name_from(file, start as usize, end as usize, missing)
 }

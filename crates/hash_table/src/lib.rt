@@ -13,7 +13,7 @@ use std::ops::ControlFlow;
 fn sum_with(h: u32, byte: u8) -> u32
     ensures { result ≡ sum_with h byte }
 {
-    ((h as u64 * 16 + byte as u64) % 0x1_0000_0000) as u32
+    (h << 4).wrapping_add(byte as u32)
 }
 
 // g: the four highest bits of the sum.
@@ -27,7 +27,7 @@ fn high_bits(h: u32) -> u32
 fn without_high(h: u32, g: u32) -> u32
     ensures { result ≡ without_high h g }
 {
-    (h ^ (g >> 24)) & (0xffff_ffff - g)
+    (h ^ (g >> 24)) & !g
 }
 
 // The state after a byte.
