@@ -50,14 +50,14 @@ use Rattle.call_depth.proofs.Few.{rows_few, settle_room}
 pub record Kept (file : List ℕ) (n rows : ℕ) (j : Job) (a : Accepted) : Type 0 where
   pub room : a.used ≤ rows
   pub few : a.used ≤ 2 ^ 24
-  pub text : a.text_start + a.text_length ≤ length file
+  pub text : a.text.start + a.text.length ≤ length file
   pub short : length file ≤ 2 ^ 24
   pub lent : length file ≤ n
   pub entry_is : a.entry ≡ entry_index j
 
 module _ (file builtins : List ℕ) (c : Config) (n m rows : ℕ) where
   module _ (j : Job) (ready : prepared file builtins c n m ≡ Ok j) (im : List ℕ) (held : List Row) (moves : ℕ) (settles : settle rows (job_trace file builtins j file) [] 0 ≡ accepted im held moves) where
-    kept_as : (x : Accepted) → x.used ≡ length held → x.text_start ≡ j.start → x.text_length ≡ j.length → x.entry ≡ entry_index j → Kept file n rows j x
+    kept_as : (x : Accepted) → x.used ≡ length held → x.text.start ≡ j.text.start → x.text.length ≡ j.text.length → x.entry ≡ entry_index j → Kept file n rows j x
     kept_as x u s l t =
         let f = readied file builtins c n m j ready in
         record {
@@ -70,8 +70,8 @@ module _ (file builtins : List ℕ) (c : Config) (n m rows : ℕ) where
         }
 
     placed_kept : (p : Result Placing ElfError) (a : Accepted) → answer_of (held_by file j m p im held moves) ≡ Ok a → Kept file n rows j a
-    placed_kept (Ok (Borrowed offset start k)) a e = let q : accepted_as j false offset start k (length held) moves ≡ a = cc in rw (← q) (kept_as _ refl refl refl refl)
-    placed_kept (Ok (Owned offset lowest k)) a e = let q : accepted_as j true offset 0 k (length held) moves ≡ a = cc in rw (← q) (kept_as _ refl refl refl refl)
+    placed_kept (Ok (Borrowed offset start k)) a e = let q : accepted_as j offset (Some start) k (length held) moves ≡ a = cc in rw (← q) (kept_as _ refl refl refl refl)
+    placed_kept (Ok (Owned offset lowest k)) a e = let q : accepted_as j offset None k (length held) moves ≡ a = cc in rw (← q) (kept_as _ refl refl refl refl)
     placed_kept (Err r) a e = absurd (zero_one (cc))
 
     -- the entry's registration is one of the load's
@@ -151,8 +151,8 @@ pub record Made (file builtins : List ℕ) (c : Config) (n m : ℕ) (t₀ : Slic
   pub keyed : Demand3 file builtins c n m t₀ im t r
   pub ascending : OnUsed r (λ used. IsTable t used)
 
-pub made : (file builtins : Shared) (c : Config) (image ro : Lent) (t₀ t : Slices) (r : Result Accepted ElfError) → Loads file builtins c image ro t₀ t r
-    → Made file.entry.now builtins.entry.now c (length image.entry.now) (length ro.entry.now) t₀ image.exit.now t r
+pub made : (file : Shared) (builtins : List ℕ) (c : Config) (image ro : Lent) (t₀ t : Slices) (r : Result Accepted ElfError) → Loads file builtins c image ro t₀ t r
+    → Made file.entry.now builtins c (length image.entry.now) (length ro.entry.now) t₀ image.exit.now t r
 made file builtins c image ro t₀ t r l = record { answers = l.loaded.answers; image = l.loaded.demand_1.image; keyed = l.keyed; ascending = l.ascending }
 
 module _ (file builtins : List ℕ) (c : Config) (n m : ℕ) (t₀ : Slices) (im : List ℕ) (t : Slices) (a : Accepted) (l : Made file builtins c n m t₀ im t (Ok a)) where
@@ -160,12 +160,12 @@ module _ (file builtins : List ℕ) (c : Config) (n m : ℕ) (t₀ : Slices) (im
   source = from file builtins c n m (capacity t₀) a (sym l.answers)
 
   -- ITS NUMBERS PASS
-  pub fits_after : fits_in (capacity t₀) (length im) a.used a.text_start a.text_length ≡ true
+  pub fits_after : fits_in (capacity t₀) (length im) a.used a.text.start a.text.length ≡ true
   unfolding fits_in
   fits_after =
       let k = source.kept in
       let long : n ≤ length im = rw l.image (image_long n (load_of file builtins c n m (capacity t₀))) in
-      rw (le-leb a.used (capacity t₀) k.room, lt-ltb a.used 0x4000_0000 (omega (arith, k.few)), le-leb a.text_length 0x100_0000 (omega (arith, k.text, k.short)), le-ltb (length im) (a.text_start + a.text_length) (omega (arith, k.text, k.lent, long))) refl
+      rw (le-leb a.used (capacity t₀) k.room, lt-ltb a.used 0x4000_0000 (omega (arith, k.few)), le-leb a.text.length 0x100_0000 (omega (arith, k.text, k.short)), le-ltb (length im) (a.text.start + a.text.length) (omega (arith, k.text, k.lent, long))) refl
 
   -- in both versions a key finds the entry
   finds_entry : (key : ℕ) × Finds (lookup_in t a.used) key a.entry

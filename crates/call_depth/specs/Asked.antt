@@ -38,8 +38,8 @@ fits_in rows len used start n = (leb used rows && ltb used 0x4000_0000) && (leb 
 unfoldable pub depth_by : ℕ → ℕ → List ℕ → List ℕ → List ℕ → Accepted → ℕ → CallDepth
 depth_by work rows image keys indices a limit =
     Err (Refused BufferShort) if ltb work rows else
-    Err (Refused ValueOutOfBounds) if not (fits_in rows (length image) a.used a.text_start a.text_length) else
-    depth_in (take a.text_length (drop a.text_start image)) (take a.used keys) (take a.used indices) (eqb a.version 2) a.entry limit
+    Err (Refused ValueOutOfBounds) if not (fits_in rows (length image) a.used a.text.start a.text.length) else
+    depth_in (take a.text.length (drop a.text.start image)) (take a.used keys) (take a.used indices) (eqb a.version 2) a.entry limit
 
 -- HOW DEEP THE PROFILE CALLS, by a load's answer
 abbrev pub depth_asked : ℕ → ℕ → List ℕ → List ℕ → List ℕ → Result Accepted ElfError → ℕ → CallDepth

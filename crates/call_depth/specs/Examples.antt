@@ -1,5 +1,5 @@
 -- Worked examples, each by computation.
-use Rattle.std.specs.Prelude.{ℕ, true, false, List, [], ◌∷◌, ◌++◌, ◌≡◌, refl, Ok, Err}
+use Rattle.std.specs.Prelude.{ℕ, true, false, List, [], ◌∷◌, ◌++◌, ◌≡◌, refl, Some, Ok, Err}
 use Rattle.ebpf.specs.Choice.{◌if◌else◌}
 use Rattle.ebpf.specs.Instructions.{slot_at, insn_at}
 use Rattle.ebpf.specs.LittleEndian.{le, bytes_of}
@@ -89,13 +89,11 @@ answer entry used start = record {
   entry = entry;
   used = used;
   moves = 0;
-  ro_copied = false;
   ro_offset = 0;
-  ro_start = 0;
+  ro_start = Some 0;
   ro_length = 0;
   text_addr = 0x1_0000_0000;
-  text_start = start;
-  text_length = 24;
+  text = record { start = start; length = 24 };
 }
 
 abbrev ask : ℕ → Accepted → CallDepth

@@ -5,7 +5,8 @@ use Rattle.loader.specs.declared.error.ElfError.{ElfError}
 use Rattle.loader.specs.declared.answer.Accepted.{Accepted}
 use Rattle.loader.specs.declared.validate.Config.{Config}
 use Rattle.loader.specs.Loads.{Loads}
-use Rattle.call_depth.specs.declared.LoadDepth.{LoadDepth}
+use Rattle.loader.specs.declared.answer.LoadAnd.{LoadAnd}
+use Rattle.call_depth.specs.declared.error.CallDepthError.{CallDepthError}
 use Rattle.call_depth.specs.Asked.{CallDepth, limit_of, depth_asked}
 use Rattle.call_depth.specs.Meaning.{FunctionCalls, Means}
 
@@ -16,8 +17,8 @@ MeansOf (Err r) im t rows work limit x = Unit {0}
 
 -- all that `load` promises, whatever comes of the question, and how deep the profile calls; the table holds t at the call, and t' on return. What `work`
 -- holds afterwards is left free
-pub record LoadsAndMeasures (file builtins : Shared) (c : Config) (image ro : Lent) (t t' : Slices) (work : Lent) (limit : ℕ) (r : LoadDepth) : Type 0 where
+pub record LoadsAndMeasures (file : Shared) (builtins : List ℕ) (c : Config) (image ro : Lent) (t t' : Slices) (work : Lent) (limit : ℕ) (r : LoadAnd (Result ℕ CallDepthError)) : Type 0 where
   pub loads : Loads file builtins c image ro t t' r.load
-  pub measures : r.depth ≡ depth_asked (length work.entry.now) (capacity t) image.exit.now t'.keys t'.indices r.load limit
+  pub measures : r.asked ≡ depth_asked (length work.entry.now) (capacity t) image.exit.now t'.keys t'.indices r.load limit
   -- and what that means, by the calls that stand in the image and find their function in the table
-  pub means : MeansOf r.load image.exit.now t' (capacity t) (length work.entry.now) limit r.depth
+  pub means : MeansOf r.load image.exit.now t' (capacity t) (length work.entry.now) limit r.asked

@@ -14,7 +14,7 @@ use Rattle.call_depth.specs.Asked.{CallDepth, limit_of}
 
 -- the text's bytes in an image, and the indices of the used rows of a table
 abbrev pub text_of_image : Accepted → List ℕ → List ℕ
-text_of_image a im = take a.text_length (drop a.text_start im)
+text_of_image a im = take a.text.length (drop a.text.start im)
 
 abbrev pub used_indices : Accepted → Slices → List ℕ
 used_indices a t = take a.used t.indices

@@ -13,7 +13,7 @@ ghost use Rattle.call_depth.specs.Loads.{LoadsAndMeasures};
 
 use call_graph::Recursive;
 use elf_parser::past;
-use loader::{Accepted, Config, ElfError, load};
+use loader::{Accepted, BuiltinProgram, ElfError, LoadAnd, load};
 use profile::Profile;
 use program::{FunctionRegistry, FunctionTable};
 use slots::FLAG;
@@ -26,13 +26,6 @@ mod settling;
 mod slots;
 
 pub use error::CallDepthError;
-
-// What a load answers, and how deep the profile calls.
-#[derive(Clone, Copy, PartialEq, Eq, Debug)]
-pub struct LoadDepth {
-    pub load: Result<Accepted, ElfError>,
-    pub depth: Result<u32, CallDepthError>,
-}
 
 impl Profile<'_> {
     // From the function of row `entry`.
@@ -87,10 +80,10 @@ fn limited(limit: u32, depth: Result<u32, Recursive>) -> Result<u32, CallDepthEr
 
 #[tactic(auto, unfolding(crate::specs::Asked::fits_in))]
 fn fits_in(rows: usize, len: usize, a: Accepted) -> bool
-    ensures { result ≡ fits_in rows len a.used a.text_start a.text_length }
+    ensures { result ≡ fits_in rows len a.used a.text.start a.text.length }
 {
-    let outside = past(len as u64, a.text_start as u64, a.text_length as u64);
-    ((a.used <= rows) & (a.used < 0x4000_0000)) & ((a.text_length <= 0x100_0000) & !outside)
+    let outside = past(len as u64, a.text.start as u64, a.text.length as u64);
+    ((a.used <= rows) & (a.used < 0x4000_0000)) & ((a.text.length <= 0x100_0000) & !outside)
 }
 
 // By an accepted load's answer.
@@ -114,7 +107,7 @@ fn depth_by(
     }
     let used = a.used;
     let profile = Profile {
-        text: &image[a.text_start..a.text_start + a.text_length],
+        text: &image[a.text.start..a.text.start + a.text.length],
         keys: &table.keys[..used],
         indices: &table.indices[..used],
         version2: a.version == 2,
@@ -142,22 +135,21 @@ pub fn call_depth(
 // refused.
 pub fn load_call_depth(
     file: &[u8],
-    builtins: &[u32],
-    config: Config,
+    loader: BuiltinProgram<'_>,
     image: &mut [u8],
     ro_section: &mut [u8],
     registry: &mut FunctionRegistry<'_>,
     work: &mut [u32],
     limit: u32,
-) -> LoadDepth
+) -> LoadAnd<Result<u32, CallDepthError>>
     ensures same { SameColumns registry.old registry.new }
     ensures lens { SameLens (columns_of registry.old) (columns_of registry.new) }
-    ensures measures { LoadsAndMeasures file builtins config image ro_section (columns_of registry.old) (columns_of registry.new) work limit result }
+    ensures measures { LoadsAndMeasures file loader.entry.functions.now loader.entry.config image ro_section (columns_of registry.old) (columns_of registry.new) work limit result }
     ensures used { registry.new.used ≡ used_of result.load }
 {
-    let answer = load(file, builtins, config, image, ro_section, registry);
-    LoadDepth {
+    let answer = load(file, loader, image, ro_section, registry);
+    LoadAnd {
         load: answer,
-        depth: call_depth(work, image, registry.as_table(), answer, limit),
+        asked: call_depth(work, image, registry.as_table(), answer, limit),
     }
 }

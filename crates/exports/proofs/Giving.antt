@@ -38,7 +38,7 @@ one_by_one r k i d s l ek ei ed es el = λ x. record { keys = ek x; indices = ei
 
 -- a load's answer given, with the columns that it left
 pub given : (file builtins : Shared) (settings : ℕ) (image ro keys indices kinds starts lengths answer : Lent) (r : ℕ) (c : Config) → c ≡ config_of settings
-    → (t : Slices) (a : Result Accepted ElfError) → Loads file builtins c image ro (table_before keys indices kinds starts lengths) t a
+    → (t : Slices) (a : Result Accepted ElfError) → Loads file builtins.entry.now c image ro (table_before keys indices kinds starts lengths) t a
     → t ≡ table_after keys indices kinds starts lengths
     → (b : Answer)
     → b ≡ load_answer a
@@ -48,7 +48,7 @@ given file builtins settings image ro keys indices kinds starts lengths answer r
     let before = table_before keys indices kinds starts lengths in
     let after = table_after keys indices kinds starts lengths in
     let d = config_of settings in
-    let here : Loads file builtins c image ro before after a = subst (λ (u : Slices). Loads file builtins c image ro before u a) left did in
+    let here : Loads file builtins.entry.now c image ro before after a = subst (λ (u : Slices). Loads file builtins.entry.now c image ro before u a) left did in
     record {
       loads = record {
         loaded = loaded_by file.entry.now builtins.entry.now image.entry.now ro.entry.now before c d e image.exit.now ro.exit.now after a here.loaded;

@@ -9,7 +9,7 @@ use Rattle.loader.specs.declared.error.ElfError.{ElfError}
 use Rattle.loader.specs.declared.answer.Accepted.{Accepted}
 use Rattle.loader.specs.declared.validate.Config.{Config}
 use Rattle.loader.specs.Load.{Loading, load_of, answer_of, Loaded}
-use Rattle.writers.specs.declared.LoadWrote.{LoadWrote}
+use Rattle.loader.specs.declared.answer.LoadAnd.{LoadAnd}
 use Rattle.writers.specs.declared.Writer.{Writer}
 use Rattle.writers.specs.Loads.{LoadsAndTells}
 use Rattle.writers.specs.Writers.{wrote_of}
@@ -39,20 +39,20 @@ module _ (file builtins im ro : List ℕ) (t : Slices) where
 
 -- a load's answer and the question's given, with the columns that it left
 pub given : (file builtins : Shared) (settings : ℕ) (image ro keys indices kinds starts lengths : Lent) (offset : ℕ) (answer : Lent) (r : ℕ) (c : Config) → c ≡ config_of settings
-    → (t : Slices) (a : LoadWrote) → LoadsAndTells file builtins c image ro (table_before keys indices kinds starts lengths) t offset a
+    → (t : Slices) (a : LoadAnd (Result Writer ElfError)) → LoadsAndTells file builtins.entry.now c image ro (table_before keys indices kinds starts lengths) t offset a
     → t ≡ table_after keys indices kinds starts lengths
     → (b : Answer)
-    → b ≡ load_wrote_answer a.load a.wrote
+    → b ≡ load_wrote_answer a.load a.asked
     → Gives b answer r
     → GivesLoadWrote file builtins settings image ro keys indices kinds starts lengths offset answer r
 given file builtins settings image ro keys indices kinds starts lengths offset answer r c e t a did left b is g =
     let before = table_before keys indices kinds starts lengths in
     let after = table_after keys indices kinds starts lengths in
     let d = config_of settings in
-    let here : LoadsAndTells file builtins c image ro before after offset a = subst (λ (u : Slices). LoadsAndTells file builtins c image ro before u offset a) left did in
+    let here : LoadsAndTells file builtins.entry.now c image ro before after offset a = subst (λ (u : Slices). LoadsAndTells file builtins.entry.now c image ro before u offset a) left did in
     let n = length image.entry.now in
     let m = length ro.entry.now in
-    let wrote : a.wrote ≡ wrote_of file.entry.now builtins.entry.now d n m (capacity before) offset = wrote_by file.entry.now builtins.entry.now n m (capacity before) c d e offset a.wrote here.tells in
+    let wrote : a.asked ≡ wrote_of file.entry.now builtins.entry.now d n m (capacity before) offset = wrote_by file.entry.now builtins.entry.now n m (capacity before) c d e offset a.asked here.tells in
     record {
       loads = record {
         loads = record {
@@ -63,5 +63,5 @@ given file builtins settings image ro keys indices kinds starts lengths offset a
         tells = refl;
         kept = λ h. here.kept (wrote ∙ h);
       };
-      gives = both_given file.entry.now builtins.entry.now image.entry.now ro.entry.now before c d e image.exit.now ro.exit.now after a.load here.loads.loaded a.wrote (wrote_of file.entry.now builtins.entry.now d n m (capacity before) offset) wrote b answer.entry.now answer.exit.now r is g;
+      gives = both_given file.entry.now builtins.entry.now image.entry.now ro.entry.now before c d e image.exit.now ro.exit.now after a.load here.loads.loaded a.asked (wrote_of file.entry.now builtins.entry.now d n m (capacity before) offset) wrote b answer.entry.now answer.exit.now r is g;
     }

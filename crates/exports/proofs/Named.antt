@@ -62,7 +62,7 @@ unfolding refusal_name names name_in bytes ◌if◌else◌
 parse_named InvalidFileHeader = named 1 refl
 parse_named InvalidProgramHeader = named 2 refl
 parse_named InvalidSectionHeader = named 3 refl
-parse_named (StringTooLong start n) = named 4 refl
+parse_named (StringTooLong p) = named 4 refl
 parse_named OutOfBounds = named 5 refl
 parse_named InvalidSize = named 6 refl
 parse_named Overlap = named 7 refl
@@ -74,20 +74,20 @@ parse_named NoStringTable = named 12 refl
 parse_named NoDynamicStringTable = named 13 refl
 parse_named NoSuchIndex = named 45 refl
 parse_named NotASection = named 46 refl
-parse_named (StringUnterminated start n) = named 49 refl
+parse_named (StringUnterminated p) = named 49 refl
 
 pub load_named : (e : ElfError) → 0 < length (refusal_name (load.report_of e).number)
 unfolding refusal_name names name_in bytes ◌if◌else◌
 load_named (FailedToParse e) = parse_named e
 load_named EntrypointOutOfBounds = named 20 refl
 load_named InvalidEntrypoint = named 21 refl
-load_named (UnresolvedSymbol start n offset) = named 22 refl
+load_named (UnresolvedSymbol p offset) = named 22 refl
 load_named (RelativeJumpOutOfBounds slot) = named 23 refl
 load_named (SymbolHashCollision key) = named 24 refl
 load_named WrongAbi = named 25 refl
 load_named WrongMachine = named 26 refl
 load_named NotOneTextSection = named 27 refl
-load_named (WritableSectionNotSupported start n) = named 28 refl
+load_named (WritableSectionNotSupported p) = named 28 refl
 load_named InvalidVirtualAddress = named 29 refl
 load_named (UnknownRelocation k) = named 30 refl
 load_named WrongType = named 31 refl

@@ -1,6 +1,6 @@
 -- What the exported functions answer: a number, 0 or why there is nothing, and 23 words behind it.
 use Rattle.program.specs.declared.Row.{Row}
-use Rattle.std.specs.Prelude.{ℕ, zero, suc, unwrap_or, ◌-◌, ◌^◌, ◌≡◌, List, [], ◌∷◌, length, Option, Some, None, Result, Ok, Err}
+use Rattle.std.specs.Prelude.{ℕ, zero, suc, unwrap_or, ◌-◌, ◌^◌, ◌≡◌, List, [], ◌∷◌, length, Option, Some, None, is_none, Result, Ok, Err}
 use Rattle.std.specs.Int.{from_bool}
 use Rattle.elf_parser.specs.declared.error.ElfParserError.{ElfParserError}
 use Rattle.elf_parser.specs.declared.error.Report.{Report}
@@ -135,13 +135,13 @@ loaded_with number a last behind =
     ∷ a.entry
     ∷ a.used
     ∷ a.moves
-    ∷ from_bool a.ro_copied
+    ∷ from_bool (is_none a.ro_start)
     ∷ a.ro_offset
-    ∷ a.ro_start
+    ∷ unwrap_or a.ro_start 0
     ∷ a.ro_length
     ∷ a.text_addr
-    ∷ a.text_start
-    ∷ a.text_length
+    ∷ a.text.start
+    ∷ a.text.length
     ∷ last
     ∷ behind
     ∷ [])
@@ -154,8 +154,8 @@ load_answer (Err e) = reported (load.report_of e)
 pub record GivesLoad (file builtins : Shared) (settings : ℕ) (image ro keys indices kinds starts lengths answer : Lent) (r : ℕ) : Type 0 where
   pub loads :
       let before = table_before keys indices kinds starts lengths in
-      Loads file builtins (config_of settings) image ro before (table_after keys indices kinds starts lengths) (answer_of (load_of_lent file builtins (config_of settings) image ro before))
-  pub gives : Gives (load_answer (answer_of (load_of_lent file builtins (config_of settings) image ro (table_before keys indices kinds starts lengths)))) answer r
+      Loads file builtins.entry.now (config_of settings) image ro before (table_after keys indices kinds starts lengths) (answer_of (load_of_lent file builtins.entry.now (config_of settings) image ro before))
+  pub gives : Gives (load_answer (answer_of (load_of_lent file builtins.entry.now (config_of settings) image ro (table_before keys indices kinds starts lengths)))) answer r
 
 -- the text's place
 abbrev pub text_answer : Result Place ElfError → Answer

@@ -9,7 +9,7 @@ use Rattle.loader.specs.declared.answer.Accepted.{Accepted}
 use Rattle.loader.specs.declared.validate.Config.{Config}
 use Rattle.loader.specs.Errors as load
 use Rattle.loader.specs.Load.{load_of_lent, answer_of}
-use Rattle.writers.specs.declared.LoadWrote.{LoadWrote}
+use Rattle.loader.specs.declared.answer.LoadAnd.{LoadAnd}
 use Rattle.writers.specs.declared.Writer.{Writer}
 use Rattle.writers.specs.declared.text.LoadedText.{LoadedText}
 use Rattle.writers.specs.declared.Writer.TheVariants.{File, Call, Relocation}
@@ -50,7 +50,7 @@ abbrev pub version2_in : List ℕ → Bool
 version2_in loaded = eqb (get_or loaded 4 0) 2
 
 abbrev pub text_told : List ℕ → LoadedText
-text_told loaded = record { version2 = version2_in loaded; start = get_or loaded 13 0; length = get_or loaded 14 0 }
+text_told loaded = record { version2 = version2_in loaded; place = record { start = get_or loaded 13 0; length = get_or loaded 14 0 } }
 
 abbrev pub wrote_in : List ℕ → List ℕ → ℕ → Result Writer ElfError
 wrote_in file loaded b = asked_by file (text_told loaded) b
@@ -95,17 +95,17 @@ load_wrote_answer (Ok a) wrote = accepted_wrote a wrote
 load_wrote_answer (Err e) wrote = reported (load.report_of e)
 
 -- what comes of the load, in a table that holds t, and who wrote the byte
-abbrev pub load_wrote_of : Shared → Shared → Config → Lent → Lent → Slices → ℕ → LoadWrote
+abbrev pub load_wrote_of : Shared → List ℕ → Config → Lent → Lent → Slices → ℕ → LoadAnd (Result Writer ElfError)
 load_wrote_of file builtins c image ro t offset = record {
   load = answer_of (load_of_lent file builtins c image ro t);
-  wrote = wrote_of file.entry.now builtins.entry.now c (length image.entry.now) (length ro.entry.now) (capacity t) offset;
+  asked = wrote_of file.entry.now builtins c (length image.entry.now) (length ro.entry.now) (capacity t) offset;
 }
 
 -- WHAT `sbpf_load_who_wrote` PROMISES
 pub record GivesLoadWrote (file builtins : Shared) (settings : ℕ) (image ro keys indices kinds starts lengths : Lent) (offset : ℕ) (answer : Lent) (r : ℕ) : Type 0 where
   pub loads :
       let before = table_before keys indices kinds starts lengths in
-      LoadsAndTells file builtins (config_of settings) image ro before (table_after keys indices kinds starts lengths) offset (load_wrote_of file builtins (config_of settings) image ro before offset)
+      LoadsAndTells file builtins.entry.now (config_of settings) image ro before (table_after keys indices kinds starts lengths) offset (load_wrote_of file builtins.entry.now (config_of settings) image ro before offset)
   pub gives :
-      let x : LoadWrote = load_wrote_of file builtins (config_of settings) image ro (table_before keys indices kinds starts lengths) offset in
-      Gives (load_wrote_answer x.load x.wrote) answer r
+      let x : LoadAnd (Result Writer ElfError) = load_wrote_of file builtins.entry.now (config_of settings) image ro (table_before keys indices kinds starts lengths) offset in
+      Gives (load_wrote_answer x.load x.asked) answer r

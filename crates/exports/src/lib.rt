@@ -21,7 +21,7 @@ use answers::{
 use ebpf::hash_symbol_name;
 use elf_parser::{Elf64, parse};
 use hash_table::find_symbol;
-use loader::{Config, load, text_place};
+use loader::{BuiltinProgram, Config, load, text_place};
 use loading::{load_answer, text_answer};
 use names::refusal_name;
 use program::{FunctionRegistry, FunctionTable, index_ascending, row_ascending};
@@ -201,14 +201,11 @@ pub fn sbpf_load(
         lengths,
         used: 0,
     };
-    let a = load(
-        file,
-        builtins,
-        Config::from(settings),
-        image,
-        ro,
-        &mut registry,
-    );
+    let loader = BuiltinProgram {
+        functions: builtins,
+        config: Config::from(settings),
+    };
+    let a = load(file, loader, image, ro, &mut registry);
     give(answer, load_answer(a))
 }
 
@@ -260,18 +257,12 @@ pub fn sbpf_load_who_wrote(
         lengths,
         used: 0,
     };
-    let a = load_who_wrote(
-        file,
-        builtins,
-        Config::from(settings),
-        image,
-        ro,
-        &mut registry,
-        offset,
-    );
-    let load = a.load;
-    let wrote = a.wrote;
-    give(answer, load_wrote_answer(load, wrote))
+    let loader = BuiltinProgram {
+        functions: builtins,
+        config: Config::from(settings),
+    };
+    let a = load_who_wrote(file, loader, image, ro, &mut registry, offset);
+    give(answer, load_wrote_answer(a))
 }
 
 // Where the text stands among the read-only bytes of a load: by how many bytes are lent that hold

@@ -4,8 +4,8 @@ ghost use Rattle.exports.specs.Wrote.{kind_of, number_in, wrote_answer, refusal_
 
 use crate::answers::{Answer, answer_with, answered, reported, word_in};
 use crate::loading::loaded_with;
-use elf_parser::{ElfParserError, Report};
-use loader::{Accepted, ElfError, clear_words};
+use elf_parser::{ElfParserError, Place, Report};
+use loader::{Accepted, ElfError, LoadAnd, clear_words};
 use writers::{LoadedText, Writer, who_wrote_all_by, who_wrote_by};
 
 // Who wrote a byte, in words: the kind of the writer, and the number of the slot or of the relocation.
@@ -58,8 +58,10 @@ fn text_told(loaded: &[u64]) -> LoadedText
 {
     LoadedText {
         version2: word_in(loaded, 4) == 2,
-        start: word_in(loaded, 13) as usize,
-        length: word_in(loaded, 14) as usize,
+        place: Place {
+            start: word_in(loaded, 13) as usize,
+            length: word_in(loaded, 14) as usize,
+        },
     }
 }
 
@@ -106,11 +108,8 @@ fn accepted_wrote(a: Accepted, wrote: Result<Writer, ElfError>) -> Answer
     }
 }
 
-pub(crate) fn load_wrote_answer(
-    load: Result<Accepted, ElfError>,
-    wrote: Result<Writer, ElfError>,
-) -> Answer
-    ensures { result ≡ load_wrote_answer load wrote }
+pub(crate) fn load_wrote_answer(answers: LoadAnd<Result<Writer, ElfError>>) -> Answer
+    ensures { result ≡ load_wrote_answer answers.load answers.asked }
 {
-    answered(load, |a| accepted_wrote(a, wrote))
+    answered(answers.load, |a| accepted_wrote(a, answers.asked))
 }

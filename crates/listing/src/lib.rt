@@ -8,7 +8,7 @@ ghost use Rattle.listing.specs.Lines.{listed_load, lines_of, load_lines, Stores,
 
 use input::read_full;
 use lines::put_load;
-use loader::{Config, load};
+use loader::{BuiltinProgram, Config, load};
 use program::FunctionRegistry;
 use std::io;
 use std::io::{Read, Write};
@@ -51,8 +51,10 @@ fn list_load(out: &mut [u8], file: &[u8]) -> usize
     };
     let answer = load(
         file,
-        &builtins,
-        config,
+        BuiltinProgram {
+            functions: &builtins,
+            config,
+        },
         &mut image,
         &mut ro_section,
         &mut registry,

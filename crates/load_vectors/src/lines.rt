@@ -3,7 +3,7 @@ ghost use Rattle.std.specs.Prelude.{◌+◌, ◌≤◌, length};
 
 use ebpf::hash_symbol_name;
 use elf_parser::Report;
-use loader::{Accepted, ElfError, get_text_place};
+use loader::{Accepted, ElfError};
 use program::FunctionTable;
 use std::io;
 
@@ -17,9 +17,9 @@ fn print_refused(rt: &impl Print, r: Report) -> io::Result<()> {
 fn print_read_only(rt: &impl Print, a: Accepted) -> io::Result<()> {
     print!(rt;
         " {} {} {} {}",
-        u64::from(a.ro_copied),
+        u64::from(a.ro_start.is_none()),
         a.ro_offset,
-        a.ro_start,
+        a.ro_start.unwrap_or(0),
         a.ro_length
     )
 }
@@ -27,7 +27,7 @@ fn print_read_only(rt: &impl Print, a: Accepted) -> io::Result<()> {
 fn print_accepted(rt: &impl Print, a: Accepted) -> io::Result<()> {
     print!(rt; "accepted {} {} {} {}", a.version, a.entry, a.used, a.moves)?;
     print_read_only(rt, a)?;
-    print!(rt; " {} {} {}", a.text_addr, a.text_start, a.text_length)
+    print!(rt; " {} {} {}", a.text_addr, a.text.start, a.text.length)
 }
 
 // What the text part answers: 0, or the number of its refusal.
@@ -37,7 +37,7 @@ fn print_text_number(
     image_length: u64,
     ro_length: u64,
 ) -> io::Result<()> {
-    match get_text_place(a, image_length, ro_length) {
+    match a.get_text_place(image_length, ro_length) {
         Ok(_) => print!(rt; " 0"),
         Err(e) => print!(rt; " {}", Report::from(e).number),
     }
@@ -62,13 +62,6 @@ fn print_hash(rt: &impl Print, bytes: &[u8]) -> io::Result<()> {
     print!(rt; " {:08x}", hash_symbol_name(bytes))
 }
 
-// Puts the four bytes of a number at a place.
-fn put_u32(bytes: &mut [u8], at: usize, v: u32)
-    requires { at + 4 ≤ length bytes.old }
-{
-    bytes[at..at + 4].copy_from_slice(&v.to_le_bytes());
-}
-
 // Puts a column's numbers from a place on, as many as there is room for, and answers where they end.
 fn put_column(bytes: &mut [u8], at: usize, column: &[u32]) -> usize
     requires { at ≤ length bytes.old }
@@ -79,7 +72,7 @@ fn put_column(bytes: &mut [u8], at: usize, column: &[u32]) -> usize
         if bytes.len() - to < 4 {
             break;
         }
-        put_u32(bytes, to, *number);
+        bytes[to..to + 4].copy_from_slice(&number.to_le_bytes());
         to += 4;
     }
     to

@@ -6,7 +6,7 @@
 use ebpf::little_endian::read;
 use input::{RecordError, read_full};
 use lines::print_line;
-use loader::{Config, load};
+use loader::{BuiltinProgram, Config, load};
 use program::FunctionRegistry;
 use std::io;
 use std::io::Read;
@@ -84,13 +84,12 @@ fn fill_keys(keys: &mut [u32], bytes: &[u8]) {
 fn replay(
     rt: &impl Print,
     file: &[u8],
-    builtins: &[u32],
-    config: Config,
+    loader: BuiltinProgram<'_>,
     image: &mut [u8],
     ro_section: &mut [u8],
     registry: &mut FunctionRegistry<'_>,
 ) -> io::Result<()> {
-    let answer = load(file, builtins, config, image, ro_section, registry);
+    let answer = load(file, loader, image, ro_section, registry);
     print_line(rt, answer, image, ro_section, registry.as_table())
 }
 
@@ -117,11 +116,14 @@ fn lend(rt: &impl Print, c: Sizes, file: &[u8], builtins: &[u32]) -> Result<(), 
         lengths: &mut lengths[..c.lengths],
         used: 0,
     };
+    let loader = BuiltinProgram {
+        functions: builtins,
+        config: Config::from(c.settings),
+    };
     replay(
         rt,
         file,
-        builtins,
-        Config::from(c.settings),
+        loader,
         &mut image[..c.image],
         &mut ro_section[..c.ro_section],
         &mut registry,

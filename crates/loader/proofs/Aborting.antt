@@ -11,7 +11,7 @@ use mathlib.Core.List.{List}
 use lib.ListN.{length}
 use lib.Dec.{eqb}
 use borrow.Author.Tests.{ltb-false, lt-ltb, le-ltb, le-leb, lt-leb, not-false}
-use Rattle.std.specs.Prelude.{Ok, Err, Result}
+use Rattle.std.specs.Prelude.{Some, None, Ok, Err, Result}
 use Rattle.ebpf.specs.Choice.{◌if◌else◌, yes, no_go, not_first, row_rest, or_false, and_false}
 use Rattle.elf_parser.specs.declared.types.Elf64Ehdr.{Elf64Ehdr}
 use Rattle.elf_parser.specs.declared.types.Elf64Shdr.{Elf64Shdr}
@@ -37,7 +37,7 @@ use Rattle.loader.specs.Sections.{header_or, section_at, name_of, dot_text, outs
 use Rattle.loader.specs.ReadOnly.{shift_of, read_only, gathered, from_start, placing}
 use Rattle.loader.specs.Placed.{owned_fits, owned_room}
 use Rattle.loader.specs.Validate.{size_check, ascends, header_check, sections_check, text_check, job_of, file_check, is_version2, validated, parsed_then, prepared}
-use Rattle.loader.specs.GetBytes.{text_at, bytes_at, text_place, ro_place, lent_for, ro_of, text_place_of}
+use Rattle.loader.specs.GetBytes.{text_at, bytes_at, text_place, ro_place, lent_for, ro_start_of, ro_of, text_place_of}
 use Rattle.loader.specs.Load.{accepted_as, answer_by, load_of, answer_of}
 use Rattle.loader.proofs.Answered.{by_load}
 use Rattle.loader.proofs.Readied.{Lies, pick_in, in_file, sections_pass, text_passes, readied, placed_as}
@@ -133,7 +133,7 @@ record Texts (s : List ℕ) (c : Config) (j : Job) : Type 0 where
   index : ℕ
   listed : index < (file_header s).e_shnum
   named : read_only (name_of s j.layout (section_at s j.layout index)) ≡ true
-  stands : file_range_of s j.layout index ≡ stands j.start j.length
+  stands : file_range_of s j.layout index ≡ stands j.text.start j.text.length
   addr_is : j.sh_addr ≡ (section_at s j.layout index).sh_addr
   machine : j.addr ≡ machine_addr j.version2 j.sh_addr
   low : j.version2 ≡ false → j.sh_addr ≤ MM_PROGRAM_START
@@ -319,22 +319,22 @@ module _ (file builtins : List ℕ) (c : Config) (n m : ℕ) (j : Job) (ready : 
     ro_copied : ro_place m 0 k ≡ bytes_at 0 k
     ro_copied = ro_in m 0 k (omega (arith, fits, in_buffer))
 
-    text_copied : (text_place m offset 0 k j.addr j.length ≡ Err TextOutsideReadOnly) ↔ (lowest ≡ MM_PROGRAM_START)
+    text_copied : (text_place m offset 0 k j.addr j.text.length ≡ Err TextOutsideReadOnly) ↔ (lowest ≡ MM_PROGRAM_START)
     text_copied =
-        let r = owned_room file j.layout (file_header file).e_shnum j.version2 c.reject_broken_elfs c.optimize_rodata offset lowest k short (is_placed _ owns) t.index t.listed t.named (record { start = j.start; length = j.length }) t.stands in
+        let r = owned_room file j.layout (file_header file).e_shnum j.version2 c.reject_broken_elfs c.optimize_rodata offset lowest k short (is_placed _ owns) t.index t.listed t.named (record { start = j.text.start; length = j.text.length }) t.stands in
         let a = t.addr_is in
         let is : j.addr ≡ sum_up_to j.sh_addr MM_PROGRAM_START = t.machine ∙ ap (λ (v : Bool). machine_addr v j.sh_addr) copies.0 ∙ machine_1 j.sh_addr in
-        copied_text m offset lowest k j.addr j.sh_addr j.length (omega (arith, fits, in_buffer)) (omega (arith, fits, short)) is (t.low copies.0) (omega (arith, a, r.not_below)) (omega (arith, a, r.room)) copies.1
+        copied_text m offset lowest k j.addr j.sh_addr j.text.length (omega (arith, fits, in_buffer)) (omega (arith, fits, short)) is (t.low copies.0) (omega (arith, a, r.not_below)) (omega (arith, a, r.room)) copies.1
 
   -- the extent x of sections that stay in the image
-  module _ (offset start k : ℕ) (x : Extent) (all : Spans file j.layout j.version2 t.index j.length (file_header file).e_shnum x) (stay : Stays j.version2 x offset start k) where
+  module _ (offset start k : ℕ) (x : Extent) (all : Spans file j.layout j.version2 t.index j.text.length (file_header file).e_shnum x) (stay : Stays j.version2 x offset start k) where
     kept : (shift_of x ≤ x.lowest) × (x.highest ≤ shift_of x + length file)
     kept = all.shifts.kept stay.valid
 
     above : x.lowest ≤ j.sh_addr
     above = let i = (all.text t.listed).above in let a = t.addr_is in omega (arith, i, a)
 
-    below : j.sh_addr + j.length ≤ x.highest
+    below : j.sh_addr + j.text.length ≤ x.highest
     below =
         let i = (all.text t.listed).below in
         let h = (all.text t.listed).ahead in
@@ -344,33 +344,33 @@ module _ (file builtins : List ℕ) (c : Config) (n m : ℕ) (j : Job) (ready : 
 
     stay_in : start + k ≤ n
     stay_in =
-        let lie = stay_lie (length file) x.lowest x.highest (shift_of x) offset start k j.addr j.sh_addr j.length kept.0 kept.1 above below stay.offset_is stay.start_is stay.length_is in
+        let lie = stay_lie (length file) x.lowest x.highest (shift_of x) offset start k j.addr j.sh_addr j.text.length kept.0 kept.1 above below stay.offset_is stay.start_is stay.length_is in
         omega (arith, lie, in_image)
 
-    text_room : text_at j.addr offset + j.length ≤ k
-    text_room = by_test j.version2 (λ v. j.version2 ≡ v → text_at j.addr offset + j.length ≤ k)
-        (λ v on. stay_2 (length file) x.lowest x.highest (shift_of x) offset start k j.addr j.sh_addr j.length kept.0 kept.1 above below stay.offset_is stay.start_is stay.length_is
+    text_room : text_at j.addr offset + j.text.length ≤ k
+    text_room = by_test j.version2 (λ v. j.version2 ≡ v → text_at j.addr offset + j.text.length ≤ k)
+        (λ v on. stay_2 (length file) x.lowest x.highest (shift_of x) offset start k j.addr j.sh_addr j.text.length kept.0 kept.1 above below stay.offset_is stay.start_is stay.length_is
         (stay.above on)
         (t.machine ∙ ap (λ (b : Bool). machine_addr b j.sh_addr) on ∙ machine_2 j.sh_addr (let h = stay.above on in omega (arith, h, above))))
-        (λ v off. stay_1 (length file) x.lowest x.highest (shift_of x) offset start k j.addr j.sh_addr j.length kept.0 kept.1 above below stay.offset_is stay.start_is stay.length_is
+        (λ v off. stay_1 (length file) x.lowest x.highest (shift_of x) offset start k j.addr j.sh_addr j.text.length kept.0 kept.1 above below stay.offset_is stay.start_is stay.length_is
         short
         (all.shifts.plain off)
         (t.machine ∙ ap (λ (b : Bool). machine_addr b j.sh_addr) off ∙ machine_1 j.sh_addr))
         refl
 
   text_borrowed : (offset start k : ℕ) → j.placing ≡ Ok (Borrowed offset start k)
-      → (ro_place n start k ≡ bytes_at start k) × (text_place n offset start k j.addr j.length ≡ bytes_at (start + text_at j.addr offset) j.length)
+      → (ro_place n start k ≡ bytes_at start k) × (text_place n offset start k j.addr j.text.length ≡ bytes_at (start + text_at j.addr offset) j.text.length)
   text_borrowed offset start k e =
       let w = stays file j.layout (file_header file).e_shnum j.version2 c.reject_broken_elfs c.optimize_rodata offset start k (is_placed _ e) in
-      let all = spans file j.layout j.version2 c.reject_broken_elfs (file_header file).e_shnum t.index j.length t.lie t.named (record { start = j.start; length = j.length }) t.stands refl w.0 w.1 in
+      let all = spans file j.layout j.version2 c.reject_broken_elfs (file_header file).e_shnum t.index j.text.length t.lie t.named (record { start = j.text.start; length = j.text.length }) t.stands refl w.0 w.1 in
       let lies = stay_in offset start k w.0 all w.2 in
-      (ro_in n start k lies, text_in n offset start k j.addr j.length lies (text_room offset start k w.0 all w.2))
+      (ro_in n start k lies, text_in n offset start k j.addr j.text.length lies (text_room offset start k w.0 all w.2))
 
   -- both places of an answer
   abbrev Places : Accepted → Type 0
-  Places a = (ro_of a (lent_for a n m) ≡ bytes_at a.ro_start a.ro_length) × ((text_place_of a (lent_for a n m) ≡ Err TextOutsideReadOnly) ↔ FromStart j)
+  Places a = (ro_of a (lent_for a n m) ≡ bytes_at (ro_start_of a) a.ro_length) × ((text_place_of a (lent_for a n m) ≡ Err TextOutsideReadOnly) ↔ FromStart j)
 
-  owned_places : (used moves offset lowest k : ℕ) → j.placing ≡ Ok (Owned offset lowest k) → Places (accepted_as j true offset 0 k used moves)
+  owned_places : (used moves offset lowest k : ℕ) → j.placing ≡ Ok (Owned offset lowest k) → Places (accepted_as j offset None k used moves)
   unfolding ◌if◌else◌
   owned_places used moves offset lowest k owns =
       let r = text_copied offset lowest k owns in (
@@ -384,7 +384,7 @@ module _ (file builtins : List ℕ) (c : Config) (n m : ℕ) (j : Job) (ready : 
       same : (o i : ℕ) → j.placing ≡ Ok (Owned o MM_PROGRAM_START i) → lowest ≡ MM_PROGRAM_START
       same o i q = let w : Ok (Owned offset lowest k) ≡ Ok (Owned o MM_PROGRAM_START i) = sym owns ∙ q in cc
 
-  borrowed_places : (used moves offset start k : ℕ) → j.placing ≡ Ok (Borrowed offset start k) → Places (accepted_as j false offset start k used moves)
+  borrowed_places : (used moves offset start k : ℕ) → j.placing ≡ Ok (Borrowed offset start k) → Places (accepted_as j offset (Some start) k used moves)
   unfolding ◌if◌else◌
   borrowed_places used moves offset start k stay = (
     (text_borrowed offset start k stay).0,
@@ -396,10 +396,10 @@ module _ (file builtins : List ℕ) (c : Config) (n m : ℕ) (j : Job) (ready : 
 
   places : (used moves : ℕ) (a : Accepted) (p : Result Placing ElfError) → j.placing ≡ p → answer_by j p used moves ≡ Ok a → Places a
   places used moves a (Ok (Borrowed offset start k)) q e =
-      let s : accepted_as j false offset start k used moves ≡ a = cc in
+      let s : accepted_as j offset (Some start) k used moves ≡ a = cc in
       subst Places s (borrowed_places used moves offset start k q)
   places used moves a (Ok (Owned offset lowest k)) q e =
-      let s : accepted_as j true offset 0 k used moves ≡ a = cc in
+      let s : accepted_as j offset None k used moves ≡ a = cc in
       subst Places s (owned_places used moves offset lowest k q)
   places used moves a (Err r) q e = let z : ◌≡◌ {A = ℕ} 0 1 = cc in absurd (omega arith)
 
@@ -429,7 +429,7 @@ module _ (file builtins : List ℕ) (c : Config) (n m : ℕ) (j : Job) (ready : 
       (h.0, (offset, k, q ∙ ap (λ (u : ℕ). Ok (Owned offset u k)) r))
   from_low_by (Ok (Borrowed offset start k)) q used moves a e h =
       let w = stays file j.layout (file_header file).e_shnum j.version2 c.reject_broken_elfs c.optimize_rodata offset start k (is_placed _ q) in
-      let all = spans file j.layout j.version2 c.reject_broken_elfs (file_header file).e_shnum t.index j.length t.lie t.named (record { start = j.start; length = j.length }) t.stands refl w.0 w.1 in
+      let all = spans file j.layout j.version2 c.reject_broken_elfs (file_header file).e_shnum t.index j.text.length t.lie t.named (record { start = j.text.start; length = j.text.length }) t.stands refl w.0 w.1 in
       let s = one_extent h.2.0 w.0 _ h.2.1 w.1 in
       let lo : w.0.lowest ≡ MM_PROGRAM_START = ap (λ (y : Extent). y.lowest) s ∙ h.2.2 in
       let up = above offset start k w.0 all w.2 in
@@ -448,7 +448,7 @@ module _ (file builtins : List ℕ) (c : Config) (n m cap : ℕ) (j : Job) (read
       places file builtins c n m j ready (length w.rows) w.moves a j.placing refl w.answers
 
   -- its read-only bytes lie in the lent ones
-  pub ro_given : ro_of a (lent_for a n m) ≡ bytes_at a.ro_start a.ro_length
+  pub ro_given : ro_of a (lent_for a n m) ≡ bytes_at (ro_start_of a) a.ro_length
   ro_given = both.0
 
   -- its text lies in them, but where version 1 copies them from the program's start on
@@ -464,5 +464,5 @@ module _ (file builtins : List ℕ) (c : Config) (n m cap : ℕ) (j : Job) (read
       )
 
   -- everywhere else it has its place
-  pub text_given : (FromStart j → ⊥) → text_place_of a (lent_for a n m) ≡ bytes_at (a.ro_start + text_at a.text_addr a.ro_offset) a.text_length
-  text_given h = text_else (lent_for a n m) a.ro_offset a.ro_start a.ro_length a.text_addr a.text_length (λ e. h (both.1.0 e))
+  pub text_given : (FromStart j → ⊥) → text_place_of a (lent_for a n m) ≡ bytes_at ((ro_start_of a) + text_at a.text_addr a.ro_offset) a.text.length
+  text_given h = text_else (lent_for a n m) a.ro_offset (ro_start_of a) a.ro_length a.text_addr a.text.length (λ e. h (both.1.0 e))

@@ -45,7 +45,7 @@ module _ (file builtins : List ℕ) (c : Config) (n m : ℕ) (j : Job) (ready : 
 
   pub unresolved_member : (reject-broken : Bool) (len at r start k hash : ℕ)
       → builtin_call builtins reject-broken len at r start k hash
-      ≡ (Err (UnresolvedSymbol start k r) if reject-broken && not (member hash builtins) else
+      ≡ (Err (UnresolvedSymbol (record { start = start; length = k }) r) if reject-broken && not (member hash builtins) else
       Err ValueOutOfBounds if ltb len (at + 4) else
       Ok (Key at hash))
   unfolding builtin_call

@@ -150,11 +150,11 @@ module _ (file builtins : List ℕ) (c : Config) (im ro : List ℕ) (t : Slices)
     }
 
 -- what a load leaves is all that it promises
-pub loads : (file builtins : Shared) (c : Config) (image ro : Lent) (t t' : Slices) (a : Result Accepted ElfError)
+pub loads : (file : Shared) (builtins : List ℕ) (c : Config) (image ro : Lent) (t t' : Slices) (a : Result Accepted ElfError)
     → Loaded (load_of_lent file builtins c image ro t) image.entry.now ro.entry.now t image.exit.now ro.exit.now t' a
     → Loads file builtins c image ro t t' a
 loads file builtins c image ro t t' a l = record {
   loaded = l;
-  keyed = demanded file.entry.now builtins.entry.now c image.entry.now ro.entry.now t image.exit.now ro.exit.now t' a l;
-  ascending = ascended file.entry.now builtins.entry.now c image.entry.now ro.entry.now t image.exit.now ro.exit.now t' a l;
+  keyed = demanded file.entry.now builtins c image.entry.now ro.entry.now t image.exit.now ro.exit.now t' a l;
+  ascending = ascended file.entry.now builtins c image.entry.now ro.entry.now t image.exit.now ro.exit.now t' a l;
 }

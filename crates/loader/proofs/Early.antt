@@ -145,7 +145,7 @@ module _ (file builtins : List ℕ) (j : Job) (off : j.check_collision ≡ false
   call_steady i (Err r) h = h
   call_steady i (Ok (Some index)) h =
       by_row (call_row (immediate j i)) OfIndex index
-      (omega (arith, h, length-take j.length (drop j.start file), within.text, within.short))
+      (omega (arith, h, length-take j.text.length (drop j.text.start file), within.text, within.short))
       (λ row g. g)
 
   slot_steady : (i : ℕ) (im : List ℕ) → Steady G (slot_trace file builtins j i im)

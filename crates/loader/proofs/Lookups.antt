@@ -15,14 +15,14 @@ use Rattle.loader.specs.Loads.{Loads, OnUsed}
 use Rattle.loader.specs.Validate.{prepared}
 
 -- THE LOOKUPS AGREE, for every key, on the table and the used rows that an accepted load leaves
-pub agree_after : (file builtins : Shared) (c : Config) (image ro : Lent) (t t' : Slices) (x : Accepted)
+pub agree_after : (file : Shared) (builtins : List ℕ) (c : Config) (image ro : Lent) (t t' : Slices) (x : Accepted)
     → Loads file builtins c image ro t t' (Ok x)
     → (key : ℕ)
     → lookup_ascending_in t' x.used key ≡ lookup_in t' x.used key
 agree_after file builtins c image ro t t' x l key = lookups_agree t' x.used l.ascending key
 
 -- and the number of the row alone, by the column of keys, is that of the same row
-pub row_after : (file builtins : Shared) (c : Config) (image ro : Lent) (t t' : Slices) (x : Accepted)
+pub row_after : (file : Shared) (builtins : List ℕ) (c : Config) (image ro : Lent) (t t' : Slices) (x : Accepted)
     → Loads file builtins c image ro t t' (Ok x)
     → (key : ℕ)
     → lookup_in t' x.used key ≡ row_of_found t' (row_ascending_in t'.keys x.used key)
@@ -31,7 +31,7 @@ row_after file builtins c image ro t t' x l key =
     ∙ row_agrees t' x.used l.ascending key
 
 -- and the index alone, by the columns of keys and indices, is that of the row
-pub index_after : (file builtins : Shared) (c : Config) (image ro : Lent) (t t' : Slices) (x : Accepted)
+pub index_after : (file : Shared) (builtins : List ℕ) (c : Config) (image ro : Lent) (t t' : Slices) (x : Accepted)
     → Loads file builtins c image ro t t' (Ok x)
     → (key : ℕ)
     → index_ascending_in t'.keys t'.indices x.used key ≡ index_of_found (lookup_in t' x.used key)

@@ -87,8 +87,7 @@ job_with version2 check l addr machine size offset =
       e_entry = addr;
       sh_addr = addr;
       sh_size = size;
-      start = 64;
-      length = size;
+      text = record { start = 64; length = size };
       addr = machine;
       placing = Ok (Borrowed offset 64 size);
     }
@@ -122,13 +121,11 @@ answer_2 =
       entry = 0;
       used = 2;
       moves = 1;
-      ro_copied = false;
       ro_offset = 0;
-      ro_start = 64;
+      ro_start = Some 64;
       ro_length = 24;
       text_addr = 0x1_0000_0000;
-      text_start = 64;
-      text_length = 24;
+      text = record { start = 64; length = 24 };
     }
 
 -- by computation
@@ -283,8 +280,8 @@ module _ (t : Slices) (im' : List ℕ) (t' : Slices) (a : Result Accepted ElfErr
 
 -- ---- `load`, field by field
 
-module _ (file builtins : Shared) (image ro : Lent) (t t' : Slices) (a : Result Accepted ElfError)
-    (is : file.entry.now ≡ version_2) (none : builtins.entry.now ≡ []) (long : length image.entry.now ≡ 304) (wide : length ro.entry.now ≡ 304)
+module _ (file : Shared) (builtins : List ℕ) (image ro : Lent) (t t' : Slices) (a : Result Accepted ElfError)
+    (is : file.entry.now ≡ version_2) (none : builtins ≡ []) (long : length image.entry.now ≡ 304) (wide : length ro.entry.now ≡ 304)
     (rows : capacity t ≡ 4)
     (l : Loads file builtins all_on image ro t t' a) where
   loaded : Loaded (holds answer_2 (put 4 version_2 68 2) (replicate 304 0) (first ∷ third ∷ [])) image.entry.now ro.entry.now t image.exit.now ro.exit.now t' a

@@ -39,13 +39,13 @@ abbrev pub of_table : ElfError → Bool
 of_table (FailedToParse e) = false
 of_table EntrypointOutOfBounds = false
 of_table InvalidEntrypoint = false
-of_table (UnresolvedSymbol start n offset) = false
+of_table (UnresolvedSymbol p offset) = false
 of_table (RelativeJumpOutOfBounds slot) = false
 of_table (SymbolHashCollision key) = true
 of_table WrongAbi = false
 of_table WrongMachine = false
 of_table NotOneTextSection = false
-of_table (WritableSectionNotSupported start n) = false
+of_table (WritableSectionNotSupported p) = false
 of_table InvalidVirtualAddress = false
 of_table (UnknownRelocation n) = false
 of_table WrongType = false
@@ -107,7 +107,7 @@ parser_plain : (e : ElfParserError) → Plain (from_parser e)
 parser_plain InvalidFileHeader = refl
 parser_plain InvalidProgramHeader = refl
 parser_plain InvalidSectionHeader = refl
-parser_plain (StringTooLong start n) = refl
+parser_plain (StringTooLong p) = refl
 parser_plain OutOfBounds = refl
 parser_plain InvalidSize = refl
 parser_plain Overlap = refl
@@ -119,7 +119,7 @@ parser_plain NoStringTable = refl
 parser_plain NoDynamicStringTable = refl
 parser_plain NoSuchIndex = refl
 parser_plain NotASection = refl
-parser_plain (StringUnterminated start n) = refl
+parser_plain (StringUnterminated p) = refl
 
 -- ---- the placing
 

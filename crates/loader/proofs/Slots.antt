@@ -51,8 +51,8 @@ whole_slot text i insn e = leb-false _ _ (not_first _ _ _ _ (λ p. zero_one (cc)
 
 -- ---- a slot whose opcode is not a call's is passed over
 
-whole : (file : List ℕ) (j : Job) → InFile file j → length (text_of file j) ≡ j.length
-whole file j inside = length-take-le j.length (drop j.start file) (simp length-drop (omega (arith, inside.text)))
+whole : (file : List ℕ) (j : Job) → InFile file j → length (text_of file j) ≡ j.text.length
+whole file j inside = length-take-le j.text.length (drop j.text.start file) (simp length-drop (omega (arith, inside.text)))
 
 -- by its slot, which is there
 none_by : (text : List ℕ) (version2 : Bool) (i : ℕ) → i < length text / 8 → (le 1 text (8 * i) ≡ 0x85 → ⊥) → call_at text version2 i ≡ Ok None
@@ -62,11 +62,11 @@ none_by text version2 i h e =
     let other : eqb (le 1 text (8 * i)) 0x85 ≡ false = ne_eqb _ _ e in
     rw there (rw other refl)
 
-no_call : (file builtins : List ℕ) (j : Job) → InFile file j → (i : ℕ) → i < slot_count j → (get_or file (j.start + 8 * i) 0 ≡ 0x85 → ⊥) → call_deed file builtins j i ≡ Ok Skip
+no_call : (file builtins : List ℕ) (j : Job) → InFile file j → (i : ℕ) → i < slot_count j → (get_or file (j.text.start + 8 * i) 0 ≡ 0x85 → ⊥) → call_deed file builtins j i ≡ Ok Skip
 unfolding call_deed
 no_call file builtins j inside i h e =
     let text = text_of file j in
-    let byte : le 1 text (8 * i) ≡ get_or file (j.start + 8 * i) 0 = le_byte text (8 * i) ∙ get_or-take j.length (drop j.start file) (8 * i) 0 (omega (arith, h)) ∙ get_or-drop j.start file (8 * i) 0 in
+    let byte : le 1 text (8 * i) ≡ get_or file (j.text.start + 8 * i) 0 = le_byte text (8 * i) ∙ get_or-take j.text.length (drop j.text.start file) (8 * i) 0 (omega (arith, h)) ∙ get_or-drop j.text.start file (8 * i) 0 in
     ap (call_by builtins j i) (none_by text j.version2 i (rw (whole file j inside) h) (λ q. e (sym byte ∙ q)))
 
 -- the next call lies among the slots that are left, or behind them
@@ -87,14 +87,14 @@ module _ (file builtins : List ℕ) (j : Job) (inside : InFile file j) (im : Lis
 
   -- those from the next call on, among the first n of n + m
   skipped : (n m i : ℕ) → i + n + m ≤ slot_count j
-      → each (slot_trace file builtins j) (n + m) i im ≡ each (slot_trace file builtins j) (i + n + m - next_call file j.start n i) (next_call file j.start n i) im
+      → each (slot_trace file builtins j) (n + m) i im ≡ each (slot_trace file builtins j) (i + n + m - next_call file j.text.start n i) (next_call file j.text.start n i) im
   unfolding next_call ◌if◌else◌
   skipped zero m i h = let e : i + 0 + m - i ≡ 0 + m = omega arith in rw e refl
-  skipped (suc n) m i h = go (eqb (get_or file (j.start + 8 * i) 0) 0x85) refl (λ k. skipped n m (i + 1) k)
+  skipped (suc n) m i h = go (eqb (get_or file (j.text.start + 8 * i) 0) 0x85) refl (λ k. skipped n m (i + 1) k)
     where
-      go : (b : Bool) → eqb (get_or file (j.start + 8 * i) 0) 0x85 ≡ b
-          → (i + 1 + n + m ≤ slot_count j → each (slot_trace file builtins j) (n + m) (i + 1) im ≡ each (slot_trace file builtins j) (i + 1 + n + m - next_call file j.start n (i + 1)) (next_call file j.start n (i + 1)) im)
-          → each (slot_trace file builtins j) (suc n + m) i im ≡ each (slot_trace file builtins j) (i + suc n + m - (i if b else next_call file j.start n (i + 1))) (i if b else next_call file j.start n (i + 1)) im
+      go : (b : Bool) → eqb (get_or file (j.text.start + 8 * i) 0) 0x85 ≡ b
+          → (i + 1 + n + m ≤ slot_count j → each (slot_trace file builtins j) (n + m) (i + 1) im ≡ each (slot_trace file builtins j) (i + 1 + n + m - next_call file j.text.start n (i + 1)) (next_call file j.text.start n (i + 1)) im)
+          → each (slot_trace file builtins j) (suc n + m) i im ≡ each (slot_trace file builtins j) (i + suc n + m - (i if b else next_call file j.text.start n (i + 1))) (i if b else next_call file j.text.start n (i + 1)) im
       go true e rec = let k : i + suc n + m - i ≡ suc n + m = omega arith in rw k refl
       go false e rec =
           let k : i + suc n + m ≡ i + 1 + n + m = omega arith in
@@ -107,14 +107,14 @@ pub calls_ahead : (file builtins : List ℕ) (j : Job) → InFile file j
     → (im₀ im : List ℕ) (t₀ t : Slices) (used₀ moves₀ used moves i k : ℕ)
     → BeginsIn (to - o) t₀ used₀ moves₀
     → GoingIn (slot_trace file builtins j) (slot_count j) o to im₀ im t₀ t used₀ moves₀ used moves i
-    → k ≡ next_call file j.start (to - i) i
+    → k ≡ next_call file j.text.start (to - i) i
     → GoingIn (slot_trace file builtins j) (slot_count j) o to im₀ im t₀ t used₀ moves₀ used moves k
 calls_ahead file builtins j inside o to l im₀ im t₀ t used₀ moves₀ used moves i k b g e =
     let h : i ≤ to = g.passed in
     let n = slot_count j in
     let at : to - i + (n - to) ≡ n - i = omega (arith, h) in
     let up : i + (to - i) + (n - to) ≡ n = omega (arith, h) in
-    let bounds = next_bounds file j.start (to - i) i in
+    let bounds = next_bounds file j.text.start (to - i) i in
     let on = skipped file builtins j inside im (to - i) (n - to) i (omega (arith, up)) in
     in_ahead (slot_trace file builtins j) n o to l im₀ im t₀ t used₀ moves₀ used moves i b g k (omega (arith, bounds.0, e)) (omega (arith, bounds.1, e, h)) (rw (at, up, ← e) at on)
 

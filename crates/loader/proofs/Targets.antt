@@ -109,12 +109,12 @@ to_slot text version2 i to e = in_lt (length text / 8) version2 i to (insn_at te
 
 -- a target is one of the job's slots
 pub to_in : (file : List ℕ) (j : Job) (i to : ℕ) → CallsTo file j i to → to < slot_count j
-to_in file j i to c = omega (arith, to_slot (text_of file j) j.version2 i to c.1, length-take j.length (drop j.start file))
+to_in file j i to c = omega (arith, to_slot (text_of file j) j.version2 i to c.1, length-take j.text.length (drop j.text.start file))
 
 -- a file's target takes few bits
 pub to_small : (file : List ℕ) (j : Job) (i to : ℕ) → length file ≤ 2 ^ 24 → CallsTo file j i to → to < 2 ^ 24
 to_small file j i to short c =
-    omega (arith, to_slot (text_of file j) j.version2 i to c.1, length-take j.length (drop j.start file), length-drop j.start file)
+    omega (arith, to_slot (text_of file j) j.version2 i to c.1, length-take j.text.length (drop j.text.start file), length-drop j.text.start file)
 
 -- ---- keys of indices
 

@@ -103,6 +103,6 @@ SlotsAsk from to i seen o = PartAsks (to - from) i o × (from ≤ to) × (to ≤
 abbrev pub SlotsLead : ℕ → ℕ → Inputs → Outputs → Outputs → Result (Unit {0}) ElfError → Type 0
 SlotsLead from to i o o' a =
     Leads (slot_trace i.file.now i.builtins.now i.job) (slot_count i.job) from to
-    (ahead (i.job.start + 8 * to) o.image.now i.file.now)
-    (ahead (i.job.start + 8 * to) o'.image.now i.file.now)
+    (ahead (i.job.text.start + 8 * to) o.image.now i.file.now)
+    (ahead (i.job.text.start + 8 * to) o'.image.now i.file.now)
     (columns_of o.registry.now) (columns_of o'.registry.now) o.registry.now.used o.moves (held_of a o')

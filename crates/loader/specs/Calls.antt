@@ -58,14 +58,14 @@ call_at text version2 i = call_in (length text / 8) version2 i (insn_at text i)
 
 -- the text's bytes in the file, and its whole slots
 abbrev pub text_of : List ℕ → Job → List ℕ
-text_of file j = take j.length (drop j.start file)
+text_of file j = take j.text.length (drop j.text.start file)
 
 abbrev pub slot_count : Job → ℕ
-slot_count j = j.length / 8
+slot_count j = j.text.length / 8
 
 -- the place of a slot's immediate
 abbrev pub immediate : Job → ℕ → ℕ
-immediate j i = j.start + 8 * i + 4
+immediate j i = j.text.start + 8 * i + 4
 
 abbrev pub call_row : ℕ → LegacyResult → Result Deed ElfError
 call_row at (Ok row) = Ok (Register row at)

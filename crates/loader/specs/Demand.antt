@@ -67,7 +67,7 @@ abbrev pub names_in : List ℕ → Layout → Bool → ℕ → ℕ → ℕ → �
 names_in file l version2 start n i b = named_in version2 start n (place_in file l version2 i) ((relocation_at file l i).r_info % 2 ^ 32) b
 
 abbrev pub named_at : Job → Option ℕ → ℕ → ℕ → Bool
-named_at j p type b = named_in j.version2 j.start j.length p type b
+named_at j p type b = named_in j.version2 j.text.start j.text.length p type b
 
 abbrev pub info_of : List ℕ → Job → ℕ → ℕ
 info_of file j i = (relocation_at file j.layout i).r_info
@@ -77,7 +77,7 @@ addend_of file j i = (relocation_at file j.layout i).addend
 
 -- the relocation number i names the byte b
 abbrev pub names : List ℕ → Job → ℕ → ℕ → Bool
-names file j i b = names_in file j.layout j.version2 j.start j.length i b
+names file j i b = names_in file j.layout j.version2 j.text.start j.text.length i b
 
 -- no relocation names the byte b
 abbrev pub Unnamed : List ℕ → Job → ℕ → Type 0

@@ -17,7 +17,7 @@ abbrev pub from_parser : ElfParserError → ElfError
 from_parser InvalidFileHeader = FailedToParse InvalidFileHeader
 from_parser InvalidProgramHeader = FailedToParse InvalidProgramHeader
 from_parser InvalidSectionHeader = FailedToParse InvalidSectionHeader
-from_parser (StringTooLong start n) = FailedToParse (StringTooLong start n)
+from_parser (StringTooLong p) = FailedToParse (StringTooLong p)
 from_parser OutOfBounds = ValueOutOfBounds
 from_parser InvalidSize = FailedToParse InvalidSize
 from_parser Overlap = FailedToParse Overlap
@@ -29,7 +29,7 @@ from_parser NoStringTable = FailedToParse NoStringTable
 from_parser NoDynamicStringTable = FailedToParse NoDynamicStringTable
 from_parser NoSuchIndex = FailedToParse NoSuchIndex
 from_parser NotASection = FailedToParse NotASection
-from_parser (StringUnterminated start n) = FailedToParse (StringUnterminated start n)
+from_parser (StringUnterminated p) = FailedToParse (StringUnterminated p)
 
 -- number and value, no name
 abbrev pub valued : ℕ → ℕ → Report
@@ -39,13 +39,13 @@ abbrev pub report_of : ElfError → Report
 report_of (FailedToParse e) = parser.report_of e
 report_of EntrypointOutOfBounds = valued 20 0
 report_of InvalidEntrypoint = valued 21 0
-report_of (UnresolvedSymbol start n offset) = record { number = 22; value = offset; start = start; length = n }
+report_of (UnresolvedSymbol p offset) = record { number = 22; value = offset; start = p.start; length = p.length }
 report_of (RelativeJumpOutOfBounds slot) = valued 23 slot
 report_of (SymbolHashCollision key) = valued 24 key
 report_of WrongAbi = valued 25 0
 report_of WrongMachine = valued 26 0
 report_of NotOneTextSection = valued 27 0
-report_of (WritableSectionNotSupported start n) = record { number = 28; value = 0; start = start; length = n }
+report_of (WritableSectionNotSupported p) = record { number = 28; value = 0; start = p.start; length = p.length }
 report_of InvalidVirtualAddress = valued 29 0
 report_of (UnknownRelocation n) = valued 30 n
 report_of WrongType = valued 31 0

@@ -1,5 +1,5 @@
 -- A whole load: its answer, and every lent byte and number afterwards.
-use Rattle.std.specs.Prelude.{ℕ, ◌+◌, ◌-◌, ◌/◌, ◌≡◌, Bool, true, false, List, [], ◌++◌, length, replicate, Result, Ok, Err}
+use Rattle.std.specs.Prelude.{ℕ, ◌+◌, ◌-◌, ◌/◌, ◌≡◌, Bool, true, false, List, [], ◌++◌, length, replicate, Option, Some, None, Result, Ok, Err}
 use Rattle.std.specs.Borrow.{Bor, MutBor}
 use Rattle.ebpf.specs.Choice.{◌if◌else◌}
 use Rattle.program.specs.declared.Row.{Row}
@@ -63,25 +63,23 @@ HeldBytes (Err r) ro' ro = Unit {0}
 -- ---- the answer
 
 -- of an accepted load, with the place of the read-only bytes
-abbrev pub accepted_as : Job → Bool → ℕ → ℕ → ℕ → ℕ → ℕ → Accepted
-accepted_as j copied offset start n used moves = record {
+abbrev pub accepted_as : Job → ℕ → Option ℕ → ℕ → ℕ → ℕ → Accepted
+accepted_as j offset start n used moves = record {
   version = 2 if j.version2 else 1;
   entry = (j.e_entry - j.sh_addr) / 8;
   used = used;
   moves = moves;
-  ro_copied = copied;
   ro_offset = offset;
   ro_start = start;
   ro_length = n;
   text_addr = j.addr;
-  text_start = j.start;
-  text_length = j.length;
+  text = j.text;
 }
 
--- copied read-only bytes start at 0 in their buffer
+-- copied read-only bytes have no start in the image
 abbrev pub answer_by : Job → Result Placing ElfError → ℕ → ℕ → Result Accepted ElfError
-answer_by j (Ok (Borrowed offset start n)) used moves = Ok (accepted_as j false offset start n used moves)
-answer_by j (Ok (Owned offset lowest n)) used moves = Ok (accepted_as j true offset 0 n used moves)
+answer_by j (Ok (Borrowed offset start n)) used moves = Ok (accepted_as j offset (Some start) n used moves)
+answer_by j (Ok (Owned offset lowest n)) used moves = Ok (accepted_as j offset None n used moves)
 answer_by j (Err r) used moves = Err r
 
 abbrev pub answer_for : Result Held ElfError → Job → Result Accepted ElfError
@@ -99,9 +97,9 @@ pub data Loading : Type 0 where
 -- the buffer is zero; or they are copied over n zeros at the buffer's front, with zeros behind
 abbrev pub held_by : List ℕ → Job → ℕ → Result Placing ElfError → List ℕ → List Row → ℕ → Loading
 held_by file j m (Ok (Borrowed offset start n)) im rows moves =
-    holds (accepted_as j false offset start n (length rows) moves) im (replicate m 0) rows
+    holds (accepted_as j offset (Some start) n (length rows) moves) im (replicate m 0) rows
 held_by file j m (Ok (Owned offset lowest n)) im rows moves =
-    holds (accepted_as j true offset 0 n (length rows) moves) im (copied_from im file j.layout lowest (file_header file).e_shnum 0 (replicate n 0) ++ replicate (m - n) 0) rows
+    holds (accepted_as j offset None n (length rows) moves) im (copied_from im file j.layout lowest (file_header file).e_shnum 0 (replicate n 0) ++ replicate (m - n) 0) rows
 held_by file j m (Err r) im rows moves = refuses r
 
 abbrev pub on_trace : List ℕ → Job → ℕ → Settled → Loading
@@ -160,16 +158,16 @@ Clears image ro t t' = Cleared image.entry.now ro.entry.now t image.exit.now ro.
 abbrev pub FillAsks : Bor (List ℕ) → Job → MutBor (List ℕ) → Slices → Type 0
 FillAsks file j image t = InFile file.now j × (length image.now ≡ length file.now) × (t ≡ lay t [])
 
-abbrev pub Fills : Shared → Shared → Job → Lent → Lent → Slices → Slices → Result Accepted ElfError → Type 0
+abbrev pub Fills : Shared → List ℕ → Job → Lent → Lent → Slices → Slices → Result Accepted ElfError → Type 0
 Fills file builtins j image ro t t' a =
     (h : Result Held ElfError)
     × (a ≡ answer_for h j)
-    × Settles (job_trace file.entry.now builtins.entry.now j file.entry.now) image.exit.now t t' (all_count file.entry.now j) 0 0 h
+    × Settles (job_trace file.entry.now builtins j file.entry.now) image.exit.now t t' (all_count file.entry.now j) 0 0 h
     × HeldBytes h ro.exit.now (placed_bytes file.entry.now j.layout j.placing image.exit.now ro.entry.now)
 
 -- what comes of a load of these
-abbrev pub load_of_lent : Shared → Shared → Config → Lent → Lent → Slices → Loading
-load_of_lent file builtins c image ro t = load_of file.entry.now builtins.entry.now c (length image.entry.now) (length ro.entry.now) (capacity t)
+abbrev pub load_of_lent : Shared → List ℕ → Config → Lent → Lent → Slices → Loading
+load_of_lent file builtins c image ro t = load_of file.entry.now builtins c (length image.entry.now) (length ro.entry.now) (capacity t)
 
-abbrev pub Tries : Shared → Shared → Config → Lent → Lent → Slices → Slices → Result Accepted ElfError → Type 0
+abbrev pub Tries : Shared → List ℕ → Config → Lent → Lent → Slices → Slices → Result Accepted ElfError → Type 0
 Tries file builtins c image ro t t' a = Tried (load_of_lent file builtins c image ro t) image.entry.now ro.entry.now t image.exit.now ro.exit.now t' a

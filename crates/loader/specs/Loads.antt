@@ -1,5 +1,5 @@
 -- What `load` promises.
-use Rattle.std.specs.Prelude.{ℕ, length, Result, Ok, Err}
+use Rattle.std.specs.Prelude.{ℕ, List, length, Result, Ok, Err}
 use Rattle.program.specs.Table.{Slices, Lent, Shared, Ready}
 use Rattle.loader.specs.declared.error.ElfError.{ElfError}
 use Rattle.loader.specs.declared.answer.Accepted.{Accepted}
@@ -19,10 +19,10 @@ used_of (Err r) = 0
 
 -- WHAT `load` PROMISES, for every file, list of built-in keys and settings, whatever the lent image and read-only buffer hold at the call (`.entry`), and
 -- whatever the table holds there, t; `.exit` and t' are what they hold on return, and a is the answer
-pub record Loads (file builtins : Shared) (c : Config) (image ro : Lent) (t t' : Slices) (a : Result Accepted ElfError) : Type 0 where
+pub record Loads (file : Shared) (builtins : List ℕ) (c : Config) (image ro : Lent) (t t' : Slices) (a : Result Accepted ElfError) : Type 0 where
   -- the answer and, by demand 1, every lent byte and number: what comes of the load, whole or only zeros
   pub loaded : Loaded (load_of_lent file builtins c image ro t) image.entry.now ro.entry.now t image.exit.now ro.exit.now t' a
   -- demand 3: calls, keys and bytes of an accepted load; collisions and full tables
-  pub keyed : Demand3 file.entry.now builtins.entry.now c (length image.entry.now) (length ro.entry.now) t image.exit.now t' a
+  pub keyed : Demand3 file.entry.now builtins c (length image.entry.now) (length ro.entry.now) t image.exit.now t' a
   -- the table is one whose used rows ascend strictly by key, with zeros elsewhere
   pub ascending : OnUsed a (λ used. Ready t' used)

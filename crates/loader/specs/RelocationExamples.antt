@@ -5,6 +5,7 @@ use Rattle.ebpf.specs.Choice.{◌if◌else◌}
 use Rattle.ebpf.specs.LittleEndian.{le, bytes_of}
 use Rattle.ebpf.specs.Murmur3.{body, murmur3}
 use Rattle.elf_parser.specs.declared.layout.Layout.{Layout}
+use Rattle.elf_parser.specs.declared.parts.Place.{Place}
 use Rattle.elf_parser.specs.Types.{program_header, section_header, rel, rela, sym}
 use Rattle.elf_parser.specs.Strings.{string_in, string_check, terminated, before_zero}
 use Rattle.elf_parser.specs.Names.{name_by}
@@ -60,8 +61,7 @@ job_with version2 l =
       e_entry = 0;
       sh_addr = 0;
       sh_size = 16;
-      start = 0;
-      length = 16;
+      text = record { start = 0; length = 16 };
       addr = 0x1_0000_0000;
       placing = Err ValueOutOfBounds;
     }
@@ -212,11 +212,14 @@ type_10_added s im builtins j r number a = let e : (10 + number * 2 ^ 32) % 2 ^ 
 -- ---- the hash 9 of a name of 3 bytes at 232, for a call at r = 0 in 24 bytes: no built-in's key, where broken files are rejected and where they are not; a
 -- built-in's key, and then the place of the call outside the file
 
+abbrev name : ℕ → ℕ → Place
+name start n = record { start = start; length = n }
+
 abbrev call_of_hash : List ℕ → Bool → ℕ → Result Deed ElfError
 call_of_hash builtins reject at = builtin_call builtins reject 24 at 0 232 3 9
 
 built_ins : call_of_hash (8 ∷ 10 ∷ []) true 4 ∷ call_of_hash (8 ∷ 10 ∷ []) false 4 ∷ call_of_hash (8 ∷ 9 ∷ []) true 4 ∷ call_of_hash (8 ∷ 9 ∷ []) true 21 ∷ call_of_hash [] false 21 ∷ []
-    ≡ Err (UnresolvedSymbol 232 3 0) ∷ Ok (Key 4 9) ∷ Ok (Key 4 9) ∷ Err ValueOutOfBounds ∷ Err ValueOutOfBounds ∷ []
+    ≡ Err (UnresolvedSymbol (name 232 3) 0) ∷ Ok (Key 4 9) ∷ Ok (Key 4 9) ∷ Err ValueOutOfBounds ∷ Err ValueOutOfBounds ∷ []
 unfolding builtin_call is_among binary_search narrowed ◌if◌else◌
 built_ins = refl
 
@@ -265,8 +268,8 @@ type_10 : called 2 8 0 [] ∷ called 2 8 0x18 [] ∷ called 2 16 0 [] ∷ called
     ≡ Ok (Register second 4)
     ∷ Ok (RegisterOutside second)
     ∷ Err ValueOutOfBounds
-    ∷ Err (UnresolvedSymbol 232 0 0)
-    ∷ Err (UnresolvedSymbol 232 0 0x110)
+    ∷ Err (UnresolvedSymbol (name 232 0) 0)
+    ∷ Err (UnresolvedSymbol (name 232 0) 0x110)
     ∷ Ok (Key 4 0)
     ∷ []
 unfolding relocation_at header_at first_from used_before used_header place_of plan_at plan6432 call_by_name function_call builtin_call immediate_at within row_for legacy_row legacy_key kept_symbol is_taken is_among binary_search narrowed name_by string_in string_check terminated before_zero same_bytes body murmur3 ◌if◌else◌ le bytes_of entry_at rel sym program_header section_header

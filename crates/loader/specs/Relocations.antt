@@ -187,7 +187,7 @@ function_call builtins j len at name value =
 -- a hash, which must be a built-in's key where broken files are rejected
 unfoldable pub builtin_call : List ℕ → Bool → ℕ → ℕ → ℕ → ℕ → ℕ → ℕ → Result Deed ElfError
 builtin_call builtins reject-broken len at r start n hash =
-    Err (UnresolvedSymbol start n r) if reject-broken && not (is_among hash builtins) else
+    Err (UnresolvedSymbol (record { start = start; length = n }) r) if reject-broken && not (is_among hash builtins) else
     Err ValueOutOfBounds if ltb len (at + 4) else
     Ok (Key at hash)
 
@@ -216,7 +216,7 @@ plan6432 s builtins j len r number = symbol_call s builtins j len r number (dyna
 
 -- r lies in the text's bytes
 abbrev pub text_holds : Job → ℕ → Bool
-text_holds j r = within j.start j.length r
+text_holds j r = within j.text.start j.text.length r
 
 -- the types that use an addend
 abbrev pub uses_addend : ℕ → Bool

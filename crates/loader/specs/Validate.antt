@@ -50,8 +50,8 @@ header_check h c version2 =
     Ok tt
 
 abbrev pub writable_by : Result Place ElfParserError → ElfError
-writable_by (Ok p) = WritableSectionNotSupported p.start p.length
-writable_by (Err r) = WritableSectionNotSupported 0 0
+writable_by (Ok p) = WritableSectionNotSupported p
+writable_by (Err r) = WritableSectionNotSupported (record { start = 0; length = 0 })
 
 abbrev pub writable_error : List ℕ → Layout → ℕ → ElfError
 writable_error s l sh-name = writable_by (section_name s l sh-name)
@@ -88,8 +88,7 @@ job_of c version2 l e_entry h p =
       e_entry = e_entry;
       sh_addr = h.sh_addr;
       sh_size = h.sh_size;
-      start = 0 if nobits else h.sh_offset;
-      length = 0 if nobits else h.sh_size;
+      text = record { start = 0 if nobits else h.sh_offset; length = 0 if nobits else h.sh_size };
       addr = machine_addr version2 h.sh_addr;
       placing = p;
     }

@@ -26,6 +26,7 @@ use Rattle.loader.specs.Calls.{inside, target, is_local_call, call_of, call_at, 
 use Rattle.loader.specs.Deeds.{deed_trace}
 use Rattle.loader.specs.Entry.{entry_deed}
 use Rattle.loader.specs.Functions.{row_for}
+use Rattle.loader.specs.GetBytes.{ro_start_of}
 use Rattle.loader.specs.Labels.{label_of, label_deed, label_symbols, label_trace}
 use Rattle.loader.specs.Load.{load_of}
 use Rattle.loader.specs.Parts.{job_trace}
@@ -172,7 +173,7 @@ place = refl
 
 -- where the read-only bytes stand in the image, and how many they are
 abbrev read_only_at : Loading → List ℕ
-read_only_at (holds a im ro rows) = 0 ∷ a.ro_start ∷ a.ro_length ∷ []
+read_only_at (holds a im ro rows) = 0 ∷ ro_start_of a ∷ a.ro_length ∷ []
 read_only_at (refuses e) = numbered (report_of e)
 
 -- a .rodata counts among the read-only sections also where its header is of type 0; contents by index refuse such a header, a load does not

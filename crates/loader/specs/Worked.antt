@@ -75,8 +75,7 @@ whole =
       e_entry = 0;
       sh_addr = 0;
       sh_size = 64;
-      start = 0;
-      length = 64;
+      text = record { start = 0; length = 64 };
       addr = 0x1_0000_0000;
       placing = (job true).placing;
     }

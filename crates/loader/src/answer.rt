@@ -6,38 +6,36 @@ use crate::deeds::Outputs;
 use crate::error::ElfError;
 use crate::read_only::Placing;
 use crate::validate::Job;
+use elf_parser::Place;
 
-// What an accepted load answers: the version, the entry's index, the rows used and the moves in all;
-// whether the read-only bytes were copied, their offset from the program's start, where they start
-// in the image (0 where they were copied) and how many they are; the text's address, and its place
-// in the file.
+// What an accepted load answers: the version, the entry's index, the rows used and the moves in all; the
+// read-only bytes' offset from the program's start, where they start in the image, unless they were copied
+// to the front of the buffer, and how many they are; the text's address, and its place in the file.
 #[derive(Clone, Copy, PartialEq, Eq, Debug)]
 pub struct Accepted {
     pub version: u32,
     pub entry: u32,
     pub used: usize,
     pub moves: u64,
-    pub ro_copied: bool,
     pub ro_offset: u64,
-    pub ro_start: u64,
+    pub ro_start: Option<u64>,
     pub ro_length: u64,
     pub text_addr: u64,
-    pub text_start: usize,
-    pub text_length: usize,
+    pub text: Place,
+}
+
+// The answer of a load, and that of a question which was asked with it.
+#[derive(Clone, Copy, PartialEq, Eq, Debug)]
+pub struct LoadAnd<T> {
+    pub load: Result<Accepted, ElfError>,
+    pub asked: T,
 }
 
 // The answer of an accepted load, with the place of the read-only bytes.
 #[tactic(auto, using(ebpf::specs::Choice::choices))]
-fn accepted_as(
-    job: Job,
-    copied: bool,
-    offset: u64,
-    start: u64,
-    n: u64,
-    out: &Outputs<'_, '_>,
-) -> Accepted
+fn accepted_as(job: Job, offset: u64, start: Option<u64>, n: u64, out: &Outputs<'_, '_>) -> Accepted
     requires { job.e_entry - job.sh_addr ≤ 2 ^ 24 }
-    ensures { result ≡ accepted_as job copied offset start n out.now.registry.now.used out.now.moves }
+    ensures { result ≡ accepted_as job offset start n out.now.registry.now.used out.now.moves }
 {
     let entry = job.e_entry.saturating_sub(job.sh_addr) / 8;
     Accepted {
@@ -45,13 +43,11 @@ fn accepted_as(
         entry: entry as u32,
         used: out.registry.used,
         moves: out.moves,
-        ro_copied: copied,
         ro_offset: offset,
         ro_start: start,
         ro_length: n,
         text_addr: job.addr,
-        text_start: job.start,
-        text_length: job.length,
+        text: job.text,
     }
 }
 
@@ -65,11 +61,11 @@ pub(crate) fn answer_of(out: &Outputs<'_, '_>, job: Job) -> Result<Accepted, Elf
             offset,
             start,
             length,
-        } => Ok(accepted_as(job, false, offset, start, length, out)),
+        } => Ok(accepted_as(job, offset, Some(start), length, out)),
         Placing::Owned {
             offset,
             lowest: _,
             length,
-        } => Ok(accepted_as(job, true, offset, 0, length, out)),
+        } => Ok(accepted_as(job, offset, None, length, out)),
     }
 }

@@ -165,8 +165,8 @@ fn call_step(
     ensures held { StillHeld inputs.now seen.new out.new result }
 {
     let version2 = inputs.job.version2;
-    let start = inputs.job.start;
-    let end = start + inputs.job.length;
+    let start = inputs.job.text.start;
+    let end = start + inputs.job.text.length;
     let Some(index) = call_at(&inputs.file[start..end], version2, i)? else {
         return Ok(());
     };
@@ -196,7 +196,7 @@ fn register_slots(
     ensures held { StillHeld inputs.now seen.new out.new result }
 {
     let file = inputs.file;
-    let start = inputs.job.start;
+    let start = inputs.job.text.start;
     let mut i = next_call(file, start, from, to);
     // Kept: a turn goes on at the next call, and not at the next slot. An iterator over the calls would be
     // a struct of these four words whose `next` finds the next call: more lines, and no plainer.
@@ -223,8 +223,8 @@ pub(crate) fn register_calls(out: &mut Outputs<'_, '_>, inputs: &Inputs<'_>) -> 
     ensures settles { SettlesTo (calls_trace inputs.now.file.now inputs.now.builtins.now inputs.now.job inputs.now.file.now) (slot_count inputs.now.job) out.old out.new result }
 {
     let file = inputs.file;
-    let start = inputs.job.start;
-    let count = inputs.job.length / 8;
+    let start = inputs.job.text.start;
+    let count = inputs.job.text.length / 8;
     let end = start + 8 * count;
     let mut seen = [0u32; SEEN];
     copy_bytes(out.image, file, 0, 0, start);

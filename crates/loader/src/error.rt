@@ -11,41 +11,24 @@ pub enum ElfError {
     EntrypointOutOfBounds,
     InvalidEntrypoint,
     // The name's place in the file, and the place of the relocation.
-    UnresolvedSymbol {
-        start: usize,
-        length: usize,
-        offset: u64,
-    },
-    RelativeJumpOutOfBounds {
-        slot: u64,
-    },
-    SymbolHashCollision {
-        key: u32,
-    },
+    UnresolvedSymbol { name: Place, offset: u64 },
+    RelativeJumpOutOfBounds { slot: u64 },
+    SymbolHashCollision { key: u32 },
     WrongAbi,
     WrongMachine,
     NotOneTextSection,
-    WritableSectionNotSupported {
-        start: usize,
-        length: usize,
-    },
+    WritableSectionNotSupported { name: Place },
     InvalidVirtualAddress,
-    UnknownRelocation {
-        number: u32,
-    },
+    UnknownRelocation { number: u32 },
     WrongType,
     // The symbol's number, or its st_name where the name is unreadable.
-    UnknownSymbol {
-        number: u32,
-    },
+    UnknownSymbol { number: u32 },
     ValueOutOfBounds,
     UnsupportedSBPFVersion,
     FileTooLong,
     BufferShort,
     BuiltinsNotAscending,
-    TableFull {
-        rows: u64,
-    },
+    TableFull { rows: u64 },
     TextOutsideReadOnly,
     AddendNegative,
 }
@@ -102,21 +85,13 @@ impl From<ElfError> for Report {
             ElfError::FailedToParse(p) => Report::from(p),
             ElfError::EntrypointOutOfBounds => with_value(20, 0),
             ElfError::InvalidEntrypoint => with_value(21, 0),
-            ElfError::UnresolvedSymbol {
-                start,
-                length,
-                offset,
-            } => with_name(22, offset, Place { start, length }),
+            ElfError::UnresolvedSymbol { name, offset } => with_name(22, offset, name),
             ElfError::RelativeJumpOutOfBounds { slot } => with_value(23, slot),
             ElfError::SymbolHashCollision { key } => with_value(24, key as u64),
             ElfError::WrongAbi => with_value(25, 0),
             ElfError::WrongMachine => with_value(26, 0),
             ElfError::NotOneTextSection => with_value(27, 0),
-            ElfError::WritableSectionNotSupported { start, length } => with_name(
-                28,
-                0,
-                Place { start, length },
-            ),
+            ElfError::WritableSectionNotSupported { name } => with_name(28, 0, name),
             ElfError::InvalidVirtualAddress => with_value(29, 0),
             ElfError::UnknownRelocation { number } => with_value(30, number as u64),
             ElfError::WrongType => with_value(31, 0),

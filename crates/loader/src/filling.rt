@@ -114,7 +114,7 @@ pub(crate) fn fill_all(
     requires empty { registry.old.used ≡ 0 }
     ensures same { SameColumns registry.old registry.new }
     ensures lens { SameLens (columns_of registry.old) (columns_of registry.new) }
-    ensures fills { Fills file builtins job image ro (columns_of registry.old) (columns_of registry.new) result }
+    ensures fills { Fills file builtins.now job image ro (columns_of registry.old) (columns_of registry.new) result }
     ensures used { OnUsed result (λ used. registry.new.used ≡ used) }
 {
     let mut out = Outputs {

@@ -1,7 +1,7 @@
 // The read-only bytes of an accepted load, and the text among them: `get_ro_section` and
 // `get_text_bytes`. They stand in the image, or in the buffer that they were copied to.
 ghost use Rattle.std.specs.Prelude.{◌≡◌, length};
-ghost use Rattle.loader.specs.GetBytes.{text_place, ro_place, lent_for, ro_of, text_place_of, LiesIn, part_of, part_for};
+ghost use Rattle.loader.specs.GetBytes.{text_place, ro_place, lent_for, ro_start_of, ro_of, text_place_of, LiesIn, part_of, part_for};
 
 use crate::answer::Accepted;
 use crate::error::ElfError;
@@ -79,52 +79,74 @@ pub fn ro_bytes(lent: &[u8], start: u64, n: u64) -> &[u8]
     part_of(lent, ro_place(lent.len() as u64, start, n))
 }
 
-// The read-only bytes of an accepted load, of the lent image or of the lent buffer.
-#[tactic(auto, using(ebpf::specs::Choice::choices, crate::specs::GetBytes::lent_now))]
-pub fn get_ro_section<'a>(a: Accepted, image: &'a [u8], ro_section: &'a [u8]) -> &'a [u8]
-    ensures { result.now ≡ part_for a image ro_section (ro_of a) }
-{
-    let lent = if a.ro_copied { ro_section } else { image };
-    ro_bytes(lent, a.ro_start, a.ro_length)
-}
+impl Accepted {
+    // The lent bytes that hold the read-only ones: the buffer where they were copied, else the image.
+    #[tactic(auto, using(ebpf::specs::Choice::choices))]
+    fn lent_for<T: Copy>(self, image: T, ro_section: T) -> T
+        ensures { result ≡ lent_for self image ro_section }
+    {
+        if self.ro_start.is_none() {
+            return ro_section;
+        }
+        image
+    }
 
-// Where they stand, by how many bytes are lent for the image and for the buffer.
-#[tactic(auto, using(ebpf::specs::Choice::choices))]
-pub fn get_ro_place(a: Accepted, image: u64, ro_section: u64) -> Result<Place, ElfError>
-    ensures { result ≡ ro_of a (lent_for a image ro_section) }
-{
-    let lent = if a.ro_copied { ro_section } else { image };
-    ro_place(lent, a.ro_start, a.ro_length)
-}
+    // Where they start there.
+    fn start(self) -> u64
+        ensures { result ≡ ro_start_of self }
+    {
+        self.ro_start.unwrap_or(0)
+    }
 
-// The text's bytes of an accepted load.
-#[tactic(auto, using(ebpf::specs::Choice::choices, crate::specs::GetBytes::lent_now))]
-pub fn get_text_bytes<'a>(a: Accepted, image: &'a [u8], ro_section: &'a [u8]) -> &'a [u8]
-    ensures { result.now ≡ part_for a image ro_section (text_place_of a) }
-{
-    let lent = if a.ro_copied { ro_section } else { image };
-    text_bytes(
-        lent,
-        a.ro_offset,
-        a.ro_start,
-        a.ro_length,
-        a.text_addr,
-        a.text_length as u64,
-    )
-}
+    // The read-only bytes, of the lent image or of the lent buffer.
+    #[tactic(auto, using(crate::specs::GetBytes::lent_now))]
+    pub fn get_ro_section<'a>(self, image: &'a [u8], ro_section: &'a [u8]) -> &'a [u8]
+        ensures { result.now ≡ part_for self image ro_section (ro_of self) }
+    {
+        ro_bytes(
+            self.lent_for(image, ro_section),
+            self.start(),
+            self.ro_length,
+        )
+    }
 
-// Where it stands.
-#[tactic(auto, using(ebpf::specs::Choice::choices))]
-pub fn get_text_place(a: Accepted, image: u64, ro_section: u64) -> Result<Place, ElfError>
-    ensures { result ≡ text_place_of a (lent_for a image ro_section) }
-{
-    let lent = if a.ro_copied { ro_section } else { image };
-    text_place(
-        lent,
-        a.ro_offset,
-        a.ro_start,
-        a.ro_length,
-        a.text_addr,
-        a.text_length as u64,
-    )
+    // Where they stand, by how many bytes are lent for the image and for the buffer.
+    pub fn get_ro_place(self, image: u64, ro_section: u64) -> Result<Place, ElfError>
+        ensures { result ≡ ro_of self (lent_for self image ro_section) }
+    {
+        ro_place(
+            self.lent_for(image, ro_section),
+            self.start(),
+            self.ro_length,
+        )
+    }
+
+    // The text's bytes.
+    #[tactic(auto, using(crate::specs::GetBytes::lent_now))]
+    pub fn get_text_bytes<'a>(self, image: &'a [u8], ro_section: &'a [u8]) -> &'a [u8]
+        ensures { result.now ≡ part_for self image ro_section (text_place_of self) }
+    {
+        text_bytes(
+            self.lent_for(image, ro_section),
+            self.ro_offset,
+            self.start(),
+            self.ro_length,
+            self.text_addr,
+            self.text.length as u64,
+        )
+    }
+
+    // Where it stands.
+    pub fn get_text_place(self, image: u64, ro_section: u64) -> Result<Place, ElfError>
+        ensures { result ≡ text_place_of self (lent_for self image ro_section) }
+    {
+        text_place(
+            self.lent_for(image, ro_section),
+            self.ro_offset,
+            self.start(),
+            self.ro_length,
+            self.text_addr,
+            self.text.length as u64,
+        )
+    }
 }

@@ -29,19 +29,16 @@ mod relocations;
 mod sections;
 mod validate;
 
-pub use answer::Accepted;
+pub use answer::{Accepted, LoadAnd};
 pub use calls::is_local_call;
 pub use error::ElfError;
 pub use filling::clear_words;
-pub use get_bytes::{
-    get_ro_place, get_ro_section, get_text_bytes, get_text_place, ro_bytes, ro_place, text_bytes,
-    text_place,
-};
+pub use get_bytes::{ro_bytes, ro_place, text_bytes, text_place};
 pub use relocations::{
     R_BPF_64_32, R_BPF_64_64, R_BPF_64_RELATIVE, Relocation, UsedHeader, is_within, r_place,
     relocation_at, used_header,
 };
-pub use validate::Config;
+pub use validate::{BuiltinProgram, Config, MAX_FILE_LENGTH, MAX_PROGRAM_HEADERS};
 
 // A load that leaves anything where it refuses. The image's front is not cleared, since the file is
 // copied over it.
@@ -50,18 +47,24 @@ fn attempt(
     ro_section: &mut [u8],
     registry: &mut FunctionRegistry<'_>,
     file: &[u8],
-    builtins: &[u32],
-    config: Config,
+    loader: BuiltinProgram<'_>,
 ) -> Result<Accepted, ElfError>
     ensures same { SameColumns registry.old registry.new }
     ensures lens { SameLens (columns_of registry.old) (columns_of registry.new) }
-    ensures tries { Tries file builtins config image ro_section (columns_of registry.old) (columns_of registry.new) result }
+    ensures tries { Tries file loader.entry.functions.now loader.entry.config image ro_section (columns_of registry.old) (columns_of registry.new) result }
     ensures used { OnUsed result (λ used. registry.new.used ≡ used) }
 {
-    let job = prepare(file, builtins, config, image.len(), ro_section.len())?;
+    let job = prepare(file, loader, image.len(), ro_section.len())?;
     let n = file.len();
     clear_all(&mut image[n..], ro_section, registry);
-    fill_all(&mut image[..n], ro_section, registry, file, builtins, job)
+    fill_all(
+        &mut image[..n],
+        ro_section,
+        registry,
+        file,
+        loader.functions,
+        job,
+    )
 }
 
 // A LOAD: the image, the read-only bytes and the table of a file, or a refusal and only zeros
@@ -69,18 +72,17 @@ fn attempt(
 // then uses those that the answer says, or none.
 pub fn load(
     file: &[u8],
-    builtins: &[u32],
-    config: Config,
+    loader: BuiltinProgram<'_>,
     image: &mut [u8],
     ro_section: &mut [u8],
     registry: &mut FunctionRegistry<'_>,
 ) -> Result<Accepted, ElfError>
     ensures same { SameColumns registry.old registry.new }
     ensures lens { SameLens (columns_of registry.old) (columns_of registry.new) }
-    ensures loads { Loads file builtins config image ro_section (columns_of registry.old) (columns_of registry.new) result }
+    ensures loads { Loads file loader.entry.functions.now loader.entry.config image ro_section (columns_of registry.old) (columns_of registry.new) result }
     ensures used { registry.new.used ≡ used_of result }
 {
-    match attempt(image, ro_section, registry, file, builtins, config) {
+    match attempt(image, ro_section, registry, file, loader) {
         Ok(a) => Ok(a),
         Err(r) => {
             clear_all(image, ro_section, registry);

@@ -402,8 +402,7 @@ fn builtin_call(
     let known = is_builtin(inputs.builtins, hash);
     if inputs.job.reject_broken & !known {
         return Err(ElfError::UnresolvedSymbol {
-            start: place.start,
-            length: place.length,
+            name: place,
             offset: r,
         });
     }
@@ -473,11 +472,7 @@ fn plan_at(
 {
     let r_type = (r_info % 0x1_0000_0000) as u32;
     let r_sym = (r_info / 0x1_0000_0000) as u32;
-    let text = Place {
-        start: inputs.job.start,
-        length: inputs.job.length,
-    };
-    let in_text = is_within(text, r);
+    let in_text = is_within(inputs.job.text, r);
     let version2 = inputs.job.version2;
     let uses_addend = (r_type == R_BPF_64_64) | (r_type == R_BPF_64_RELATIVE);
     if uses_addend & is_negative(addend) {

@@ -12,7 +12,13 @@ use crate::sections::{Survey, section_at};
 use ebpf::{EF_SBPF_V2, MM_STACK_START};
 use elf_parser::consts::{EM_BPF, EM_SBPF, ET_DYN, SHT_NOBITS};
 use elf_parser::types::{Elf64Ehdr, Elf64Shdr};
-use elf_parser::{Elf64, ElfParserError, Layout, file_header, parse};
+use elf_parser::{Elf64, ElfParserError, Layout, Place, file_header, parse};
+
+// The longest file that a load takes.
+pub const MAX_FILE_LENGTH: u64 = 0x100_0000;
+
+// Version 2 has no more program headers.
+pub const MAX_PROGRAM_HEADERS: u64 = 9;
 
 // The settings of a load, under the Rust's names.
 #[derive(Clone, Copy, PartialEq, Eq, Debug)]
@@ -23,6 +29,13 @@ pub struct Config {
     pub optimize_rodata: bool,
     pub enable_sbpf_v1: bool,
     pub enable_sbpf_v2: bool,
+}
+
+// What files are loaded by: the keys of the built-in functions, and the settings.
+#[derive(Clone, Copy, PartialEq, Eq, Debug)]
+pub struct BuiltinProgram<'a> {
+    pub functions: &'a [u32],
+    pub config: Config,
 }
 
 // The settings by their bits.
@@ -48,8 +61,8 @@ pub struct Rules {
     pub config: Config,
 }
 
-// What a load needs of a file that passed the checks. `start` and `length` are the text's place in
-// the file, 0 for a text without bytes; `addr` is its address in the machine.
+// What a load needs of a file that passed the checks. `text` is the text's place in the file, at 0 for one
+// without bytes; `addr` is its address in the machine.
 #[derive(Clone, Copy, PartialEq, Eq, Debug)]
 pub struct Job {
     pub version2: bool,
@@ -60,8 +73,7 @@ pub struct Job {
     pub e_entry: u64,
     pub sh_addr: u64,
     pub sh_size: u64,
-    pub start: usize,
-    pub length: usize,
+    pub text: Place,
     pub addr: u64,
     pub placing: Result<Placing, ElfError>,
 }
@@ -71,7 +83,7 @@ pub struct Job {
 fn check_sizes(len: u64, image: u64, ro: u64) -> Result<(), ElfError>
     ensures { result ≡ size_check len image ro }
 {
-    if 0x100_0000 < len {
+    if MAX_FILE_LENGTH < len {
         return Err(ElfError::FileTooLong);
     }
     if image < len {
@@ -115,7 +127,7 @@ fn check_header(h: Elf64Ehdr, rules: Rules) -> Result<(), ElfError>
     if version2 & !c.optimize_rodata {
         return Err(ElfError::UnsupportedSBPFVersion);
     }
-    if version2 & (10 <= h.e_phnum) {
+    if version2 & (MAX_PROGRAM_HEADERS < h.e_phnum as u64) {
         return Err(ElfError::FailedToParse(ElfParserError::InvalidProgramHeader));
     }
     Ok(())
@@ -125,15 +137,12 @@ fn check_header(h: Elf64Ehdr, rules: Rules) -> Result<(), ElfError>
 fn writable_error(elf: &Elf64<'_>, sh_name: u32) -> ElfError
     ensures { result ≡ writable_error elf.now.file.now elf.now.layout sh_name }
 {
-    match elf.section_name(sh_name) {
-        Ok(place) => ElfError::WritableSectionNotSupported {
-            start: place.start,
-            length: place.length,
-        },
-        Err(_) => ElfError::WritableSectionNotSupported {
-            start: 0,
-            length: 0,
-        },
+    let none = Place {
+        start: 0,
+        length: 0,
+    };
+    ElfError::WritableSectionNotSupported {
+        name: elf.section_name(sh_name).unwrap_or(none),
     }
 }
 
@@ -205,8 +214,10 @@ fn job_of(
         e_entry,
         sh_addr: h.sh_addr,
         sh_size: h.sh_size,
-        start: if nobits { 0 } else { h.sh_offset as usize },
-        length: if nobits { 0 } else { h.sh_size as usize },
+        text: Place {
+            start: if nobits { 0 } else { h.sh_offset as usize },
+            length: if nobits { 0 } else { h.sh_size as usize },
+        },
         addr,
         placing,
     }
@@ -246,17 +257,16 @@ fn validate(elf: &Elf64<'_>, config: Config) -> Result<Job, ElfError>
 #[tactic(auto, using(ebpf::specs::Choice::choices), unfolding(crate::specs::Validate::prepared))]
 pub(crate) fn prepare(
     file: &[u8],
-    builtins: &[u32],
-    c: Config,
+    loader: BuiltinProgram<'_>,
     image: usize,
     ro: usize,
 ) -> Result<Job, ElfError>
-    ensures { result ≡ prepared file.now builtins.now c image ro }
+    ensures { result ≡ prepared file.now loader.entry.functions.now loader.entry.config image ro }
 {
     check_sizes(file.len() as u64, image as u64, ro as u64)?;
-    if !is_ascending(builtins) {
+    if !is_ascending(loader.functions) {
         return Err(ElfError::BuiltinsNotAscending);
     }
     let layout = parse(file)?;
-    validate(&Elf64 { file, layout }, c)
+    validate(&Elf64 { file, layout }, loader.config)
 }

@@ -35,11 +35,11 @@ codes_apart (Relocation i) (Relocation k) p q e = let same : i ≡ k = omega ari
 module _ (file : List ℕ) (l : Layout) (t : LoadedText) (b : ℕ) (inside : Askable file l t) where
   call_few : Few (call_writer file t b)
   unfolding call_to ◌if◌else◌
-  call_few = go ((in_immediate t b && ltb (slot_of t b) (t.length / 8)) && is_call file t (slot_of t b)) refl
+  call_few = go ((in_immediate t b && ltb (slot_of t b) (t.place.length / 8)) && is_call file t (slot_of t b)) refl
     where
-      go : (x : Bool) → ((in_immediate t b && ltb (slot_of t b) (t.length / 8)) && is_call file t (slot_of t b)) ≡ x → Few (Call (slot_of t b) if x else File)
+      go : (x : Bool) → ((in_immediate t b && ltb (slot_of t b) (t.place.length / 8)) && is_call file t (slot_of t b)) ≡ x → Few (Call (slot_of t b) if x else File)
       go true e =
-          let below = ltb-true (slot_of t b) (t.length / 8) (and_right (in_immediate t b) (ltb (slot_of t b) (t.length / 8)) (and_left (in_immediate t b && ltb (slot_of t b) (t.length / 8)) (is_call file t (slot_of t b)) e)) in
+          let below = ltb-true (slot_of t b) (t.place.length / 8) (and_right (in_immediate t b) (ltb (slot_of t b) (t.place.length / 8)) (and_left (in_immediate t b && ltb (slot_of t b) (t.place.length / 8)) (is_call file t (slot_of t b)) e)) in
           omega (arith, below, inside.text, inside.short)
       go false e = tt
 

@@ -35,29 +35,29 @@ module _ (file : List ℕ) (t : LoadedText) (b : ℕ) where
   pub where_is : (i : ℕ) → Where i
   where_is i = go (ℕ_discrete (slot_of t b) i)
     where
-      out : (b < t.start) ⊎ (b < immediate_of t i) ⊎ (immediate_of t i + 4 ≤ b) → is_in (immediate_of t i) 4 b ≡ false
+      out : (b < t.place.start) ⊎ (b < immediate_of t i) ⊎ (immediate_of t i + 4 ≤ b) → is_in (immediate_of t i) 4 b ≡ false
       out (inl h) = not_in (immediate_of t i) 4 b (inl (omega arith))
       out (inr (inl h)) = not_in (immediate_of t i) 4 b (inl h)
       out (inr (inr h)) = not_in (immediate_of t i) 4 b (inr h)
 
       go : Dec (slot_of t b ≡ i) → Where i
       go (yes q) =
-          by_le t.start b (λ (x : Bool). Where i)
-          (λ l. by_le 4 ((b - t.start) % 8) (λ (x : Bool). Where i)
-          (λ m. here (in_places (immediate_of t i) 4 b (omega arith) (omega arith)) (rw (le-leb t.start b l, le-leb 4 ((b - t.start) % 8) m) refl) q (omega arith) (omega arith))
-          (λ m. nowhere (out (inr (inl (omega arith)))) (rw (lt-leb 4 ((b - t.start) % 8) m) (and_off (leb t.start b)))))
-          (λ l. nowhere (out (inl l)) (rw (lt-leb t.start b l) refl))
+          by_le t.place.start b (λ (x : Bool). Where i)
+          (λ l. by_le 4 ((b - t.place.start) % 8) (λ (x : Bool). Where i)
+          (λ m. here (in_places (immediate_of t i) 4 b (omega arith) (omega arith)) (rw (le-leb t.place.start b l, le-leb 4 ((b - t.place.start) % 8) m) refl) q (omega arith) (omega arith))
+          (λ m. nowhere (out (inr (inl (omega arith)))) (rw (lt-leb 4 ((b - t.place.start) % 8) m) (and_off (leb t.place.start b)))))
+          (λ l. nowhere (out (inl l)) (rw (lt-leb t.place.start b l) refl))
       go (no q) =
-          by_le t.start b (λ (x : Bool). Where i)
-          (λ l. by_le 4 ((b - t.start) % 8) (λ (x : Bool). Where i)
-          (λ m. elsewhere (apart l m) (rw (le-leb t.start b l, le-leb 4 ((b - t.start) % 8) m) refl) q)
-          (λ m. nowhere (low l m) (rw (lt-leb 4 ((b - t.start) % 8) m) (and_off (leb t.start b)))))
-          (λ l. nowhere (out (inl l)) (rw (lt-leb t.start b l) refl))
+          by_le t.place.start b (λ (x : Bool). Where i)
+          (λ l. by_le 4 ((b - t.place.start) % 8) (λ (x : Bool). Where i)
+          (λ m. elsewhere (apart l m) (rw (le-leb t.place.start b l, le-leb 4 ((b - t.place.start) % 8) m) refl) q)
+          (λ m. nowhere (low l m) (rw (lt-leb 4 ((b - t.place.start) % 8) m) (and_off (leb t.place.start b)))))
+          (λ l. nowhere (out (inl l)) (rw (lt-leb t.place.start b l) refl))
         where
-          apart : t.start ≤ b → 4 ≤ (b - t.start) % 8 → is_in (immediate_of t i) 4 b ≡ false
+          apart : t.place.start ≤ b → 4 ≤ (b - t.place.start) % 8 → is_in (immediate_of t i) 4 b ≡ false
           apart l m = by_lt (slot_of t b) i (λ (x : Bool). is_in (immediate_of t i) 4 b ≡ false) (λ h. out (inr (inl (omega arith)))) (λ h. out (inr (inr (omega arith))))
 
-          low : t.start ≤ b → (b - t.start) % 8 < 4 → is_in (immediate_of t i) 4 b ≡ false
+          low : t.place.start ≤ b → (b - t.place.start) % 8 < 4 → is_in (immediate_of t i) 4 b ≡ false
           low l m = by_lt (slot_of t b) i (λ (x : Bool). is_in (immediate_of t i) 4 b ≡ false) (λ h. out (inr (inl (omega arith)))) (λ h. out (inr (inr (omega arith))))
 
   -- one slot more

@@ -25,7 +25,7 @@ use Rattle.elf_parser.specs.declared.error.ElfParserError.{ElfParserError}
 
 -- ---- the text of a file
 
-module _ (file : List ℕ) (x : LoadedText) (t : Layout) (short : length file ≤ 2 ^ 24) (inside : x.start + x.length ≤ length file) where
+module _ (file : List ℕ) (x : LoadedText) (t : Layout) (short : length file ≤ 2 ^ 24) (inside : x.place.start + x.place.length ≤ length file) where
   askable_in : (l : Layout) → parsed file ≡ Ok l → text_in l x ≡ Ok t → Askable file t x
   unfolding text_in
   askable_in l q e =

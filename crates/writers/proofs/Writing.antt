@@ -33,7 +33,7 @@ use Rattle.writers.proofs.Slots.{and_off, and_on, last_slot}
 
 -- the text of a job
 abbrev pub text_is : Job → LoadedText
-text_is j = record { version2 = j.version2; start = j.start; length = j.length }
+text_is j = record { version2 = j.version2; place = j.text }
 
 module _ (file builtins : List ℕ) (j : Job) where
   -- a slot that does not stop the load writes b exactly if it is a local call with b in its immediate

@@ -15,7 +15,7 @@ use Rattle.elf_parser.specs.declared.error.ElfParserError.{ElfParserError}
 
 -- what a load's answer says of the text
 abbrev pub text_loaded : Accepted → LoadedText
-text_loaded a = record { version2 = eqb a.version 2; start = a.text_start; length = a.text_length }
+text_loaded a = record { version2 = eqb a.version 2; place = a.text }
 
 -- version 2 has at most nine program headers
 unfoldable pub text_in : Layout → LoadedText → Result Layout ElfError
@@ -32,7 +32,7 @@ text_by (Ok l) x = text_in l x
 unfoldable pub text_of : List ℕ → LoadedText → Result Layout ElfError
 text_of file x =
     Err FileTooLong if ltb 0x100_0000 (length file) else
-    Err ValueOutOfBounds if ltb (length file) (x.start + x.length) else
+    Err ValueOutOfBounds if ltb (length file) (x.place.start + x.place.length) else
     text_by (parsed file) x
 
 -- an offset past the file's end is no index of a byte
@@ -51,6 +51,6 @@ asked file (Ok a) b = asked_by file (text_loaded a) b
 -- what the functions behind `text_of` may count on
 pub record Askable (file : List ℕ) (l : Layout) (x : LoadedText) : Type 0 where
   pub short : length file ≤ 2 ^ 24
-  pub text : x.start + x.length ≤ length file
+  pub text : x.place.start + x.place.length ≤ length file
   pub relocations : 16 * l.dynamic_relocations.count ≤ length file
   pub relas : 24 * l.dynamic_relas.count ≤ length file

@@ -19,17 +19,17 @@ use Rattle.writers.specs.declared.text.LoadedText.{LoadedText}
 
 -- slot number i is, in the file, a local call
 abbrev pub is_call : List ℕ → LoadedText → ℕ → Bool
-is_call file t i = local_call_in t.version2 (insn_at (take t.length (drop t.start file)) i)
+is_call file t i = local_call_in t.version2 (insn_at (take t.place.length (drop t.place.start file)) i)
 
 abbrev pub immediate_of : LoadedText → ℕ → ℕ
-immediate_of t i = t.start + 8 * i + 4
+immediate_of t i = t.place.start + 8 * i + 4
 
 -- the slot of the byte b, and whether it is one of the slot's last four bytes
 abbrev pub slot_of : LoadedText → ℕ → ℕ
-slot_of t b = (b - t.start) / 8
+slot_of t b = (b - t.place.start) / 8
 
 abbrev pub in_immediate : LoadedText → ℕ → Bool
-in_immediate t b = leb t.start b && leb 4 ((b - t.start) % 8)
+in_immediate t b = leb t.place.start b && leb 4 ((b - t.place.start) % 8)
 
 -- the call that has b in its immediate, among the first n slots, else the file
 unfoldable pub call_to : List ℕ → LoadedText → ℕ → ℕ → Writer
@@ -37,13 +37,13 @@ call_to file t n b = Call (slot_of t b) if (in_immediate t b && ltb (slot_of t b
 
 -- among all whole slots of the text
 abbrev pub call_writer : List ℕ → LoadedText → ℕ → Writer
-call_writer file t b = call_to file t (t.length / 8) b
+call_writer file t b = call_to file t (t.place.length / 8) b
 
 -- ---- relocations
 
 -- the relocation number i names the byte b
 abbrev pub names_byte : List ℕ → Layout → LoadedText → ℕ → ℕ → Bool
-names_byte file l t i b = names_in file l t.version2 t.start t.length i b
+names_byte file l t i b = names_in file l t.version2 t.place.start t.place.length i b
 
 -- the last of the numbers below n of which P holds, by what it stands for, else w
 unfoldable pub last_of : (ℕ → Writer) → (ℕ → Bool) → ℕ → Writer → Writer
@@ -73,4 +73,4 @@ Names x P = (b : ℕ) → is_named x b ≡ P b
 -- the relocation number i, behind those that used `header` last
 pub record NamesNext (file : List ℕ) (l : Layout) (t : LoadedText) (header : Option UsedHeader) (i : ℕ) (x : Next) : Type 0 where
   pub used : x.header ≡ used_header file l t.version2 header (relocation_at file l i).r_offset
-  pub names : Names x.named (named_in t.version2 t.start t.length (place_of t.version2 x.header (relocation_at file l i).r_offset) ((relocation_at file l i).r_info % 2 ^ 32))
+  pub names : Names x.named (named_in t.version2 t.place.start t.place.length (place_of t.version2 x.header (relocation_at file l i).r_offset) ((relocation_at file l i).r_info % 2 ^ 32))

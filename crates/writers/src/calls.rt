@@ -12,8 +12,8 @@ pub(crate) fn is_call(text: &Text<'_>, i: usize) -> bool
     ensures { result ≡ is_call text.now.elf.file.now text.now.loaded i }
 {
     let loaded = text.loaded;
-    let end = loaded.start + loaded.length;
-    get_insn(&text.elf.file[loaded.start..end], i).is_some_and(|insn| is_local_call(
+    let end = loaded.place.start + loaded.place.length;
+    get_insn(&text.elf.file[loaded.place.start..end], i).is_some_and(|insn| is_local_call(
         loaded.version2,
         insn,
     ))
@@ -28,7 +28,7 @@ pub(crate) fn call_writer(text: &Text<'_>, b: u64) -> Writer
     requires { b < length text.now.elf.file.now }
     ensures { result ≡ call_writer text.now.elf.file.now text.now.loaded b }
 {
-    let start = text.loaded.start as u64;
+    let start = text.loaded.place.start as u64;
     if b < start {
         return Writer::File;
     }
@@ -37,7 +37,7 @@ pub(crate) fn call_writer(text: &Text<'_>, b: u64) -> Writer
         return Writer::File;
     }
     let i = (d / 8) as usize;
-    if text.loaded.length / 8 <= i {
+    if text.loaded.place.length / 8 <= i {
         return Writer::File;
     }
     if is_call(text, i) {

@@ -9,7 +9,7 @@ ghost use Rattle.writers.specs.Whole.{OnlyZeros, FillsBy, Fills};
 ghost use Rattle.writers.specs.Loads.{LoadsAndTells};
 
 use elf_parser::{Elf64, ElfParserError};
-use loader::{Accepted, Config, ElfError, clear_words, load};
+use loader::{Accepted, BuiltinProgram, ElfError, LoadAnd, clear_words, load};
 use naming::last_naming;
 use program::FunctionRegistry;
 use text::{Text, layout_of};
@@ -28,13 +28,6 @@ pub enum Writer {
     File,
     Call(u32),
     Relocation(u32),
-}
-
-// What a load answers, and who wrote the byte that was asked for.
-#[derive(Clone, Copy, PartialEq, Eq, Debug)]
-pub struct LoadWrote {
-    pub load: Result<Accepted, ElfError>,
-    pub wrote: Result<Writer, ElfError>,
 }
 
 // WHO WROTE A BYTE of the image that a load of this file made, by what that load's answer says of the
@@ -65,22 +58,21 @@ pub fn who_wrote(
 // A load, and who wrote a byte of its image.
 pub fn load_who_wrote(
     file: &[u8],
-    builtins: &[u32],
-    config: Config,
+    loader: BuiltinProgram<'_>,
     image: &mut [u8],
     ro_section: &mut [u8],
     registry: &mut FunctionRegistry<'_>,
     offset: u64,
-) -> LoadWrote
+) -> LoadAnd<Result<Writer, ElfError>>
     ensures same { SameColumns registry.old registry.new }
     ensures lens { SameLens (columns_of registry.old) (columns_of registry.new) }
-    ensures tells { LoadsAndTells file builtins config image ro_section (columns_of registry.old) (columns_of registry.new) offset result }
+    ensures tells { LoadsAndTells file loader.entry.functions.now loader.entry.config image ro_section (columns_of registry.old) (columns_of registry.new) offset result }
     ensures used { registry.new.used ≡ used_of result.load }
 {
-    let answer = load(file, builtins, config, image, ro_section, registry);
-    LoadWrote {
+    let answer = load(file, loader, image, ro_section, registry);
+    LoadAnd {
         load: answer,
-        wrote: who_wrote(file, answer, offset),
+        asked: who_wrote(file, answer, offset),
     }
 }
 

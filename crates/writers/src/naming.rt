@@ -7,7 +7,7 @@ ghost use Rattle.writers.specs.Named.{is_named, Names, NamesNext, count_of, by_n
 use crate::Writer;
 use crate::calls::call_writer;
 use crate::text::{LoadedText, Text};
-use elf_parser::{Layout, Place};
+use elf_parser::Layout;
 use loader::{
     R_BPF_64_32, R_BPF_64_64, R_BPF_64_RELATIVE, UsedHeader, is_within, r_place, relocation_at,
     used_header,
@@ -25,14 +25,10 @@ pub enum Named {
 // What a relocation at that place names, by the low half of its `r_info`; nothing where the place is none.
 #[tactic(auto, using(ebpf::specs::Choice::choices), unfolding(loader::specs::Demand::named_by))]
 fn named_in(text: LoadedText, at: Option<u64>, r_info: u64) -> Option<Named>
-    ensures { Names result (named_in text.version2 text.start text.length at (r_info % 2 ^ 32)) }
+    ensures { Names result (named_in text.version2 text.place.start text.place.length at (r_info % 2 ^ 32)) }
 {
     let r = at?;
-    let place = Place {
-        start: text.start,
-        length: text.length,
-    };
-    let in_text = is_within(place, r);
+    let in_text = is_within(text.place, r);
     match (r_info % 0x1_0000_0000) as u32 {
         R_BPF_64_64 if in_text | !text.version2 => Some(Named::Halves(r)),
         R_BPF_64_RELATIVE if in_text => Some(Named::Halves(r)),

@@ -2,15 +2,14 @@
 ghost use Rattle.std.specs.Prelude.{◌≡◌};
 ghost use Rattle.writers.specs.Asked.{Askable, text_loaded, text_in, text_of};
 
-use elf_parser::{Elf64, ElfParserError, Layout, parse, past};
-use loader::{Accepted, ElfError};
+use elf_parser::{Elf64, ElfParserError, Layout, Place, parse, past};
+use loader::{Accepted, ElfError, MAX_FILE_LENGTH, MAX_PROGRAM_HEADERS};
 
 // What a load's answer says of the text: the version, and the text's place in the file.
 #[derive(Clone, Copy, PartialEq, Eq, Debug)]
 pub struct LoadedText {
     pub version2: bool,
-    pub start: usize,
-    pub length: usize,
+    pub place: Place,
 }
 
 impl From<Accepted> for LoadedText {
@@ -19,8 +18,7 @@ impl From<Accepted> for LoadedText {
     fn from(a: Accepted) -> LoadedText {
         LoadedText {
             version2: a.version == 2,
-            start: a.text_start,
-            length: a.text_length,
+            place: a.text,
         }
     }
 }
@@ -40,7 +38,7 @@ fn layout_in(layout: Layout, loaded: LoadedText) -> Result<Layout, ElfError>
     ensures { result ≡ text_in layout loaded }
 {
     let headers = layout.program_headers;
-    if loaded.version2 & (10 <= headers.count) {
+    if loaded.version2 & (MAX_PROGRAM_HEADERS < headers.count) {
         return Err(ElfError::FailedToParse(ElfParserError::InvalidProgramHeader));
     }
     Ok(layout)
@@ -53,10 +51,10 @@ pub(crate) fn layout_of(file: &[u8], loaded: LoadedText) -> Result<Layout, ElfEr
     ensures { result ≡ text_of file.now loaded }
 {
     let len = file.len() as u64;
-    if 0x100_0000 < len {
+    if MAX_FILE_LENGTH < len {
         return Err(ElfError::FileTooLong);
     }
-    if past(len, loaded.start as u64, loaded.length as u64) {
+    if past(len, loaded.place.start as u64, loaded.place.length as u64) {
         return Err(ElfError::ValueOutOfBounds);
     }
     layout_in(parse(file)?, loaded)

@@ -57,7 +57,8 @@ fn mark_call(numbers: &mut [u32], text: &Text<'_>, i: usize)
     ensures { Marks (λ b. is_in (immediate_of text.now.loaded i) 4 b && is_call text.now.elf.file.now text.now.loaded i) (i + 1) numbers }
 {
     if is_call(text, i) {
-        mark_four(numbers, (text.loaded.start + 8 * i) as u64, 4, i as u32 + 1);
+        let start = text.loaded.place.start;
+        mark_four(numbers, (start + 8 * i) as u64, 4, i as u32 + 1);
     }
 }
 
@@ -66,7 +67,7 @@ fn mark_calls(numbers: &mut [u32], text: &Text<'_>)
     requires { OnlyZeros numbers.old }
     ensures { HoldsCalls text.now.elf.file.now text.now.loaded numbers }
 {
-    for i in 0..text.loaded.length / 8 {
+    for i in 0..text.loaded.place.length / 8 {
         mark_call(numbers, text, i);
     }
 }

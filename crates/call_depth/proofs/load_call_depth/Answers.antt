@@ -15,12 +15,12 @@ returns-clause-measures c =
     let lent = columns_of c.args.registry.now in
     let left = columns_of c.load-answer.new.registry in
     let loads = c.load-answer.ensures.loads in
-    let done : Made c.args.file.now c.args.builtins.now c.args.config (length c.args.image.now) (length c.args.ro_section.now) lent c.load-answer.new.image left c.load-answer.result = record { answers = loads.loaded.answers; image = loads.loaded.demand_1.image; keyed = loads.keyed; ascending = loads.ascending } in
+    let done : Made c.args.file.now c.args.loader.functions.now c.args.loader.config (length c.args.image.now) (length c.args.ro_section.now) lent c.load-answer.new.image left c.load-answer.result = record { answers = loads.loaded.answers; image = loads.loaded.demand_1.image; keyed = loads.keyed; ascending = loads.ascending } in
     let by : Slices → Type 0 = λ (t : Slices). c.call_depth.result ≡ depth_asked (length c.args.work.now) (capacity t) c.load-answer.new.image t.keys t.indices c.load-answer.result c.args.limit in
     let measures : c.call_depth.result ≡ depth_asked (length c.args.work.now) (capacity lent) c.load-answer.new.image left.keys left.indices c.load-answer.result c.args.limit = rw (← capacity_same lent left c.load-answer.ensures.lens) (subst by c.as_table.ensures.columns c.call_depth.ensures.is) in
     let meant : MeansAsked c.load-answer.result c.load-answer.new.image left c.args.limit c.call_depth.result = rw (← c.as_table.ensures.columns) c.call_depth.ensures.means in
     record {
       loads = record { loaded = loads.loaded; keyed = loads.keyed; ascending = loads.ascending };
       measures = measures;
-      means = depth_means c.args.file.now c.args.builtins.now c.args.config (length c.args.image.now) (length c.args.ro_section.now) lent c.load-answer.new.image left c.load-answer.result done (length c.args.work.now) c.args.limit c.call_depth.result measures meant;
+      means = depth_means c.args.file.now c.args.loader.functions.now c.args.loader.config (length c.args.image.now) (length c.args.ro_section.now) lent c.load-answer.new.image left c.load-answer.result done (length c.args.work.now) c.args.limit c.call_depth.result measures meant;
     }

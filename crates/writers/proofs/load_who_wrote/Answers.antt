@@ -13,9 +13,9 @@ returns-clause-tells c =
     let m = length c.args.ro_section.now in
     let rows = capacity (columns_of c.args.registry.now) in
     let loads = c.load-answer.ensures.loads in
-    let tells : c.who_wrote.result ≡ wrote_of c.args.file.now c.args.builtins.now c.args.config n m rows c.args.offset = rw (← agrees c.args.file.now c.args.builtins.now c.args.config n m rows c.args.offset, ← loads.loaded.answers) c.who_wrote.ensures in
+    let tells : c.who_wrote.result ≡ wrote_of c.args.file.now c.args.loader.functions.now c.args.loader.config n m rows c.args.offset = rw (← agrees c.args.file.now c.args.loader.functions.now c.args.loader.config n m rows c.args.offset, ← loads.loaded.answers) c.who_wrote.ensures in
     record {
       loads = record { loaded = loads.loaded; keyed = loads.keyed; ascending = loads.ascending };
       tells = tells;
-      kept = λ e. rw loads.loaded.demand_1.image (kept c.args.file.now c.args.builtins.now c.args.config n m rows c.args.offset (sym tells ∙ e));
+      kept = λ e. rw loads.loaded.demand_1.image (kept c.args.file.now c.args.loader.functions.now c.args.loader.config n m rows c.args.offset (sym tells ∙ e));
     }

@@ -44,8 +44,8 @@ pub loop-i-init : goal.loop-i-init
 loop-i-init c =
     let i = c.args.inputs.now in
     let o = c.args.out.now in
-    let e : i.job.start + 0 ≡ 0 + i.job.start = omega arith in
-    let front : ahead (i.job.start + 0) c.copy_bytes.new.to i.file.now ≡ i.file.now = rw (e, c.copy_bytes.ensures) (ahead_more o.image.now i.file.now 0 i.job.start c.requires.0 (omega (arith, c.args.inputs.now.in_file.text))) in (
+    let e : i.job.text.start + 0 ≡ 0 + i.job.text.start = omega arith in
+    let front : ahead (i.job.text.start + 0) c.copy_bytes.new.to i.file.now ≡ i.file.now = rw (e, c.copy_bytes.ensures) (ahead_more o.image.now i.file.now 0 i.job.text.start c.requires.0 (omega (arith, c.args.inputs.now.in_file.text))) in (
       keeps_all _,
       rw front (going_start (slot_trace i.file.now i.builtins.now i.job) (slot_count i.job) i.file.now (columns_of o.registry.now) o.registry.now.used o.moves c.requires.1.0),
       rw c.requires.1.1 (none_held i.builtins.now i.job (columns_of o.registry.now) 1024),
@@ -55,14 +55,14 @@ pub copy_bytes-requires-in-loop-i : goal.copy_bytes-requires-in-loop-i
 copy_bytes-requires-in-loop-i c =
     let j = c.args.inputs.now.job in
     let bounds = ran (goal.at.copy_bytes-requires-in-loop-i c).After-run_end-to in
-    let h = text_in j.start j.length c.run_end-to.result _ c.args.inputs.now.in_file.text bounds.1 in
+    let h = text_in j.text.start j.text.length c.run_end-to.result _ c.args.inputs.now.in_file.text bounds.1 in
     (omega (arith, bounds.0, h, c.loop-i.invariant.0.image_as, c.copy_bytes.auto.to, c.requires.0), omega (arith, bounds.0, h))
 
 -- the slots up to the run's end, once their bytes are copied, whatever their answer
 ran_all : (r : After-register_slots) (a : Result (Unit {0}) ElfError) → r.register_slots.result ≡ a
     → Leads (slot_trace r.args.inputs.now.file.now r.args.inputs.now.builtins.now r.args.inputs.now.job) (slot_count r.args.inputs.now.job) r.loop-i.i r.run_end-to.result
-    (ahead (r.args.inputs.now.job.start + 8 * r.loop-i.i) r.loop-i.out.image.now r.args.inputs.now.file.now)
-    (ahead (r.args.inputs.now.job.start + 8 * r.run_end-to.result) r.register_slots.new.out.image.now r.args.inputs.now.file.now)
+    (ahead (r.args.inputs.now.job.text.start + 8 * r.loop-i.i) r.loop-i.out.image.now r.args.inputs.now.file.now)
+    (ahead (r.args.inputs.now.job.text.start + 8 * r.run_end-to.result) r.register_slots.new.out.image.now r.args.inputs.now.file.now)
     (columns_of r.loop-i.out.registry.now) (columns_of r.register_slots.new.out.registry.now) r.loop-i.out.registry.now.used r.loop-i.out.moves (held_of a r.register_slots.new.out)
 ran_all r a e =
     let i = r.args.inputs.now in
@@ -70,9 +70,9 @@ ran_all r a e =
     let o' = r.register_slots.new.out in
     let bounds = runs _ _ _ r.loop-i-test.true r.run_end-to.ensures in
     let was : length o.image.now ≡ length i.file.now = r.loop-i.invariant.0.image_as ∙ r.copy_bytes.auto.to ∙ r.requires.0 in
-    let same = copied i.file.now o.image.now r.copy_bytes-in-loop-i.new.to i.job.start r.loop-i.i r.run_end-to.result (omega (arith, bounds.0)) was (text_in i.job.start i.job.length r.run_end-to.result _ r.args.inputs.now.in_file.text bounds.1) r.copy_bytes-in-loop-i.ensures in
-    subst (λ (b : Result (Unit {0}) ElfError). Leads (slot_trace i.file.now i.builtins.now i.job) (slot_count i.job) r.loop-i.i r.run_end-to.result (ahead (i.job.start + 8 * r.loop-i.i) o.image.now i.file.now) (ahead (i.job.start + 8 * r.run_end-to.result) o'.image.now i.file.now) (columns_of o.registry.now) (columns_of o'.registry.now) o.registry.now.used o.moves (held_of b o')) e
-    (subst (λ (im : List ℕ). Leads (slot_trace i.file.now i.builtins.now i.job) (slot_count i.job) r.loop-i.i r.run_end-to.result im (ahead (i.job.start + 8 * r.run_end-to.result) o'.image.now i.file.now) (columns_of o.registry.now) (columns_of o'.registry.now) o.registry.now.used o.moves (held_of r.register_slots.result o')) same r.register_slots.ensures.leads)
+    let same = copied i.file.now o.image.now r.copy_bytes-in-loop-i.new.to i.job.text.start r.loop-i.i r.run_end-to.result (omega (arith, bounds.0)) was (text_in i.job.text.start i.job.text.length r.run_end-to.result _ r.args.inputs.now.in_file.text bounds.1) r.copy_bytes-in-loop-i.ensures in
+    subst (λ (b : Result (Unit {0}) ElfError). Leads (slot_trace i.file.now i.builtins.now i.job) (slot_count i.job) r.loop-i.i r.run_end-to.result (ahead (i.job.text.start + 8 * r.loop-i.i) o.image.now i.file.now) (ahead (i.job.text.start + 8 * r.run_end-to.result) o'.image.now i.file.now) (columns_of o.registry.now) (columns_of o'.registry.now) o.registry.now.used o.moves (held_of b o')) e
+    (subst (λ (im : List ℕ). Leads (slot_trace i.file.now i.builtins.now i.job) (slot_count i.job) r.loop-i.i r.run_end-to.result im (ahead (i.job.text.start + 8 * r.run_end-to.result) o'.image.now i.file.now) (columns_of o.registry.now) (columns_of o'.registry.now) o.registry.now.used o.moves (held_of r.register_slots.result o')) same r.register_slots.ensures.leads)
 
 pub register_slots-requires : goal.register_slots-requires
 register_slots-requires c =
@@ -82,7 +82,7 @@ register_slots-requires c =
     let bounds = ran (goal.at.register_slots-requires c).After-run_end-to in (
       (
         c.copy_bytes-in-loop-i.auto.to ∙ c.loop-i.invariant.0.image_as ∙ c.copy_bytes.auto.to ∙ c.requires.0,
-        in_begins_run (slot_trace i.file.now i.builtins.now i.job) (slot_count i.job) 0 (slot_count i.job) (omega arith) i.file.now (ahead (i.job.start + 8 * c.loop-i.i) o.image.now i.file.now) (columns_of o₀.registry.now) (columns_of o.registry.now) o₀.registry.now.used o₀.moves o.registry.now.used o.moves c.loop-i.i (all_begin (slot_count i.job) (columns_of o₀.registry.now) o₀.registry.now.used o₀.moves c.requires.1.0) c.loop-i.invariant.1 c.run_end-to.result (omega (arith, bounds.0)) bounds.1 i.file.now (columns_of o.registry.now),
+        in_begins_run (slot_trace i.file.now i.builtins.now i.job) (slot_count i.job) 0 (slot_count i.job) (omega arith) i.file.now (ahead (i.job.text.start + 8 * c.loop-i.i) o.image.now i.file.now) (columns_of o₀.registry.now) (columns_of o.registry.now) o₀.registry.now.used o₀.moves o.registry.now.used o.moves c.loop-i.i (all_begin (slot_count i.job) (columns_of o₀.registry.now) o₀.registry.now.used o₀.moves c.requires.1.0) c.loop-i.invariant.1 c.run_end-to.result (omega (arith, bounds.0)) bounds.1 i.file.now (columns_of o.registry.now),
       ),
       omega (arith, bounds.0),
       bounds.1,
@@ -98,7 +98,7 @@ returns-in_err-register_slots-clause-settles c =
     let bounds = ran (goal.at.returns-in_err-register_slots-clause-settles c).After-run_end-to in
     let p = err_from_is_err_and c.from_residual.result c.from_residual.ensures.1 in
     rw (p.1, p.2) (all_lead (slot_trace i.file.now i.builtins.now i.job) (slot_count i.job) i.file.now _ (columns_of o₀.registry.now) (columns_of o'.registry.now) o₀.registry.now.used o₀.moves _
-    (in_run_stop (slot_trace i.file.now i.builtins.now i.job) (slot_count i.job) 0 (slot_count i.job) (omega arith) i.file.now (ahead (i.job.start + 8 * c.loop-i.i) o.image.now i.file.now) (columns_of o₀.registry.now) (columns_of o.registry.now) o₀.registry.now.used o₀.moves o.registry.now.used o.moves c.loop-i.i (all_begin (slot_count i.job) (columns_of o₀.registry.now) o₀.registry.now.used o₀.moves c.requires.1.0) c.loop-i.invariant.1 c.run_end-to.result (omega (arith, bounds.0)) bounds.1 _ (columns_of o'.registry.now) _ _
+    (in_run_stop (slot_trace i.file.now i.builtins.now i.job) (slot_count i.job) 0 (slot_count i.job) (omega arith) i.file.now (ahead (i.job.text.start + 8 * c.loop-i.i) o.image.now i.file.now) (columns_of o₀.registry.now) (columns_of o.registry.now) o₀.registry.now.used o₀.moves o.registry.now.used o.moves c.loop-i.i (all_begin (slot_count i.job) (columns_of o₀.registry.now) o₀.registry.now.used o₀.moves c.requires.1.0) c.loop-i.invariant.1 c.run_end-to.result (omega (arith, bounds.0)) bounds.1 _ (columns_of o'.registry.now) _ _
     (ran_all (goal.at.returns-in_err-register_slots-clause-settles c).After-register_slots _ c.in_err-register_slots.was)))
 
 pub loop-i-smaller : goal.loop-i-smaller
@@ -122,9 +122,9 @@ loop-i-preserved c =
     } in
     let was : length o.image.now ≡ length i.file.now = c.loop-i.invariant.0.image_as ∙ c.copy_bytes.auto.to ∙ c.requires.0 in
     let len : length o'.image.now ≡ length i.file.now = c.register_slots.ensures.keeps.image_as ∙ c.copy_bytes-in-loop-i.auto.to ∙ was in
-    let same : length (ahead (i.job.start + 8 * c.run_end-to.result) o'.image.now i.file.now) ≡ length (ahead (i.job.start + 8 * c.loop-i.i) o.image.now i.file.now) = ahead_length o'.image.now i.file.now (i.job.start + 8 * c.run_end-to.result) len ∙ len ∙ sym (ahead_length o.image.now i.file.now (i.job.start + 8 * c.loop-i.i) was ∙ was) in (
+    let same : length (ahead (i.job.text.start + 8 * c.run_end-to.result) o'.image.now i.file.now) ≡ length (ahead (i.job.text.start + 8 * c.loop-i.i) o.image.now i.file.now) = ahead_length o'.image.now i.file.now (i.job.text.start + 8 * c.run_end-to.result) len ∙ len ∙ sym (ahead_length o.image.now i.file.now (i.job.text.start + 8 * c.loop-i.i) was ∙ was) in (
       keeps_on _ o o' c.loop-i.invariant.0 kept,
-      in_run (slot_trace i.file.now i.builtins.now i.job) (slot_count i.job) 0 (slot_count i.job) (omega arith) i.file.now (ahead (i.job.start + 8 * c.loop-i.i) o.image.now i.file.now) (columns_of o₀.registry.now) (columns_of o.registry.now) o₀.registry.now.used o₀.moves o.registry.now.used o.moves c.loop-i.i (all_begin (slot_count i.job) (columns_of o₀.registry.now) o₀.registry.now.used o₀.moves c.requires.1.0) c.loop-i.invariant.1 c.run_end-to.result (omega (arith, bounds.0)) bounds.1 (ahead (i.job.start + 8 * c.run_end-to.result) o'.image.now i.file.now) (columns_of o'.registry.now) o'.registry.now.used o'.moves c.register_slots.ensures.keeps.table_as same
+      in_run (slot_trace i.file.now i.builtins.now i.job) (slot_count i.job) 0 (slot_count i.job) (omega arith) i.file.now (ahead (i.job.text.start + 8 * c.loop-i.i) o.image.now i.file.now) (columns_of o₀.registry.now) (columns_of o.registry.now) o₀.registry.now.used o₀.moves o.registry.now.used o.moves c.loop-i.i (all_begin (slot_count i.job) (columns_of o₀.registry.now) o₀.registry.now.used o₀.moves c.requires.1.0) c.loop-i.invariant.1 c.run_end-to.result (omega (arith, bounds.0)) bounds.1 (ahead (i.job.text.start + 8 * c.run_end-to.result) o'.image.now i.file.now) (columns_of o'.registry.now) o'.registry.now.used o'.moves c.register_slots.ensures.keeps.table_as same
           (ran_all (goal.at.loop-i-preserved c).After-register_slots (Ok tt) c.in_ok-register_slots.was),
       subst (StillHeld i c.register_slots.new.seen o') c.in_ok-register_slots.was c.register_slots.ensures.held,
     )
@@ -132,7 +132,7 @@ loop-i-preserved c =
 pub copy_bytes-requires-2 : goal.copy_bytes-requires-2
 copy_bytes-requires-2 c =
     let j = c.args.inputs.now.job in
-    let h = text_in j.start j.length (slot_count j) _ c.args.inputs.now.in_file.text (omega arith) in
+    let h = text_in j.text.start j.text.length (slot_count j) _ c.args.inputs.now.in_file.text (omega arith) in
     (omega (arith, h, c.loop-i.invariant.0.image_as, c.copy_bytes.auto.to, c.requires.0), omega (arith, h))
 
 pub returns-clause-settles : goal.returns-clause-settles
@@ -142,6 +142,6 @@ returns-clause-settles c =
     let o = c.loop-i.out in
     let end : c.loop-i.i ≡ slot_count i.job = omega (arith, c.loop-i.invariant.1.passed, c.loop-i-test.false) in
     let was : length o.image.now ≡ length i.file.now = c.loop-i.invariant.0.image_as ∙ c.copy_bytes.auto.to ∙ c.requires.0 in
-    let im : c.copy_bytes-2.new.to ≡ ahead (i.job.start + 8 * c.loop-i.i) o.image.now i.file.now = rest i.file.now o.image.now c.copy_bytes-2.new.to i.job.start c.loop-i.i (slot_count i.job) end was (text_in i.job.start i.job.length (slot_count i.job) _ c.args.inputs.now.in_file.text (omega arith)) c.copy_bytes-2.ensures in
+    let im : c.copy_bytes-2.new.to ≡ ahead (i.job.text.start + 8 * c.loop-i.i) o.image.now i.file.now = rest i.file.now o.image.now c.copy_bytes-2.new.to i.job.text.start c.loop-i.i (slot_count i.job) end was (text_in i.job.text.start i.job.text.length (slot_count i.job) _ c.args.inputs.now.in_file.text (omega arith)) c.copy_bytes-2.ensures in
     subst (λ (x : List ℕ). Settles (calls_trace i.file.now i.builtins.now i.job i.file.now) x (columns_of o₀.registry.now) (columns_of o.registry.now) (slot_count i.job) o₀.registry.now.used o₀.moves (holding o.registry.now.used o.moves)) (sym im)
-    (going_done (slot_trace i.file.now i.builtins.now i.job) (slot_count i.job) i.file.now (ahead (i.job.start + 8 * c.loop-i.i) o.image.now i.file.now) (columns_of o₀.registry.now) (columns_of o.registry.now) o₀.registry.now.used o₀.moves o.registry.now.used o.moves c.loop-i.i c.requires.1.0 c.loop-i.invariant.1 c.loop-i-test.false)
+    (going_done (slot_trace i.file.now i.builtins.now i.job) (slot_count i.job) i.file.now (ahead (i.job.text.start + 8 * c.loop-i.i) o.image.now i.file.now) (columns_of o₀.registry.now) (columns_of o.registry.now) o₀.registry.now.used o₀.moves o.registry.now.used o.moves c.loop-i.i c.requires.1.0 c.loop-i.invariant.1 c.loop-i-test.false)

@@ -23,14 +23,14 @@ use Rattle.loader.proofs.calls.register_slots.Goals as goal
 pub next_call-i-requires : goal.next_call-i-requires
 next_call-i-requires c =
     let j = c.args.inputs.now.job in
-    (c.requires.1, text_in j.start j.length c.args.to _ c.args.inputs.now.in_file.text c.requires.2, c.args.inputs.now.in_file.short)
+    (c.requires.1, text_in j.text.start j.text.length c.args.to _ c.args.inputs.now.in_file.text c.requires.2, c.args.inputs.now.in_file.short)
 
 pub loop-i-init : goal.loop-i-init
 loop-i-init c =
     let i = c.args.inputs.now in
     let o = c.args.out.now in
     let step : ℕ → List ℕ → Trace = slot_trace i.file.now i.builtins.now i.job in
-    let im = ahead (i.job.start + 8 * c.args.to) o.image.now i.file.now in (
+    let im = ahead (i.job.text.start + 8 * c.args.to) o.image.now i.file.now in (
       keeps_all o,
       calls_ahead i.file.now i.builtins.now i.job c.args.inputs.now.in_file c.args.from c.args.to c.requires.2 im im (columns_of o.registry.now) (columns_of o.registry.now) o.registry.now.used o.moves o.registry.now.used o.moves c.args.from c.next_call-i.result c.requires.0.1
           (in_start step (slot_count i.job) c.args.from c.args.to c.requires.2 im (columns_of o.registry.now) o.registry.now.used o.moves c.requires.1 c.requires.0.1)
@@ -43,7 +43,7 @@ call_step-requires c =
     let i = c.args.inputs.now in
     let o₀ = c.args.out.now in
     let o = c.loop-i.out in
-    let q : ℕ = i.job.start + 8 * c.args.to in (
+    let q : ℕ = i.job.text.start + 8 * c.args.to in (
       (
         c.loop-i.invariant.0.image_as ∙ c.requires.0.0,
         in_begins (slot_trace i.file.now i.builtins.now i.job) (slot_count i.job) c.args.from c.args.to c.requires.2 (ahead q o₀.image.now i.file.now) (ahead q o.image.now i.file.now) (columns_of o₀.registry.now) (columns_of o.registry.now) o₀.registry.now.used o₀.moves o.registry.now.used o.moves c.loop-i.i c.requires.0.1 c.loop-i.invariant.1 c.loop-i-test.true,
@@ -54,14 +54,14 @@ call_step-requires c =
 
 -- the slot's trace from the image whose bytes from the run's end on are the file's, whatever its answer
 stepped : (r : After-call_step) (a : Result (Unit {0}) ElfError) → r.call_step.result ≡ a
-    → SettlesAs (slot_trace r.args.inputs.now.file.now r.args.inputs.now.builtins.now r.args.inputs.now.job r.loop-i.i (ahead (r.args.inputs.now.job.start + 8 * r.args.to) r.loop-i.out.image.now r.args.inputs.now.file.now))
-    (ahead (r.args.inputs.now.job.start + 8 * r.args.to) r.call_step.new.out.image.now r.args.inputs.now.file.now) 1 r.loop-i.out r.call_step.new.out a
+    → SettlesAs (slot_trace r.args.inputs.now.file.now r.args.inputs.now.builtins.now r.args.inputs.now.job r.loop-i.i (ahead (r.args.inputs.now.job.text.start + 8 * r.args.to) r.loop-i.out.image.now r.args.inputs.now.file.now))
+    (ahead (r.args.inputs.now.job.text.start + 8 * r.args.to) r.call_step.new.out.image.now r.args.inputs.now.file.now) 1 r.loop-i.out r.call_step.new.out a
 stepped r a e =
     let i = r.args.inputs.now in
     let o = r.loop-i.out in
     let o' = r.call_step.new.out in
-    let q : ℕ = i.job.start + 8 * r.args.to in
-    let inside : q ≤ length i.file.now = text_in i.job.start i.job.length r.args.to _ r.args.inputs.now.in_file.text r.requires.2 in
+    let q : ℕ = i.job.text.start + 8 * r.args.to in
+    let inside : q ≤ length i.file.now = text_in i.job.text.start i.job.text.length r.args.to _ r.args.inputs.now.in_file.text r.requires.2 in
     subst (λ (b : Result (Unit {0}) ElfError). SettlesAs (slot_trace i.file.now i.builtins.now i.job r.loop-i.i (ahead q o.image.now i.file.now)) (ahead q o'.image.now i.file.now) 1 o o' b) e
     (slot_ahead i.file.now q i.builtins.now i.job r.loop-i.i o.image.now o'.image.now (columns_of o.registry.now) (columns_of o'.registry.now) o.registry.now.used o.moves (held_of r.call_step.result o') (omega (arith, r.loop-i-test.true)) (omega (arith, inside, r.loop-i.invariant.0.image_as, r.requires.0.0)) r.call_step.ensures.settles)
 
@@ -71,7 +71,7 @@ returns-in_err-call_step-clause-leads c =
     let o₀ = c.args.out.now in
     let o = c.loop-i.out in
     let o' = c.call_step.new.out in
-    let q : ℕ = i.job.start + 8 * c.args.to in
+    let q : ℕ = i.job.text.start + 8 * c.args.to in
     let p = err_from_is_err_and c.from_residual.result c.from_residual.ensures.1 in
     rw (p.1, p.2) (in_stop (slot_trace i.file.now i.builtins.now i.job) (slot_count i.job) c.args.from c.args.to c.requires.2 (ahead q o₀.image.now i.file.now) (ahead q o.image.now i.file.now) (columns_of o₀.registry.now) (columns_of o.registry.now) o₀.registry.now.used o₀.moves o.registry.now.used o.moves c.loop-i.i c.requires.0.1 c.loop-i.invariant.1 c.loop-i-test.true (ahead q o'.image.now i.file.now) (columns_of o'.registry.now) _ _
     (stepped (goal.at.returns-in_err-call_step-clause-leads c).After-call_step _ c.in_err-call_step.was))
@@ -79,11 +79,11 @@ returns-in_err-call_step-clause-leads c =
 pub next_call-i-requires-in-loop-i : goal.next_call-i-requires-in-loop-i
 next_call-i-requires-in-loop-i c =
     let j = c.args.inputs.now.job in
-    (omega (arith, c.loop-i-test.true), text_in j.start j.length c.args.to _ c.args.inputs.now.in_file.text c.requires.2, c.args.inputs.now.in_file.short)
+    (omega (arith, c.loop-i-test.true), text_in j.text.start j.text.length c.args.to _ c.args.inputs.now.in_file.text c.requires.2, c.args.inputs.now.in_file.short)
 
 pub loop-i-smaller : goal.loop-i-smaller
 loop-i-smaller c =
-    omega (arith, c.loop-i-test.true, (next_bounds c.args.inputs.now.file.now c.args.inputs.now.job.start (c.args.to - (c.loop-i.i + 1)) (c.loop-i.i + 1)).0, c.next_call-i-in-loop-i.ensures)
+    omega (arith, c.loop-i-test.true, (next_bounds c.args.inputs.now.file.now c.args.inputs.now.job.text.start (c.args.to - (c.loop-i.i + 1)) (c.loop-i.i + 1)).0, c.next_call-i-in-loop-i.ensures)
 
 pub loop-i-preserved : goal.loop-i-preserved
 loop-i-preserved c =
@@ -91,7 +91,7 @@ loop-i-preserved c =
     let o₀ = c.args.out.now in
     let o = c.loop-i.out in
     let o' = c.call_step.new.out in
-    let q : ℕ = i.job.start + 8 * c.args.to in
+    let q : ℕ = i.job.text.start + 8 * c.args.to in
     let was : length o.image.now ≡ length i.file.now = c.loop-i.invariant.0.image_as ∙ c.requires.0.0 in
     let same : length (ahead q o'.image.now i.file.now) ≡ length (ahead q o.image.now i.file.now) = ahead_length o'.image.now i.file.now q (c.call_step.ensures.keeps.image_as ∙ was) ∙ c.call_step.ensures.keeps.image_as ∙ sym (ahead_length o.image.now i.file.now q was) in
     let on = in_on (slot_trace i.file.now i.builtins.now i.job) (slot_count i.job) c.args.from c.args.to c.requires.2 (ahead q o₀.image.now i.file.now) (ahead q o.image.now i.file.now) (columns_of o₀.registry.now) (columns_of o.registry.now) o₀.registry.now.used o₀.moves o.registry.now.used o.moves c.loop-i.i c.requires.0.1 c.loop-i.invariant.1 c.loop-i-test.true (ahead q o'.image.now i.file.now) (columns_of o'.registry.now) o'.registry.now.used o'.moves c.call_step.ensures.keeps.table_as same
@@ -106,5 +106,5 @@ returns-clause-leads c =
     let i = c.args.inputs.now in
     let o₀ = c.args.out.now in
     let o = c.loop-i.out in
-    let q : ℕ = i.job.start + 8 * c.args.to in
+    let q : ℕ = i.job.text.start + 8 * c.args.to in
     in_done (slot_trace i.file.now i.builtins.now i.job) (slot_count i.job) c.args.from c.args.to c.requires.2 (ahead q o₀.image.now i.file.now) (ahead q o.image.now i.file.now) (columns_of o₀.registry.now) (columns_of o.registry.now) o₀.registry.now.used o₀.moves o.registry.now.used o.moves c.loop-i.i c.requires.0.1 c.loop-i.invariant.1 c.loop-i-test.false
