@@ -1,5 +1,5 @@
 #!/usr/bin/env python3
-"""Prints, old beside new, what the design pass changed: public signatures with their clauses, types, definitions and theorems.
+"""Prints, old beside new, what the design pass changed: public signatures with their clauses, types, definitions and theorems; and which helper laws went.
 
     python3 tools/places/changes.py           the lists, as Markdown
     python3 tools/places/changes.py --check   fails where something that is gone is not accounted for
@@ -218,6 +218,40 @@ TITLES = {'functions': 'Public functions', 'types': 'Types', 'definitions': 'Def
 KINDS = [('functions', 'private'), ('types',), ('definitions', 'own'), ('theorems', 'laws')]
 
 
+def without_place(before, after):
+    """Of the places of a name before those that no place after is left for, of the same file or else of the same words or else of another."""
+    for same in (lambda x, y: x[0] == y[0], lambda x, y: words(x[1]) == words(y[1]), lambda x, y: True):
+        rest = []
+        for x in before:
+            y = next((y for y in after if same(x, y)), None)
+            if y:
+                after = [z for z in after if z is not y]
+            else:
+                rest.append(x)
+        before = rest
+    return before
+
+
+def helper_laws(crate, old, new, everywhere, names, cited, why_gone):
+    """What proofs/ had and has no more, in the order of the files, by what states it now; but the laws that a page names, which have a row of their own."""
+    by_why = {}
+    for kind, kinds in (('own', ('definitions', 'own')), ('laws', ('theorems', 'laws'))):
+        for name in old[kind]:
+            if kind == 'laws' and name in cited and ('~', crate + ' ' + name) not in names[1]:
+                continue
+            before, after = [[x for k in kinds for x in c[k].get(name, [])] for c in (old, new)]
+            missing = [x for x in without_place(before, after) if x[0].startswith('proofs/')]
+            if not missing or any(words(x[1]) == words(missing[0][1]) for c in everywhere.values() for k in kinds for x in c[k].get(name, [])):
+                continue
+            there, now = ([''] + names[0].get((crate, name), ('',))[0].split('/'))[-2:]
+            if any(now in (everywhere[there] if there else new)[k] for k in kinds):
+                why = 'now `%s`%s: %s' % (now, ' of `%s`' % there if there else '', names[0][crate, name][1])
+            else:
+                why = why_gone(name, missing[0][0])
+            by_why.setdefault(why, []).append(name)
+    return by_why.items()
+
+
 def crate_lists(crate, old, new, everywhere, names, cited, open_items):
     renamed, gone, spelled = names
     out, spelling = [], {}
@@ -276,6 +310,9 @@ def crate_lists(crate, old, new, everywhere, names, cited, open_items):
     private = sorted(n for n in old['private'] if n not in new['private'] and n not in new['functions'] and (crate, n) not in renamed)
     if private:
         out += ['Private functions that are gone: ' + '; '.join('`%s` (%s)' % (n, why_gone(n, '(private)')) for n in private) + '.', '']
+    laws = helper_laws(crate, old, new, everywhere, names, cited, why_gone)
+    if laws:
+        out += ['Helper laws of `proofs/` that are gone: ' + '; '.join('%s (%s)' % (', '.join('`%s`' % n for n in of), why) for why, of in laws) + '.', '']
     if spelling:
         out += ['#### Respelled only', '', '| Spelling | In |', '|---|---|']
         for rules, where in sorted(spelling.items(), key=lambda x: (len(x[0]), x[0])):
