@@ -7,32 +7,31 @@ use Rattle.elf_parser.specs.declared.error.ElfParserError.TheVariants.{InvalidFi
 use Rattle.elf_parser.specs.declared.error.Report.{Report}
 use Rattle.elf_parser.specs.declared.parts.Place.{Place}
 
--- a refusal that has a number and nothing else
-abbrev pub plain : ℕ → Report
-plain n = record { number = n; value = 0; start = 0; length = 0 }
+-- a refusal that has a number and a value alone, and one that speaks of a name
+abbrev pub valued : ℕ → ℕ → Report
+valued n v = record { number = n; value = v; start = 0; length = 0 }
 
--- and one that speaks of a name
-abbrev pub named : ℕ → Place → Report
-named n p = record { number = n; value = 0; start = p.start; length = p.length }
+abbrev pub named : ℕ → ℕ → Place → Report
+named n v p = record { number = n; value = v; start = p.start; length = p.length }
 
 -- the numbers of the scope
 abbrev pub report_of : ElfParserError → Report
-report_of InvalidFileHeader = plain 1
-report_of InvalidProgramHeader = plain 2
-report_of InvalidSectionHeader = plain 3
-report_of (StringTooLong p) = named 4 p
-report_of OutOfBounds = plain 5
-report_of InvalidSize = plain 6
-report_of Overlap = plain 7
-report_of SectionNotInOrder = plain 8
-report_of NoSectionNameStringTable = plain 9
-report_of InvalidDynamicSectionTable = plain 10
-report_of InvalidAlignment = plain 11
-report_of NoStringTable = plain 12
-report_of NoDynamicStringTable = plain 13
-report_of NoSuchIndex = plain 45
-report_of NotASection = plain 46
-report_of (StringUnterminated p) = named 49 p
+report_of InvalidFileHeader = valued 1 0
+report_of InvalidProgramHeader = valued 2 0
+report_of InvalidSectionHeader = valued 3 0
+report_of (StringTooLong p) = named 4 0 p
+report_of OutOfBounds = valued 5 0
+report_of InvalidSize = valued 6 0
+report_of Overlap = valued 7 0
+report_of SectionNotInOrder = valued 8 0
+report_of NoSectionNameStringTable = valued 9 0
+report_of InvalidDynamicSectionTable = valued 10 0
+report_of InvalidAlignment = valued 11 0
+report_of NoStringTable = valued 12 0
+report_of NoDynamicStringTable = valued 13 0
+report_of NoSuchIndex = valued 45 0
+report_of NotASection = valued 46 0
+report_of (StringUnterminated p) = named 49 0 p
 
 -- a check: it passes, or names what it refuses
 abbrev pub Check : Type 0

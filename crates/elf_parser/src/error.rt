@@ -1,6 +1,6 @@
 // Why a file is refused.
 ghost use Rattle.std.specs.Prelude.{◌≡◌};
-ghost use Rattle.elf_parser.specs.Errors.{report_of};
+ghost use Rattle.elf_parser.specs.Errors.{valued, named, report_of};
 
 use crate::parts::Place;
 
@@ -35,25 +35,29 @@ pub struct Report {
     pub length: u64,
 }
 
-fn plain(number: u32) -> Report
-    ensures { result ≡ record { number = number; value = 0; start = 0; length = 0 } }
-{
-    Report {
-        number,
-        value: 0,
-        start: 0,
-        length: 0,
+impl Report {
+    // A refusal that has a number and a value alone.
+    pub fn with_value(number: u32, value: u64) -> Report
+        ensures { result ≡ valued number value }
+    {
+        Report {
+            number,
+            value,
+            start: 0,
+            length: 0,
+        }
     }
-}
 
-fn named(number: u32, place: Place) -> Report
-    ensures { result ≡ record { number = number; value = 0; start = place.start; length = place.length } }
-{
-    Report {
-        number,
-        value: 0,
-        start: place.start as u64,
-        length: place.length as u64,
+    // One that speaks of a name.
+    pub fn with_name(number: u32, value: u64, name: Place) -> Report
+        ensures { result ≡ named number value name }
+    {
+        Report {
+            number,
+            value,
+            start: name.start as u64,
+            length: name.length as u64,
+        }
     }
 }
 
@@ -62,22 +66,22 @@ impl From<ElfParserError> for Report {
 
     fn from(e: ElfParserError) -> Report {
         match e {
-            ElfParserError::InvalidFileHeader => plain(1),
-            ElfParserError::InvalidProgramHeader => plain(2),
-            ElfParserError::InvalidSectionHeader => plain(3),
-            ElfParserError::StringTooLong(place) => named(4, place),
-            ElfParserError::OutOfBounds => plain(5),
-            ElfParserError::InvalidSize => plain(6),
-            ElfParserError::Overlap => plain(7),
-            ElfParserError::SectionNotInOrder => plain(8),
-            ElfParserError::NoSectionNameStringTable => plain(9),
-            ElfParserError::InvalidDynamicSectionTable => plain(10),
-            ElfParserError::InvalidAlignment => plain(11),
-            ElfParserError::NoStringTable => plain(12),
-            ElfParserError::NoDynamicStringTable => plain(13),
-            ElfParserError::NoSuchIndex => plain(45),
-            ElfParserError::NotASection => plain(46),
-            ElfParserError::StringUnterminated(place) => named(49, place),
+            ElfParserError::InvalidFileHeader => Report::with_value(1, 0),
+            ElfParserError::InvalidProgramHeader => Report::with_value(2, 0),
+            ElfParserError::InvalidSectionHeader => Report::with_value(3, 0),
+            ElfParserError::StringTooLong(place) => Report::with_name(4, 0, place),
+            ElfParserError::OutOfBounds => Report::with_value(5, 0),
+            ElfParserError::InvalidSize => Report::with_value(6, 0),
+            ElfParserError::Overlap => Report::with_value(7, 0),
+            ElfParserError::SectionNotInOrder => Report::with_value(8, 0),
+            ElfParserError::NoSectionNameStringTable => Report::with_value(9, 0),
+            ElfParserError::InvalidDynamicSectionTable => Report::with_value(10, 0),
+            ElfParserError::InvalidAlignment => Report::with_value(11, 0),
+            ElfParserError::NoStringTable => Report::with_value(12, 0),
+            ElfParserError::NoDynamicStringTable => Report::with_value(13, 0),
+            ElfParserError::NoSuchIndex => Report::with_value(45, 0),
+            ElfParserError::NotASection => Report::with_value(46, 0),
+            ElfParserError::StringUnterminated(place) => Report::with_name(49, 0, place),
         }
     }
 }

@@ -1,6 +1,6 @@
 -- What holds of every name in the table. Assumes nothing.
 use mathlib.Core.Path.{◌≡◌, refl, sym, ap, ◌∙◌}
-use mathlib.Core.Bool.{Bool, true, false, ◌&&◌}
+use mathlib.Core.Bool.{Bool, true, false, not, ◌&&◌}
 use mathlib.Core.List.{List, [], ◌∷◌}
 use Prim.Native.Nat.{ℕ, suc, max, ◌≤◌, ◌<◌}
 use Prim.Native.String.{String}
@@ -51,6 +51,15 @@ short name = ltb (length name) 64
 pub name_short : (n : ℕ) → length (refusal_name n) < 64
 unfolding refusal_name names bytes every
 name_short n = ltb-true _ _ (each short names n refl)
+
+-- a name without a zero byte: a text of C holds it whole
+unfoldable pub whole : List ℕ → Bool
+whole [] = true
+whole (byte ∷ rest) = not (eqb byte 0) && whole rest
+
+pub name_whole : (n : ℕ) → whole (refusal_name n) ≡ true
+unfolding refusal_name names bytes every whole
+name_whole n = each whole names n refl
 
 -- ---- every refusal has a name
 

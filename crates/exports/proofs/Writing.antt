@@ -109,27 +109,6 @@ pub nine_row : (n found index kind start size : ℕ) → written n (nine_words f
 unfolding written
 nine_row n found index kind start size = sym (written_zeros 15 n (nine_words found index kind start size))
 
--- nine words stored one by one
-pub nine_stored : (found index kind start size : ℕ) (s : List ℕ) → 9 ≤ length s
-    → set (set (set (set (set (set (set (set (set s 0 0) 1 0) 2 0) 3 0) 4 found) 5 index) 6 kind) 7 start) 8 size ≡ nine_words found index kind start size ++ drop 9 s
-nine_stored found index kind start size [] h = absurd (omega arith)
-nine_stored found index kind start size (a ∷ []) h = absurd (omega arith)
-nine_stored found index kind start size (a ∷ b ∷ []) h = absurd (omega arith)
-nine_stored found index kind start size (a ∷ b ∷ c ∷ []) h = absurd (omega arith)
-nine_stored found index kind start size (a ∷ b ∷ c ∷ d ∷ []) h = absurd (omega arith)
-nine_stored found index kind start size (a ∷ b ∷ c ∷ d ∷ e ∷ []) h = absurd (omega arith)
-nine_stored found index kind start size (a ∷ b ∷ c ∷ d ∷ e ∷ f ∷ []) h = absurd (omega arith)
-nine_stored found index kind start size (a ∷ b ∷ c ∷ d ∷ e ∷ f ∷ g ∷ []) h = absurd (omega arith)
-nine_stored found index kind start size (a ∷ b ∷ c ∷ d ∷ e ∷ f ∷ g ∷ i ∷ []) h = absurd (omega arith)
-nine_stored found index kind start size (a ∷ b ∷ c ∷ d ∷ e ∷ f ∷ g ∷ i ∷ j ∷ s) h = refl
-
--- and zeros behind them
-pub nine_given : (found index kind start size : ℕ) (s t z : List ℕ) → 9 ≤ length s → t ≡ nine_words found index kind start size ++ drop 9 s → z ≡ replicate (length (mid_of 9 (length t - 9) t)) 0
-    → put_mid 9 (length t - 9) t z ≡ written (length s) (nine_words found index kind start size)
-nine_given found index kind start size s t z h e q =
-    let words = nine_words found index kind start size in
-    rw e (filled_all s words 9 (omega arith) words z refl (rw e at q))
-
 -- so a row's answer is given
 pub row_given : (r : Row) (s z : List ℕ) → z ≡ written (length s) (nine_words 1 r.index r.kind r.start r.length) → Given (row_answer (Some r)) s z 0
 row_given r s z e = record { number = refl; words = e ∙ nine_row (length s) 1 r.index r.kind r.start r.length }

@@ -16,7 +16,6 @@ pub mod Symbols
 pub mod Forgetting
 pub mod Turns
 pub mod Readied
-pub mod Over
 pub mod Front
 pub mod Loading
 pub mod Asked

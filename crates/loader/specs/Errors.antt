@@ -31,30 +31,26 @@ from_parser NoSuchIndex = FailedToParse NoSuchIndex
 from_parser NotASection = FailedToParse NotASection
 from_parser (StringUnterminated p) = FailedToParse (StringUnterminated p)
 
--- number and value, no name
-abbrev pub valued : ℕ → ℕ → Report
-valued n v = record { number = n; value = v; start = 0; length = 0 }
-
 abbrev pub report_of : ElfError → Report
 report_of (FailedToParse e) = parser.report_of e
-report_of EntrypointOutOfBounds = valued 20 0
-report_of InvalidEntrypoint = valued 21 0
-report_of (UnresolvedSymbol p offset) = record { number = 22; value = offset; start = p.start; length = p.length }
-report_of (RelativeJumpOutOfBounds slot) = valued 23 slot
-report_of (SymbolHashCollision key) = valued 24 key
-report_of WrongAbi = valued 25 0
-report_of WrongMachine = valued 26 0
-report_of NotOneTextSection = valued 27 0
-report_of (WritableSectionNotSupported p) = record { number = 28; value = 0; start = p.start; length = p.length }
-report_of InvalidVirtualAddress = valued 29 0
-report_of (UnknownRelocation n) = valued 30 n
-report_of WrongType = valued 31 0
-report_of (UnknownSymbol n) = valued 32 n
-report_of ValueOutOfBounds = valued 33 0
-report_of UnsupportedSBPFVersion = valued 34 0
-report_of FileTooLong = valued 40 0
-report_of BufferShort = valued 41 0
-report_of BuiltinsNotAscending = valued 42 0
-report_of (TableFull rows) = valued 43 rows
-report_of TextOutsideReadOnly = valued 44 0
-report_of AddendNegative = valued 47 0
+report_of EntrypointOutOfBounds = parser.valued 20 0
+report_of InvalidEntrypoint = parser.valued 21 0
+report_of (UnresolvedSymbol p offset) = parser.named 22 offset p
+report_of (RelativeJumpOutOfBounds slot) = parser.valued 23 slot
+report_of (SymbolHashCollision key) = parser.valued 24 key
+report_of WrongAbi = parser.valued 25 0
+report_of WrongMachine = parser.valued 26 0
+report_of NotOneTextSection = parser.valued 27 0
+report_of (WritableSectionNotSupported p) = parser.named 28 0 p
+report_of InvalidVirtualAddress = parser.valued 29 0
+report_of (UnknownRelocation n) = parser.valued 30 n
+report_of WrongType = parser.valued 31 0
+report_of (UnknownSymbol n) = parser.valued 32 n
+report_of ValueOutOfBounds = parser.valued 33 0
+report_of UnsupportedSBPFVersion = parser.valued 34 0
+report_of FileTooLong = parser.valued 40 0
+report_of BufferShort = parser.valued 41 0
+report_of BuiltinsNotAscending = parser.valued 42 0
+report_of (TableFull rows) = parser.valued 43 rows
+report_of TextOutsideReadOnly = parser.valued 44 0
+report_of AddendNegative = parser.valued 47 0

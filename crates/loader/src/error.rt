@@ -33,28 +33,6 @@ pub enum ElfError {
     AddendNegative,
 }
 
-fn with_value(number: u32, value: u64) -> Report
-    ensures { result ≡ record { number = number; value = value; start = 0; length = 0 } }
-{
-    Report {
-        number,
-        value,
-        start: 0,
-        length: 0,
-    }
-}
-
-fn with_name(number: u32, value: u64, place: Place) -> Report
-    ensures { result ≡ record { number = number; value = value; start = place.start; length = place.length } }
-{
-    Report {
-        number,
-        value,
-        start: place.start as u64,
-        length: place.length as u64,
-    }
-}
-
 // A built-in has the key of a function.
 impl From<SymbolHashCollision> for ElfError {
     ghost from_gives = { λ taken r. r ≡ from_collision taken };
@@ -83,27 +61,27 @@ impl From<ElfError> for Report {
     fn from(e: ElfError) -> Report {
         match e {
             ElfError::FailedToParse(p) => Report::from(p),
-            ElfError::EntrypointOutOfBounds => with_value(20, 0),
-            ElfError::InvalidEntrypoint => with_value(21, 0),
-            ElfError::UnresolvedSymbol { name, offset } => with_name(22, offset, name),
-            ElfError::RelativeJumpOutOfBounds { slot } => with_value(23, slot),
-            ElfError::SymbolHashCollision { key } => with_value(24, key as u64),
-            ElfError::WrongAbi => with_value(25, 0),
-            ElfError::WrongMachine => with_value(26, 0),
-            ElfError::NotOneTextSection => with_value(27, 0),
-            ElfError::WritableSectionNotSupported { name } => with_name(28, 0, name),
-            ElfError::InvalidVirtualAddress => with_value(29, 0),
-            ElfError::UnknownRelocation { number } => with_value(30, number as u64),
-            ElfError::WrongType => with_value(31, 0),
-            ElfError::UnknownSymbol { number } => with_value(32, number as u64),
-            ElfError::ValueOutOfBounds => with_value(33, 0),
-            ElfError::UnsupportedSBPFVersion => with_value(34, 0),
-            ElfError::FileTooLong => with_value(40, 0),
-            ElfError::BufferShort => with_value(41, 0),
-            ElfError::BuiltinsNotAscending => with_value(42, 0),
-            ElfError::TableFull { rows } => with_value(43, rows),
-            ElfError::TextOutsideReadOnly => with_value(44, 0),
-            ElfError::AddendNegative => with_value(47, 0),
+            ElfError::EntrypointOutOfBounds => Report::with_value(20, 0),
+            ElfError::InvalidEntrypoint => Report::with_value(21, 0),
+            ElfError::UnresolvedSymbol { name, offset } => Report::with_name(22, offset, name),
+            ElfError::RelativeJumpOutOfBounds { slot } => Report::with_value(23, slot),
+            ElfError::SymbolHashCollision { key } => Report::with_value(24, key as u64),
+            ElfError::WrongAbi => Report::with_value(25, 0),
+            ElfError::WrongMachine => Report::with_value(26, 0),
+            ElfError::NotOneTextSection => Report::with_value(27, 0),
+            ElfError::WritableSectionNotSupported { name } => Report::with_name(28, 0, name),
+            ElfError::InvalidVirtualAddress => Report::with_value(29, 0),
+            ElfError::UnknownRelocation { number } => Report::with_value(30, number as u64),
+            ElfError::WrongType => Report::with_value(31, 0),
+            ElfError::UnknownSymbol { number } => Report::with_value(32, number as u64),
+            ElfError::ValueOutOfBounds => Report::with_value(33, 0),
+            ElfError::UnsupportedSBPFVersion => Report::with_value(34, 0),
+            ElfError::FileTooLong => Report::with_value(40, 0),
+            ElfError::BufferShort => Report::with_value(41, 0),
+            ElfError::BuiltinsNotAscending => Report::with_value(42, 0),
+            ElfError::TableFull { rows } => Report::with_value(43, rows),
+            ElfError::TextOutsideReadOnly => Report::with_value(44, 0),
+            ElfError::AddendNegative => Report::with_value(47, 0),
         }
     }
 }

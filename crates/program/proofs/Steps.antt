@@ -237,10 +237,6 @@ by_registered_at P opening t n at row same other full more =
 
 -- ---- what a registration leaves, by its answer
 
--- the other answers, as the code tells them: a refusal, or the number of the variant
-pub not_inserted : (a : RegisterResult) → ((b : Registered) → a ≡ Ok b → OneOf (1 ∷ []) (tag_of the_type b)) → (m : ℕ) → a ≡ Ok (Inserted m) → ⊥
-not_inserted a o m e = let z = o (Inserted m) e in omega arith
-
 module _ (opening : Opening) (t : Slices) (used : ℕ) (row : Row) where
   -- no insertion: the slices as they came
   pub kept : ((m : ℕ) → register_in t used row ≡ Ok (Inserted m) → ⊥) → registered_by opening t used row ≡ t
