@@ -57,21 +57,21 @@ pub record Kept (file : List ℕ) (n rows : ℕ) (j : Job) (a : Accepted) : Type
 
 module _ (file builtins : List ℕ) (c : Config) (n m rows : ℕ) where
   module _ (j : Job) (ready : prepared file builtins c n m ≡ Ok j) (im : List ℕ) (held : List Row) (moves : ℕ) (settles : settle rows (job_trace file builtins j file) [] 0 ≡ accepted im held moves) where
-    kept_as : (x : Accepted) → x.used ≡ length held → x.text.start ≡ j.text.start → x.text.length ≡ j.text.length → x.entry ≡ entry_index j → Kept file n rows j x
-    kept_as x u s l t =
+    kept_as : (x : Accepted) → x.used ≡ length held → x.text ≡ j.text → x.entry ≡ entry_index j → Kept file n rows j x
+    kept_as x u l t =
         let f = readied file builtins c n m j ready in
         record {
           room = omega (arith, settle_room rows (job_trace file builtins j file) [] 0 im held moves (omega arith) settles);
           few = omega (arith, rows_few rows file builtins j im held moves f.0 settles);
-          text = omega (arith, f.0.text);
+          text = rw l f.0.text;
           short = f.0.short;
           lent = f.1;
           entry_is = t;
         }
 
     placed_kept : (p : Result Placing ElfError) (a : Accepted) → answer_of (held_by file j m p im held moves) ≡ Ok a → Kept file n rows j a
-    placed_kept (Ok (Borrowed offset start k)) a e = let q : accepted_as j offset (Some start) k (length held) moves ≡ a = cc in rw (← q) (kept_as _ refl refl refl refl)
-    placed_kept (Ok (Owned offset lowest k)) a e = let q : accepted_as j offset None k (length held) moves ≡ a = cc in rw (← q) (kept_as _ refl refl refl refl)
+    placed_kept (Ok (Borrowed offset start k)) a e = let q : accepted_as j offset (Some start) k (length held) moves ≡ a = cc in rw (← q) (kept_as _ refl refl refl)
+    placed_kept (Ok (Owned offset lowest k)) a e = let q : accepted_as j offset None k (length held) moves ≡ a = cc in rw (← q) (kept_as _ refl refl refl)
     placed_kept (Err r) a e = absurd (zero_one (cc))
 
     -- the entry's registration is one of the load's

@@ -85,7 +85,7 @@ edges = refl
 -- ---- by an answer: version 2, entry, used rows, and a text of 24 bytes from byte 8 on, in an image of 32 bytes and a table of 4 rows
 abbrev answer : ℕ → ℕ → ℕ → Accepted
 answer entry used start = record {
-  version = 2;
+  version2 = true;
   entry = entry;
   used = used;
   moves = 0;

@@ -12,7 +12,7 @@ use Rattle.program.specs.Table.{Lent, Shared, table_before, table_after}
 use Rattle.loader.specs.declared.error.ElfError.{ElfError}
 use Rattle.loader.specs.declared.answer.Accepted.{Accepted}
 use Rattle.loader.specs.Errors as load
-use Rattle.loader.specs.Load.{load_of_lent, answer_of}
+use Rattle.loader.specs.Load.{version_of, load_of_lent, answer_of}
 use Rattle.loader.specs.Loads.{Loads}
 use Rattle.loader.specs.Settings.{config_of}
 use Rattle.exports.specs.declared.answers.Answer.{Answer}
@@ -131,7 +131,7 @@ loaded_with number a last behind =
     (0
     ∷ 0
     ∷ 0
-    ∷ a.version
+    ∷ version_of a
     ∷ a.entry
     ∷ a.used
     ∷ a.moves

@@ -14,7 +14,7 @@ pub(crate) fn loaded_with(number: u32, a: Accepted, last: u64, behind: u64) -> A
         0,
         0,
         0,
-        a.version as u64,
+        a.version() as u64,
         a.entry as u64,
         a.used as u64,
         a.moves,

@@ -35,7 +35,7 @@ fn put_accepted(out: &mut [u8], a: Accepted) -> usize
     put_word_line(
         out,
         b"accepted",
-        a.version as u64,
+        a.version() as u64,
         a.entry as u64,
         a.used as u64,
         a.moves,

@@ -25,7 +25,13 @@ fn print_read_only(rt: &impl Print, a: Accepted) -> io::Result<()> {
 }
 
 fn print_accepted(rt: &impl Print, a: Accepted) -> io::Result<()> {
-    print!(rt; "accepted {} {} {} {}", a.version, a.entry, a.used, a.moves)?;
+    print!(rt;
+        "accepted {} {} {} {}",
+        a.version(),
+        a.entry,
+        a.used,
+        a.moves
+    )?;
     print_read_only(rt, a)?;
     print!(rt; " {} {} {}", a.text_addr, a.text.start, a.text.length)
 }

@@ -117,7 +117,7 @@ label i = row_with name_key i 1 81 10
 abbrev answer_2 : Accepted
 answer_2 =
     record {
-      version = 2;
+      version2 = true;
       entry = 0;
       used = 2;
       moves = 1;

@@ -65,7 +65,7 @@ HeldBytes (Err r) ro' ro = Unit {0}
 -- of an accepted load, with the place of the read-only bytes
 abbrev pub accepted_as : Job → ℕ → Option ℕ → ℕ → ℕ → ℕ → Accepted
 accepted_as j offset start n used moves = record {
-  version = 2 if j.version2 else 1;
+  version2 = j.version2;
   entry = (j.e_entry - j.sh_addr) / 8;
   used = used;
   moves = moves;
@@ -75,6 +75,10 @@ accepted_as j offset start n used moves = record {
   text_addr = j.addr;
   text = j.text;
 }
+
+-- the number of its version
+abbrev pub version_of : Accepted → ℕ
+version_of a = 2 if a.version2 else 1
 
 -- copied read-only bytes have no start in the image
 abbrev pub answer_by : Job → Result Placing ElfError → ℕ → ℕ → Result Accepted ElfError

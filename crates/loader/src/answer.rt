@@ -1,6 +1,6 @@
 // The answer of a load.
 ghost use Rattle.std.specs.Prelude.{◌≡◌, ◌-◌, ◌≤◌, ◌^◌};
-ghost use Rattle.loader.specs.Load.{accepted_as, answer_by};
+ghost use Rattle.loader.specs.Load.{version_of, accepted_as, answer_by};
 
 use crate::deeds::Outputs;
 use crate::error::ElfError;
@@ -8,12 +8,12 @@ use crate::read_only::Placing;
 use crate::validate::Job;
 use elf_parser::Place;
 
-// What an accepted load answers: the version, the entry's index, the rows used and the moves in all; the
+// What an accepted load answers: whether its version is 2, the entry's index, the rows used and the moves in all; the
 // read-only bytes' offset from the program's start, where they start in the image, unless they were copied
 // to the front of the buffer, and how many they are; the text's address, and its place in the file.
 #[derive(Clone, Copy, PartialEq, Eq, Debug)]
 pub struct Accepted {
-    pub version: u32,
+    pub version2: bool,
     pub entry: u32,
     pub used: usize,
     pub moves: u64,
@@ -22,6 +22,19 @@ pub struct Accepted {
     pub ro_length: u64,
     pub text_addr: u64,
     pub text: Place,
+}
+
+impl Accepted {
+    // The number of its version.
+    #[tactic(auto, using(ebpf::specs::Choice::choices))]
+    pub fn version(self) -> u32
+        ensures { result ≡ version_of self }
+    {
+        if self.version2 {
+            return 2;
+        }
+        1
+    }
 }
 
 // The answer of a load, and that of a question which was asked with it.
@@ -39,7 +52,7 @@ fn accepted_as(job: Job, offset: u64, start: Option<u64>, n: u64, out: &Outputs<
 {
     let entry = job.e_entry.saturating_sub(job.sh_addr) / 8;
     Accepted {
-        version: if job.version2 { 2 } else { 1 },
+        version2: job.version2,
         entry: entry as u32,
         used: out.registry.used,
         moves: out.moves,

@@ -56,6 +56,8 @@ fn all_parts(out: &mut Outputs<'_, '_>, inputs: &Inputs<'_>) -> Result<(), ElfEr
 
 // The same, with the table of keys made here. Only version 1 asks for it: in version 2 an index is its
 // own key.
+// Kept: file, built-ins and job beside each other here and in `fill_all`. They are `Inputs` but for the table
+// of keys, which is made here, so that version 2 has no kibibyte of it on its stack.
 fn keyed_parts(
     out: &mut Outputs<'_, '_>,
     file: &[u8],

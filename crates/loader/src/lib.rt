@@ -70,6 +70,8 @@ fn attempt(
 // A LOAD: the image, the read-only bytes and the table of a file, or a refusal and only zeros
 // (`Loaded`, with demand 1); and demand 3, which follows from it. Whatever rows the registry used, it
 // then uses those that the answer says, or none.
+// Kept: image, buffer and registry each by itself. A caller holds them under these names and asks each for
+// its part afterwards; a struct of three lent for writing would be made for the call and taken apart behind it.
 pub fn load(
     file: &[u8],
     loader: BuiltinProgram<'_>,

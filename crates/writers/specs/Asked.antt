@@ -15,7 +15,7 @@ use Rattle.elf_parser.specs.declared.error.ElfParserError.{ElfParserError}
 
 -- what a load's answer says of the text
 abbrev pub text_loaded : Accepted → LoadedText
-text_loaded a = record { version2 = eqb a.version 2; place = a.text }
+text_loaded a = record { version2 = a.version2; place = a.text }
 
 -- version 2 has at most nine program headers
 unfoldable pub text_in : Layout → LoadedText → Result Layout ElfError
