@@ -47,12 +47,12 @@ module _ (t : Slices) (n i : ℕ) where
 
 -- ---- the lines of an answer, stored
 
-module _ (answer : Result Accepted ElfError) (rows : List Row) (s u : List ℕ) where
-  pub refused_stored : (e : ElfError) (r : ℕ) → answer ≡ Err e → Stored 93 (refused_line (report_of e)) s u 0 r → Stored 16221 (answer_lines answer rows) s u 0 r
-  refused_stored e r is a = rw is (stored_most 93 16221 (refused_line (report_of e)) s u 0 r (omega (arith, a.next, a.near)) a)
+module _ (answer : Result Accepted ElfError) (rows : List Row) (s u : List ℕ) (at : ℕ) where
+  pub refused_stored : (e : ElfError) (r : ℕ) → answer ≡ Err e → Stored 93 (refused_line (report_of e)) s u at r → Stored 16221 (answer_lines answer rows) s u at r
+  refused_stored e r is a = rw is (stored_most 93 16221 (refused_line (report_of e)) s u at r (omega (arith, a.next, a.near)) a)
 
-  pub accepted_stored : (y : Accepted) (v : List ℕ) (p r : ℕ) → answer ≡ Ok y → Stored 93 (accepted_line y) s u 0 p → Stored 16128 (row_lines rows) u v p r → Stored 16221 (answer_lines answer rows) s v 0 r
-  accepted_stored y v p r is a b = rw is (stored_both 93 16128 (accepted_line y) (row_lines rows) s u v 0 p r a b)
+  pub accepted_stored : (y : Accepted) (v : List ℕ) (p r : ℕ) → answer ≡ Ok y → Stored 93 (accepted_line y) s u at p → Stored 16128 (row_lines rows) u v p r → Stored 16221 (answer_lines answer rows) s v at r
+  accepted_stored y v p r is a b = rw is (stored_both 93 16128 (accepted_line y) (row_lines rows) s u v at p r a b)
 
 -- ---- the rows of a load: the answer counts them, there are no more than n, and their keys rise
 
@@ -120,8 +120,8 @@ module _ (file im ro : List ℕ) (t : Slices) (a : Result Accepted ElfError) (di
         let few : n ≤ 256 = rw used listed_used in
         (few, rw is (within_room n t (rw (capacity_same none t lens, none_rows) few)))
 
-    pub listed_stored : (s v : List ℕ) (r : ℕ) → Stored 16221 (answer_lines a (rows_of u n)) s v 0 r → Stored 16221 (load_lines (listed_load file)) s v 0 r
-    listed_stored s v r b = rw (is, used, left_lines (listed_load file) zeros zeros none im ro t a as_listed 256 (listed_counted file) none_rows) at b
+    pub listed_stored : (s v : List ℕ) (at r : ℕ) → Stored 16221 (answer_lines a (rows_of u n)) s v at r → Stored 16221 (load_lines (listed_load file)) s v at r
+    listed_stored s v at r b = rw (is, used, left_lines (listed_load file) zeros zeros none im ro t a as_listed 256 (listed_counted file) none_rows) at b
 
 -- ---- the lines of a file
 
@@ -133,10 +133,10 @@ pub lines_load : (file : List ℕ) → length file ≤ 16384 → lines_of file �
 unfolding lines_of ◌if◌else◌
 lines_load file h = rw (le-ltb 16384 (length file) h)
 
--- the lines stored over zeros
-pub lines_listed : (most : ℕ) (file bytes s z u : List ℕ) (r : ℕ) → lines_of file ≡ bytes → most ≤ 16384 → z ≡ replicate (length s) 0 → Stored most bytes z u 0 r → Listing file s u r
-lines_listed most file bytes s z u r is few cleared a = record {
+-- the lines stored over zeros, in the slice that is given back
+pub lines_listed : (most : ℕ) (file bytes s z u v : List ℕ) (r : ℕ) → lines_of file ≡ bytes → most ≤ 16384 → z ≡ replicate (length s) 0 → Stored most bytes z u 0 r → u ≡ v → Listing file s v r
+lines_listed most file bytes s z u v r is few cleared a left = record {
   count = rw is (omega (arith, a.next));
-  bytes = rw (a.stores, cleared, is) (sets_filled (length s) bytes);
+  bytes = rw (← left, a.stores, cleared, is) (sets_filled (length s) bytes);
   few = omega (arith, a.near);
 }

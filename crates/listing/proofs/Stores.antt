@@ -46,23 +46,23 @@ unfolding row_line
 row_stored key index kind s₀ s₁ s₂ s₃ s₄ p₀ p₁ p₂ p₃ p₄ a b c d =
     stored_both 20 43 _ _ s₀ s₁ s₄ p₀ p₁ p₄ a (stored_both 21 22 _ _ s₁ s₂ s₄ p₁ p₂ p₄ b (stored_both 21 1 _ _ s₂ s₃ s₄ p₂ p₃ p₄ c d))
 
-pub word_stored : (word : List ℕ) (a b c d : ℕ) (s₀ s₁ s₂ s₃ s₄ s₅ s₆ : List ℕ) (p₁ p₂ p₃ p₄ p₅ p₆ : ℕ)
+pub word_stored : (word : List ℕ) (a b c d : ℕ) (s₀ s₁ s₂ s₃ s₄ s₅ s₆ : List ℕ) (p₀ p₁ p₂ p₃ p₄ p₅ p₆ : ℕ)
     → length word ≤ 8
-    → Stored (length word) word s₀ s₁ 0 p₁
+    → Stored (length word) word s₀ s₁ p₀ p₁
     → Stored 21 (spaced a) s₁ s₂ p₁ p₂
     → Stored 21 (spaced b) s₂ s₃ p₂ p₃
     → Stored 21 (spaced c) s₃ s₄ p₃ p₄
     → Stored 21 (spaced d) s₄ s₅ p₄ p₅
     → Stored 1 (10 ∷ []) s₅ s₆ p₅ p₆
-    → Stored 93 (word_line word a b c d) s₀ s₆ 0 p₆
+    → Stored 93 (word_line word a b c d) s₀ s₆ p₀ p₆
 unfolding word_line
-word_stored word a b c d s₀ s₁ s₂ s₃ s₄ s₅ s₆ p₁ p₂ p₃ p₄ p₅ p₆ short w x y z t e =
+word_stored word a b c d s₀ s₁ s₂ s₃ s₄ s₅ s₆ p₀ p₁ p₂ p₃ p₄ p₅ p₆ short w x y z t e =
     let last = stored_both 21 1 _ _ s₄ s₅ s₆ p₄ p₅ p₆ t e in
     let three = stored_both 21 22 _ _ s₃ s₄ s₆ p₃ p₄ p₆ z last in
     let two = stored_both 21 43 _ _ s₂ s₃ s₆ p₂ p₃ p₆ y three in
     let one = stored_both 21 64 _ _ s₁ s₂ s₆ p₁ p₂ p₆ x two in
-    let whole = stored_both (length word) 85 _ _ s₀ s₁ s₆ 0 p₁ p₆ w one in
-    stored_most (length word + 85) 93 _ s₀ s₆ 0 p₆ (omega (arith, whole.next, whole.near)) whole
+    let whole = stored_both (length word) 85 _ _ s₀ s₁ s₆ p₀ p₁ p₆ w one in
+    stored_most (length word + 85) 93 _ s₀ s₆ p₀ p₆ (omega (arith, whole.next, whole.near)) whole
 
 -- ---- a loop that stores
 

@@ -10,6 +10,7 @@ use Rattle.loader.specs.declared.answer.Accepted.{Accepted}
 use Rattle.loader.specs.declared.validate.Config.{Config}
 use Rattle.loader.specs.Errors.{report_of}
 use Rattle.loader.specs.Load.{Loading, version_of, load_of, answer_of, rows_in}
+use Rattle.listing.specs.declared.storing.Lines.{Lines}
 use Rattle.listing.specs.Decimal.{decimal}
 
 -- ---- the bytes of a line
@@ -85,8 +86,12 @@ pub record Stored (most : ℕ) (bytes before after : List ℕ) (at r : ℕ) : Ty
   pub near : r ≤ at + most
   pub stores : after ≡ sets before at bytes
 
-abbrev pub Stores : ℕ → List ℕ → Lent → ℕ → ℕ → Type 0
-Stores most bytes out at r = Stored most bytes out.entry.now out.exit.now at r
+-- the slice lent is still the one that it was
+abbrev pub SameSlice : Lines → Lines → Type 0
+SameSlice before after = after.out.ghost_name ≡ before.out.ghost_name
+
+abbrev pub Stores : ℕ → List ℕ → Lines → Lines → Type 0
+Stores most bytes before after = Stored most bytes before.out.now after.out.now before.at after.at
 
 -- a slice of n bytes that holds these, as many as there is room for, and zeros behind them
 abbrev pub filled : ℕ → List ℕ → List ℕ

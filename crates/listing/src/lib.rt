@@ -2,17 +2,16 @@
 // The lines that the program loadlist prints: `refused` with number, value, name start and name
 // length; or `accepted` with version, entry, keys and moves, and a line for each row, by rising key:
 // key, index, name kind. A file of more than 16,384 bytes is `too long`.
-ghost use Rattle.std.specs.Prelude.{IfSome, OnOk};
+ghost use Rattle.std.specs.Prelude.{◌+◌, ◌≤◌, ◌^◌, IfSome, OnOk};
 ghost use Rattle.std.specs.Io.KnownBytes.{Appends};
-ghost use Rattle.listing.specs.Lines.{listed_load, lines_of, load_lines, Stores, Lists};
+ghost use Rattle.listing.specs.Lines.{listed_load, lines_of, load_lines, SameSlice, Stores, Lists};
 
 use input::read_full;
-use lines::put_load;
 use loader::{BuiltinProgram, Config, load};
 use program::FunctionRegistry;
 use std::io;
 use std::io::{Read, Write};
-use storing::{clear, put_bytes};
+use storing::Lines;
 
 mod lines;
 mod storing;
@@ -22,8 +21,10 @@ const LONGEST: usize = 16384;
 const ROWS: usize = 256;
 
 // A load with all settings on and no built-ins, and its lines.
-fn list_load(out: &mut [u8], file: &[u8]) -> usize
-    ensures { Stores 16221 (load_lines (listed_load file.now)) out 0 result }
+fn list_load(lines: &mut Lines<'_>, file: &[u8])
+    requires { lines.old.at + 16221 ≤ 2 ^ 32 }
+    ensures same { SameSlice lines.old lines.new }
+    ensures stores { Stores 16221 (load_lines (listed_load file.now)) lines.old lines.new }
 {
     let builtins = [0u32; 0];
     let mut image = [0u8; LONGEST];
@@ -59,7 +60,7 @@ fn list_load(out: &mut [u8], file: &[u8]) -> usize
         &mut ro_section,
         &mut registry,
     );
-    put_load(out, answer, registry.as_table())
+    lines.put_load(answer, registry.as_table());
 }
 
 // THE LINES of a file in a lent slice, as many bytes as there is room for and zeros behind them; and
@@ -67,11 +68,14 @@ fn list_load(out: &mut [u8], file: &[u8]) -> usize
 pub fn list_file(file: &[u8], out: &mut [u8]) -> usize
     ensures { Lists file out result }
 {
-    clear(out);
+    let mut lines = Lines { out, at: 0 };
+    lines.clear();
     if LONGEST < file.len() {
-        return put_bytes(out, 0, b"too long\n");
+        lines.put_bytes(b"too long\n");
+        return lines.at;
     }
-    list_load(out, file)
+    list_load(&mut lines, file);
+    lines.at
 }
 
 // Writes the lines of the file that an input holds. One byte more is read than a file may have, so

@@ -2,90 +2,92 @@
 ghost use Rattle.std.specs.Prelude.{◌+◌, ◌^◌, ◌≤◌, length};
 ghost use Rattle.program.specs.Table.{Within, columns_in, rows_of};
 ghost use Rattle.loader.specs.Errors.{report_of};
-ghost use Rattle.listing.specs.Lines.{word_line, row_line, row_lines, refused_line, accepted_line, answer_lines, Stores};
+ghost use Rattle.listing.specs.Lines.{word_line, row_line, row_lines, refused_line, accepted_line, answer_lines, SameSlice, Stores};
 
-use crate::storing::{put_byte, put_bytes, put_decimal, put_spaced};
+use crate::storing::Lines;
 use elf_parser::Report;
 use loader::{Accepted, ElfError};
 use program::{FunctionTable, Row};
 
-// A word and four numbers, at the front.
-fn put_word_line(out: &mut [u8], word: &[u8], a: u64, b: u64, c: u64, d: u64) -> usize
-    requires { length word.now ≤ 8 }
-    ensures { Stores 93 (word_line word.now a b c d) out 0 result }
-{
-    let after_word = put_bytes(out, 0, word);
-    let after_a = put_spaced(out, after_word, a);
-    let after_b = put_spaced(out, after_a, b);
-    let after_c = put_spaced(out, after_b, c);
-    let after_d = put_spaced(out, after_c, d);
-    put_byte(out, after_d, b'\n')
-}
-
-fn put_refused(out: &mut [u8], e: ElfError) -> usize
-    ensures { Stores 93 (refused_line (report_of e)) out 0 result }
-{
-    let r = Report::from(e);
-    put_word_line(out, b"refused", r.number as u64, r.value, r.start, r.length)
-}
-
-fn put_accepted(out: &mut [u8], a: Accepted) -> usize
-    ensures { Stores 93 (accepted_line a) out 0 result }
-{
-    put_word_line(
-        out,
-        b"accepted",
-        a.version() as u64,
-        a.entry as u64,
-        a.used as u64,
-        a.moves,
-    )
-}
-
-// A row: key, index, name kind.
-fn put_row(out: &mut [u8], at: usize, row: Row) -> usize
-    requires { at + 63 ≤ 2 ^ 32 }
-    ensures { Stores 63 (row_line row.key row.index row.kind) out at result }
-{
-    let after_key = put_decimal(out, at, row.key as u64);
-    let after_index = put_spaced(out, after_key, row.index as u64);
-    let after_kind = put_spaced(out, after_index, row.kind as u64);
-    put_byte(out, after_kind, b'\n')
-}
-
-// The used rows.
-fn put_rows(out: &mut [u8], at: usize, table: FunctionTable) -> usize
-    requires { (at ≤ 93) × (table.used ≤ 256) × Within table.used (columns_in table) }
-    ensures { Stores 16128 (row_lines (rows_of (columns_in table.entry) table.entry.used)) out at result }
-{
-    let mut next = at;
-    for i in 0..table.used {
-        let row = Row {
-            key: table.keys[i],
-            index: table.indices[i],
-            kind: table.kinds[i],
-            start: table.starts[i],
-            length: table.lengths[i],
-        };
-        next = put_row(out, next, row);
+impl Lines<'_> {
+    // A word and four numbers.
+    fn put_word_line(&mut self, word: &[u8], a: u64, b: u64, c: u64, d: u64)
+        requires { (self.old.at + 93 ≤ 2 ^ 32) × (length word.now ≤ 8) }
+        ensures same { SameSlice self.old self.new }
+        ensures stores { Stores 93 (word_line word.now a b c d) self.old self.new }
+    {
+        self.put_bytes(word);
+        self.put_spaced(a);
+        self.put_spaced(b);
+        self.put_spaced(c);
+        self.put_spaced(d);
+        self.put_byte(b'\n');
     }
-    next
-}
 
-// What a load answered, and its rows.
-pub(crate) fn put_load(
-    out: &mut [u8],
-    answer: Result<Accepted, ElfError>,
-    table: FunctionTable,
-) -> usize
-    requires { (table.used ≤ 256) × Within table.used (columns_in table) }
-    ensures { Stores 16221 (answer_lines answer (rows_of (columns_in table.entry) table.entry.used)) out 0 result }
-{
-    match answer {
-        Err(e) => put_refused(out, e),
-        Ok(a) => {
-            let next = put_accepted(out, a);
-            put_rows(out, next, table)
+    fn put_refused(&mut self, e: ElfError)
+        requires { self.old.at + 93 ≤ 2 ^ 32 }
+        ensures same { SameSlice self.old self.new }
+        ensures stores { Stores 93 (refused_line (report_of e)) self.old self.new }
+    {
+        let r = Report::from(e);
+        self.put_word_line(b"refused", r.number as u64, r.value, r.start, r.length);
+    }
+
+    fn put_accepted(&mut self, a: Accepted)
+        requires { self.old.at + 93 ≤ 2 ^ 32 }
+        ensures same { SameSlice self.old self.new }
+        ensures stores { Stores 93 (accepted_line a) self.old self.new }
+    {
+        self.put_word_line(
+            b"accepted",
+            a.version() as u64,
+            a.entry as u64,
+            a.used as u64,
+            a.moves,
+        );
+    }
+
+    // A row: key, index, name kind.
+    fn put_row(&mut self, row: Row)
+        requires { self.old.at + 63 ≤ 2 ^ 32 }
+        ensures same { SameSlice self.old self.new }
+        ensures stores { Stores 63 (row_line row.key row.index row.kind) self.old self.new }
+    {
+        self.put_decimal(row.key as u64);
+        self.put_spaced(row.index as u64);
+        self.put_spaced(row.kind as u64);
+        self.put_byte(b'\n');
+    }
+
+    // The used rows.
+    fn put_rows(&mut self, table: FunctionTable)
+        requires { (self.old.at + 16128 ≤ 2 ^ 32) × (table.used ≤ 256) × Within table.used (columns_in table) }
+        ensures same { SameSlice self.old self.new }
+        ensures stores { Stores 16128 (row_lines (rows_of (columns_in table.entry) table.entry.used)) self.old self.new }
+    {
+        for i in 0..table.used {
+            self.put_row(Row {
+                key: table.keys[i],
+                index: table.indices[i],
+                kind: table.kinds[i],
+                start: table.starts[i],
+                length: table.lengths[i],
+            });
+        }
+    }
+
+    // What a load answered, and its rows.
+    pub(crate) fn put_load(&mut self, answer: Result<Accepted, ElfError>, table: FunctionTable)
+        requires { (self.old.at + 16221 ≤ 2 ^ 32) × (table.used ≤ 256) × Within table.used (columns_in table) }
+        ensures same { SameSlice self.old self.new }
+        ensures stores { Stores 16221 (answer_lines answer (rows_of (columns_in table.entry) table.entry.used)) self.old self.new }
+    {
+        match answer {
+            Err(e) => self.put_refused(e),
+            Ok(a) => {
+                self.put_accepted(a);
+                self.put_rows(table);
+            }
         }
     }
 }

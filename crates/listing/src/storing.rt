@@ -1,40 +1,17 @@
-// Bytes, and the digits of numbers, stored in a lent slice from a place on. Each function answers the
-// place behind what it stored; where the slice ends before, the bytes past its end are left out.
+// Bytes, and the digits of numbers, stored in a lent slice one behind another; where the slice ends before, the
+// bytes past its end are left out.
 // Kept: tried as `write!` into a writer over the lent slice. std says what a writer holds only after `Ok`, and
 // nowhere that one which can't fail gives `Ok`; `list_file` has no failure to answer, and promises the lines in the
 // slice, as far as there is room, and how many bytes they are.
 ghost use Rattle.std.specs.Prelude.{◌≡◌, [], ◌∷◌, ◌+◌, ◌^◌, ◌≤◌, length, replicate};
 ghost use Rattle.listing.specs.Decimal.{last_digit, decimal};
-ghost use Rattle.listing.specs.Lines.{spaced, Stores};
+ghost use Rattle.listing.specs.Lines.{spaced, SameSlice, Stores};
 
-// Every byte zero.
-pub(crate) fn clear(out: &mut [u8])
-    ensures { out.new ≡ replicate (length out.old) 0 }
-{
-    out.fill(0);
-}
-
-#[tactic(auto, using(crate::proofs::Stores::byte_left, crate::proofs::Stores::byte_stored))]
-pub(crate) fn put_byte(out: &mut [u8], at: usize, b: u8) -> usize
-    requires { at + 1 ≤ 2 ^ 32 }
-    ensures { Stores 1 (b ∷ []) out at result }
-{
-    if out.len() <= at {
-        return at + 1;
-    }
-    out[at] = b;
-    at + 1
-}
-
-pub(crate) fn put_bytes(out: &mut [u8], at: usize, bytes: &[u8]) -> usize
-    requires { at + length bytes.now ≤ 2 ^ 32 }
-    ensures { Stores (length bytes.now) bytes.now out at result }
-{
-    let mut next = at;
-    for i in 0..bytes.len() {
-        next = put_byte(out, next, bytes[i]);
-    }
-    next
+// The lent slice, and the place behind what is stored.
+#[derive(Drop)]
+pub struct Lines<'o> {
+    pub out: &'o mut [u8],
+    pub at: usize,
 }
 
 // The byte of a number's last digit.
@@ -44,23 +21,59 @@ fn last_digit(n: u64) -> u8
     48 + (n % 10) as u8
 }
 
-// A number's digits, the highest first: those of a tenth, and the last one.
-pub(crate) fn put_decimal(out: &mut [u8], at: usize, n: u64) -> usize
-    requires { at + 20 ≤ 2 ^ 32 }
-    ensures { Stores 20 (decimal n) out at result }
-{
-    if n < 10 {
-        return put_byte(out, at, last_digit(n));
+impl Lines<'_> {
+    // Every byte zero.
+    pub(crate) fn clear(&mut self)
+        ensures same { SameSlice self.old self.new }
+        ensures out { self.new.out.now ≡ replicate (length self.old.out.now) 0 }
+        ensures at { self.new.at ≡ self.old.at }
+    {
+        self.out.fill(0);
     }
-    let next = put_decimal(out, at, n / 10);
-    put_byte(out, next, last_digit(n))
-}
 
-// A space and a number.
-pub(crate) fn put_spaced(out: &mut [u8], at: usize, n: u64) -> usize
-    requires { at + 21 ≤ 2 ^ 32 }
-    ensures { Stores 21 (spaced n) out at result }
-{
-    let next = put_byte(out, at, b' ');
-    put_decimal(out, next, n)
+    #[tactic(auto, using(crate::proofs::Stores::byte_left, crate::proofs::Stores::byte_stored))]
+    pub(crate) fn put_byte(&mut self, b: u8)
+        requires { self.old.at + 1 ≤ 2 ^ 32 }
+        ensures same { SameSlice self.old self.new }
+        ensures stores { Stores 1 (b ∷ []) self.old self.new }
+    {
+        if self.at < self.out.len() {
+            self.out[self.at] = b;
+        }
+        self.at += 1;
+    }
+
+    pub(crate) fn put_bytes(&mut self, bytes: &[u8])
+        requires { self.old.at + length bytes.now ≤ 2 ^ 32 }
+        ensures same { SameSlice self.old self.new }
+        ensures stores { Stores (length bytes.now) bytes.now self.old self.new }
+    {
+        for byte in bytes {
+            self.put_byte(*byte);
+        }
+    }
+
+    // A number's digits, the highest first: those of a tenth, and the last one.
+    pub(crate) fn put_decimal(&mut self, n: u64)
+        requires { self.old.at + 20 ≤ 2 ^ 32 }
+        ensures same { SameSlice self.old self.new }
+        ensures stores { Stores 20 (decimal n) self.old self.new }
+    {
+        if n < 10 {
+            self.put_byte(last_digit(n));
+            return;
+        }
+        self.put_decimal(n / 10);
+        self.put_byte(last_digit(n));
+    }
+
+    // A space and a number.
+    pub(crate) fn put_spaced(&mut self, n: u64)
+        requires { self.old.at + 21 ≤ 2 ^ 32 }
+        ensures same { SameSlice self.old self.new }
+        ensures stores { Stores 21 (spaced n) self.old self.new }
+    {
+        self.put_byte(b' ');
+        self.put_decimal(n);
+    }
 }

@@ -6,8 +6,9 @@ use Rattle.listing.proofs.list_load.Goals as goal
 
 pub put_load-requires : goal.put_load-requires
 put_load-requires c =
-    listed_within _ _ _ _ _ c.load-answer.ensures.loads.loaded _ _ c.as_table.ensures.columns (c.as_table.ensures.used ∙ c.load-answer.ensures.used) c.load-answer.ensures.lens
+    let w = listed_within _ _ _ _ _ c.load-answer.ensures.loads.loaded _ _ c.as_table.ensures.columns (c.as_table.ensures.used ∙ c.load-answer.ensures.used) c.load-answer.ensures.lens in
+    (c.requires, w.0, w.1)
 
-pub returns : goal.returns
-returns c =
-    listed_stored _ _ _ _ _ c.load-answer.ensures.loads.loaded _ _ c.as_table.ensures.columns (c.as_table.ensures.used ∙ c.load-answer.ensures.used) _ _ _ c.put_load.ensures
+pub returns-clause-stores : goal.returns-clause-stores
+returns-clause-stores c =
+    listed_stored _ _ _ _ _ c.load-answer.ensures.loads.loaded _ _ c.as_table.ensures.columns (c.as_table.ensures.used ∙ c.load-answer.ensures.used) _ _ _ _ c.put_load.ensures.stores
