@@ -107,7 +107,7 @@ parser_plain : (e : ElfParserError) → Plain (from_parser e)
 parser_plain InvalidFileHeader = refl
 parser_plain InvalidProgramHeader = refl
 parser_plain InvalidSectionHeader = refl
-parser_plain (StringTooLong start n) = refl
+parser_plain (StringTooLong p) = refl
 parser_plain OutOfBounds = refl
 parser_plain InvalidSize = refl
 parser_plain Overlap = refl
@@ -119,7 +119,7 @@ parser_plain NoStringTable = refl
 parser_plain NoDynamicStringTable = refl
 parser_plain NoSuchIndex = refl
 parser_plain NotASection = refl
-parser_plain (StringUnterminated start n) = refl
+parser_plain (StringUnterminated p) = refl
 
 -- ---- the placing
 

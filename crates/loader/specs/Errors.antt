@@ -17,7 +17,7 @@ abbrev pub from_parser : ElfParserError → ElfError
 from_parser InvalidFileHeader = FailedToParse InvalidFileHeader
 from_parser InvalidProgramHeader = FailedToParse InvalidProgramHeader
 from_parser InvalidSectionHeader = FailedToParse InvalidSectionHeader
-from_parser (StringTooLong start n) = FailedToParse (StringTooLong start n)
+from_parser (StringTooLong p) = FailedToParse (StringTooLong p)
 from_parser OutOfBounds = ValueOutOfBounds
 from_parser InvalidSize = FailedToParse InvalidSize
 from_parser Overlap = FailedToParse Overlap
@@ -29,7 +29,7 @@ from_parser NoStringTable = FailedToParse NoStringTable
 from_parser NoDynamicStringTable = FailedToParse NoDynamicStringTable
 from_parser NoSuchIndex = FailedToParse NoSuchIndex
 from_parser NotASection = FailedToParse NotASection
-from_parser (StringUnterminated start n) = FailedToParse (StringUnterminated start n)
+from_parser (StringUnterminated p) = FailedToParse (StringUnterminated p)
 
 -- number and value, no name
 abbrev pub valued : ℕ → ℕ → Report
