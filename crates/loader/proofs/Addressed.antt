@@ -1,12 +1,11 @@
 -- A relocation of type 1 is its address, and then the deed that writes it. Assumes nothing.
-use mathlib.Core.Path.{◌≡◌, refl, sym, ◌∙◌}
+use mathlib.Core.Path.{◌≡◌, refl, sym}
 use mathlib.Core.Bool.{Bool, true, false}
 use mathlib.Core.List.{List}
 use Prim.Native.Nat.{ℕ, ◌+◌}
 use lib.ListN.{length}
 use Rattle.std.proofs.Math.Dec.{ltb}
-use Rattle.std.specs.Prelude.{Option, unwrap_or, Result, Ok, Err, IsErr, IsErrAnd}
-use Rattle.std.proofs.lemmas.Result.{err_from_is_err_and}
+use Rattle.std.specs.Prelude.{Option, unwrap_or, Result, Ok, Err}
 use Rattle.ebpf.specs.Choice.{◌if◌else◌}
 use Rattle.ebpf.specs.LittleEndian.{le}
 use Rattle.elf_parser.specs.declared.error.ElfParserError.{ElfParserError}
@@ -35,20 +34,14 @@ module _ (s im : List ℕ) (l : Layout) (r number : ℕ) (addend : Option ℕ) w
       go false (Ok y) = refl
       go false (Err e) = refl
 
-  -- refused, as `?` hands it on
-  refused : (split : Bool) (at : ℕ) (x : Result ℕ ElfError) (e : ElfError) (d : Result Deed ElfError) → at ≡ (immediate_at r if split else r) → x ≡ symbol_address s im l at number addend → x ≡ Err e → IsErr d × IsErrAnd d (λ f. f ≡ e) → d ≡ plan6464 s im l split r number addend
-  refused split at x e d q is h given =
-      let p = err_from_is_err_and d given.1 in
-      let k : symbol_address s im l at number addend ≡ Err e = sym is ∙ h in
-      rw (p.1, p.2) (sym (rw k at (by_address split at q)))
-
-  pub halves_refused : (at : ℕ) (x : Result ℕ ElfError) (e : ElfError) (d : Result Deed ElfError) → at ≡ immediate_at r → x ≡ symbol_address s im l at number addend → x ≡ Err e → IsErr d × IsErrAnd d (λ f. f ≡ e) → d ≡ plan6464 s im l true r number addend
+  -- refused without an address
+  pub halves_refused : (e : ElfError) → symbol_address s im l (immediate_at r) number addend ≡ Err e → Err e ≡ plan6464 s im l true r number addend
   unfolding ◌if◌else◌
-  halves_refused = refused true
+  halves_refused e h = sym (rw h at (by_address true (immediate_at r) refl))
 
-  pub word_refused : (x : Result ℕ ElfError) (e : ElfError) (d : Result Deed ElfError) → x ≡ symbol_address s im l r number addend → x ≡ Err e → IsErr d × IsErrAnd d (λ f. f ≡ e) → d ≡ plan6464 s im l false r number addend
+  pub word_refused : (e : ElfError) → symbol_address s im l r number addend ≡ Err e → Err e ≡ plan6464 s im l false r number addend
   unfolding ◌if◌else◌
-  word_refused x e d = refused false r x e d refl
+  word_refused e h = sym (rw h at (by_address false r refl))
 
   pub halves_written : (a : ℕ) → symbol_address s im l (immediate_at r) number addend ≡ Ok a → halves_deed (length im) (immediate_at r) (sum_up_to (immediate_at r) 8) a ≡ plan6464 s im l true r number addend
   unfolding ◌if◌else◌ address_deed

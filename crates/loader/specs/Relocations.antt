@@ -254,7 +254,7 @@ relocations_trace s builtins j im = each (relocation_trace s builtins j) (reloca
 
 -- ---- laws
 
--- the search for a header, in the form that the loop's proof needs
+-- the search for a header, one step at a time
 module _ (s : List ℕ) (l : Layout) (a i : ℕ) where
   pub first_here : (n : ℕ) → 0 < n → contains (header_at s l i) a ≡ true → first_from s l a n i ≡ header_at s l i
   unfolding first_from ◌if◌else◌

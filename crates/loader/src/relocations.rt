@@ -1,10 +1,9 @@
 // What a relocation asks for: the place that it means, the bytes that it writes there, and the function
 // that it registers. Reads only; the caller registers and writes.
-ghost use Rattle.std.specs.Prelude.{◌≡◌, Ok, Bool, true, false, ◌&&◌, ◌≤◌, ◌<◌, ◌^◌, leb, ltb};
+ghost use Rattle.std.specs.Prelude.{◌≡◌, Ok, Some, true, false, ◌+◌, ◌/◌, ◌%◌, ◌≤◌, ◌^◌, ltb, length};
 ghost use Rattle.ebpf.specs.LittleEndian.{join};
 ghost use Rattle.elf_parser.specs.Names.{dynamic_symbol_name};
-ghost use Rattle.loader.specs.Addresses.{sum_up_to};
-ghost use Rattle.loader.specs.Relocations.{relocation_or, rela_or, relocation_at, header_at, contains, first_from, used_header, place_of, within, program_address, immediate_at, halves_deed, word_deed, symbol_address, plan6464, relative_text, relative_value, is_negative, plan_relative, register_deed, function_call, builtin_call, call_by_name, named_call, plan6432, plan_at, plan_of};
+ghost use Rattle.loader.specs.Relocations.{relocation_or, rela_or, relocation_at, header_at, contains, first_from, used_header, place_of, within, program_address, immediate_at, halves_deed, word_deed, symbol_address, plan6464, relative_text, is_negative, plan_relative, register_deed, function_call, builtin_call, call_by_name, named_call, plan6432, plan_at, plan_of};
 
 use crate::addresses::in_addresses;
 use crate::deeds::Deed;
@@ -31,6 +30,22 @@ pub struct Relocation {
     pub r_offset: u64,
     pub r_info: u64,
     pub addend: Option<u64>,
+}
+
+impl Relocation {
+    // The number of its symbol.
+    fn r_sym(self) -> u32
+        ensures { result ≡ self.r_info / 2 ^ 32 }
+    {
+        (self.r_info >> 32) as u32
+    }
+
+    // Its type.
+    fn r_type(self) -> u32
+        ensures { result ≡ self.r_info % 2 ^ 32 }
+    {
+        (self.r_info & 0xffff_ffff) as u32
+    }
 }
 
 const BLANK: Relocation = Relocation {
@@ -68,19 +83,15 @@ impl From<Elf64Rela> for Relocation {
 pub fn relocation_at(elf: &Elf64<'_>, index: u32) -> Relocation
     ensures { result ≡ relocation_at elf.now.file.now elf.now.layout index }
 {
-    let relocations = elf.layout.dynamic_relocations;
-    let older = relocations.count;
+    let older = elf.layout.dynamic_relocations.count;
     let number = index as u64;
     if number < older {
-        return match elf.dynamic_relocation(index) {
-            Ok(r) => Relocation::from(r),
-            Err(_) => BLANK,
-        };
+        return elf
+            .dynamic_relocation(index)
+            .map_or(BLANK, Relocation::from);
     }
-    match elf.dynamic_rela((number - older) as u32) {
-        Ok(r) => Relocation::from(r),
-        Err(_) => BLANK,
-    }
+    elf.dynamic_rela((number - older) as u32)
+        .map_or(BLANK, Relocation::from)
 }
 
 // A program header, as far as version 2 maps by it: the addresses from `p_vaddr` up to `end` stand
@@ -90,6 +101,14 @@ pub struct UsedHeader {
     pub p_vaddr: u64,
     pub end: u64,
     pub p_offset: u64,
+}
+
+impl UsedHeader {
+    fn contains(self, a: u64) -> bool
+        ensures { result ≡ contains (Some self) a }
+    {
+        (self.p_vaddr..self.end).contains(&a)
+    }
 }
 
 // The program header number `index`.
@@ -104,23 +123,13 @@ fn header_at(elf: &Elf64<'_>, index: u32) -> Option<UsedHeader>
     })
 }
 
-fn does_contain(used: Option<UsedHeader>, a: u64) -> bool
-    ensures { result ≡ contains used a }
-{
-    used.is_some_and(|h| (h.p_vaddr <= a) & (a < h.end))
-}
-
 // The first program header that contains an address.
 fn first_header(elf: &Elf64<'_>, count: u32, a: u64) -> Option<UsedHeader>
     ensures { result ≡ first_from elf.now.file.now elf.now.layout a count 0 }
 {
-    for i in 0..count {
-        let h = header_at(elf, i);
-        if does_contain(h, a) {
-            return h;
-        }
-    }
-    None
+    (0..count)
+        .filter_map(|i| header_at(elf, i))
+        .find(|h| h.contains(a))
 }
 
 // The header that the relocation at `r_offset` is mapped by, after one that was mapped by `used`. Version
@@ -134,14 +143,10 @@ pub fn used_header(
 ) -> Option<UsedHeader>
     ensures { result ≡ used_header elf.now.file.now elf.now.layout version2 used r_offset }
 {
-    if !version2 {
+    if !version2 | used.is_some_and(|h| h.contains(r_offset)) {
         return used;
     }
-    if does_contain(used, r_offset) {
-        return used;
-    }
-    let headers = elf.layout.program_headers;
-    let count = headers.count.min(0xffff_ffff) as u32;
+    let count = elf.layout.program_headers.count.min(0xffff_ffff) as u32;
     first_header(elf, count, r_offset)
 }
 
@@ -166,11 +171,8 @@ pub fn r_place(version2: bool, used: Option<UsedHeader>, r_offset: u64) -> Optio
 pub fn is_within(place: Place, r: u64) -> bool
     ensures { result ≡ within place.start place.length r }
 {
-    let start = place.start as u64;
-    if r < start {
-        return false;
-    }
-    r - start < place.length as u64
+    r.checked_sub(place.start as u64)
+        .is_some_and(|offset| offset < place.length as u64)
 }
 
 // An address in the machine: below the program's start it gains that.
@@ -192,126 +194,11 @@ fn immediate_at(r: u64) -> u64
     r.saturating_add(4)
 }
 
-#[tactic(auto, using(ebpf::specs::Choice::choices), unfolding(crate::specs::Relocations::halves_deed))]
-fn halves_deed(len: u64, low: u64, high: u64, value: u64) -> Result<Deed, ElfError>
-    ensures { result ≡ halves_deed len low high value }
-{
-    if past(len, low, 4) {
-        return Err(ElfError::ValueOutOfBounds);
-    }
-    if past(len, high, 4) {
-        return Err(ElfError::ValueOutOfBounds);
-    }
-    Ok(Deed::Halves {
-        low: low as usize,
-        high: high as usize,
-        value,
-    })
-}
-
-#[tactic(auto, using(ebpf::specs::Choice::choices), unfolding(crate::specs::Relocations::word_deed))]
-fn word_deed(len: u64, at: u64, value: u64) -> Result<Deed, ElfError>
-    ensures { result ≡ word_deed len at value }
-{
-    if past(len, at, 8) {
-        return Err(ElfError::ValueOutOfBounds);
-    }
-    Ok(Deed::Word {
-        at: at as usize,
-        value,
-    })
-}
-
 // Whether a relocation brings an addend that is negative.
 fn is_negative(addend: Option<u64>) -> bool
     ensures { result ≡ is_negative addend }
 {
     addend.is_some_and(|a| 0x8000_0000_0000_0000 <= a)
-}
-
-// Type 1: the address of a symbol, plus the addend or the four bytes that are there.
-#[tactic(auto, using(ebpf::specs::Choice::choices), unfolding(crate::specs::Relocations::symbol_address))]
-fn symbol_address(
-    elf: &Elf64<'_>,
-    image: &[u8],
-    at: u64,
-    number: u32,
-    addend: Option<u64>,
-) -> Result<u64, ElfError>
-    ensures { result ≡ symbol_address elf.now.file.now image.now elf.now.layout at number addend }
-{
-    if past(image.len() as u64, at, 4) {
-        return Err(ElfError::ValueOutOfBounds);
-    }
-    let addend = addend.unwrap_or(read::<u32>(image, at as usize) as u64);
-    let unknown = |_| ElfError::UnknownSymbol { number };
-    let y = elf.dynamic_symbol(number).map_err(unknown)?;
-    Ok(program_address(y.st_value.saturating_add(addend)))
-}
-
-// Type 1 in the text, and in version 1: an instruction's two halves.
-#[tactic(auto, using(crate::proofs::Addressed::halves_written))]
-fn halves_64_64(
-    elf: &Elf64<'_>,
-    image: &[u8],
-    r: u64,
-    number: u32,
-    addend: Option<u64>,
-) -> Result<Deed, ElfError>
-    ensures { result ≡ plan6464 elf.now.file.now image.now elf.now.layout true r number addend }
-{
-    let at = immediate_at(r);
-    let address = symbol_address(elf, image, at, number, addend)?;
-    halves_deed(image.len() as u64, at, at.saturating_add(8), address)
-}
-
-// Type 1 elsewhere: eight bytes.
-#[tactic(auto, using(crate::proofs::Addressed::word_written))]
-fn word_64_64(
-    elf: &Elf64<'_>,
-    image: &[u8],
-    r: u64,
-    number: u32,
-    addend: Option<u64>,
-) -> Result<Deed, ElfError>
-    ensures { result ≡ plan6464 elf.now.file.now image.now elf.now.layout false r number addend }
-{
-    let address = symbol_address(elf, image, r, number, addend)?;
-    word_deed(image.len() as u64, r, address)
-}
-
-// Type 8 in the text: an instruction's two halves.
-#[tactic(auto, using(ebpf::specs::Choice::choices), unfolding(crate::specs::Relocations::relative_text))]
-fn relative_text(len: u64, low: u64, high: u64, address: u64) -> Result<Deed, ElfError>
-    ensures { result ≡ relative_text len low high address }
-{
-    if past(len, low, 4) {
-        return Err(ElfError::ValueOutOfBounds);
-    }
-    if past(len, high, 4) {
-        return Err(ElfError::ValueOutOfBounds);
-    }
-    if address == 0 {
-        return Err(ElfError::InvalidVirtualAddress);
-    }
-    Ok(Deed::Halves {
-        low: low as usize,
-        high: high as usize,
-        value: program_address(address),
-    })
-}
-
-// Type 8 outside the text: version 2 keeps an address of eight bytes there, version 1 the lower half of
-// one in the upper four.
-#[tactic(auto, using(ebpf::specs::Choice::choices), unfolding(crate::specs::Relocations::relative_value))]
-fn relative_value(version2: bool, upper: u64, whole: u64) -> u64
-    requires { upper < 2 ^ 63 }
-    ensures { result ≡ relative_value version2 upper whole }
-{
-    if version2 {
-        return program_address(whole);
-    }
-    MM_PROGRAM_START + upper
 }
 
 fn join_halves(low: u32, high: u32) -> u64
@@ -320,181 +207,243 @@ fn join_halves(low: u32, high: u32) -> u64
     u64::from(low) | (u64::from(high) << 32)
 }
 
-// Type 8 in the text: the addend, or the address whose halves are there.
-#[tactic(auto, using(ebpf::specs::Choice::choices), unfolding(crate::specs::Relocations::plan_relative))]
-fn relative_in_text(image: &[u8], r: u64, addend: Option<u64>) -> Result<Deed, ElfError>
-    ensures { (version2 : Bool) → result ≡ plan_relative image.now version2 true r addend }
-{
-    let len = image.len() as u64;
-    let low = immediate_at(r);
-    let high = immediate_at(r.saturating_add(8));
-    let address = join_halves(read(image, low as usize), read(image, high as usize));
-    relative_text(len, low, high, addend.unwrap_or(address))
-}
-
-// Type 8 outside the text: the addend, or the bytes that are there.
-#[tactic(auto, using(ebpf::specs::Choice::choices), unfolding(crate::specs::Relocations::plan_relative))]
-fn relative_elsewhere(
-    image: &[u8],
-    version2: bool,
+// A relocation with what it is applied to: what the load reads, the image as the relocations before left
+// it, and the place `r` in the file that it means.
+#[derive(Clone, Copy, PartialEq, Eq, Debug)]
+struct PlacedRelocation<'a> {
+    inputs: &'a Inputs<'a>,
+    image: &'a [u8],
     r: u64,
-    addend: Option<u64>,
-) -> Result<Deed, ElfError>
-    requires { is_negative addend ≡ false }
-    ensures { result ≡ plan_relative image.now version2 false r addend }
-{
-    let low = immediate_at(r);
-    let value = relative_value(
-        version2,
-        addend.unwrap_or(read::<u32>(image, low as usize) as u64),
-        addend.unwrap_or(read::<u64>(image, r as usize)),
-    );
-    word_deed(image.len() as u64, r, value)
+    relocation: Relocation,
 }
 
-// A function to register, and the place of its key.
-#[tactic(auto, using(ebpf::specs::Choice::choices))]
-fn register_deed(len: u64, at: u64, row: Result<Row, SymbolHashCollision>) -> Result<Deed, ElfError>
-    ensures { result ≡ register_deed len at row }
-{
-    let row = row?;
-    if past(len, at, 4) {
-        return Ok(Deed::RegisterOutside { row });
+impl PlacedRelocation<'_> {
+    // Whether `n` bytes from `at` on end past the image.
+    fn is_past(&self, at: u64, n: u64) -> bool
+        ensures { result ≡ ltb (length self.now.image.now) (at + n) }
+    {
+        past(self.image.len() as u64, at, n)
     }
-    Ok(Deed::Register {
-        row,
-        at: at as usize,
-    })
-}
 
-// A call of a function symbol.
-#[tactic(auto, using(ebpf::specs::Choice::choices), unfolding(crate::specs::Relocations::function_call))]
-fn function_call(
-    inputs: &Inputs<'_>,
-    len: u64,
-    at: u64,
-    name: FunctionName,
-    st_value: u64,
-) -> Result<Deed, ElfError>
-    ensures { result ≡ function_call inputs.now.builtins.now inputs.now.job len at name st_value }
-{
-    let sh_addr = inputs.job.sh_addr;
-    let sh_size = inputs.job.sh_size;
-    if !in_addresses(sh_addr, sh_size, st_value) {
-        return Err(ElfError::ValueOutOfBounds);
-    }
-    let index = ((st_value - sh_addr) / 8) as u32;
-    register_deed(len, at, row_for(inputs, name, index))
-}
-
-// A call of any other symbol: by the hash of its name.
-#[tactic(auto, using(ebpf::specs::Choice::choices), unfolding(crate::specs::Relocations::builtin_call))]
-fn builtin_call(
-    inputs: &Inputs<'_>,
-    len: u64,
-    at: u64,
-    r: u64,
-    place: Place,
-    hash: u32,
-) -> Result<Deed, ElfError>
-    ensures { result ≡ builtin_call inputs.now.builtins.now inputs.now.job.reject_broken len at r place.start place.length hash }
-{
-    let known = is_builtin(inputs.builtins, hash);
-    if inputs.job.reject_broken & !known {
-        return Err(ElfError::UnresolvedSymbol {
-            name: place,
-            offset: r,
-        });
-    }
-    if past(len, at, 4) {
-        return Err(ElfError::ValueOutOfBounds);
-    }
-    Ok(Deed::Key {
-        at: at as usize,
-        key: hash,
-    })
-}
-
-// A call of a symbol whose name is `part`, which stands at `place`.
-#[tactic(auto, using(ebpf::specs::Choice::choices), unfolding(crate::specs::Relocations::call_by_name))]
-fn call_by_name(
-    inputs: &Inputs<'_>,
-    part: &[u8],
-    len: u64,
-    r: u64,
-    y: Elf64Sym,
-    place: Place,
-) -> Result<Deed, ElfError>
-    requires { (place.start ≤ 2 ^ 24) × (place.length ≤ 64) }
-    ensures { result ≡ call_by_name part.now inputs.now.builtins.now inputs.now.job len r y place.start place.length }
-{
-    let at = immediate_at(r);
-    let st_value = y.st_value;
-    if (y.st_info % 16 == 2) & (st_value != 0) {
-        let name = symbol_function(part, place);
-        return function_call(inputs, len, at, name, st_value);
-    }
-    let hash = hash_symbol_name(part);
-    builtin_call(inputs, len, at, r, place, hash)
-}
-
-// A call of a symbol.
-fn named_call(inputs: &Inputs<'_>, len: u64, r: u64, y: Elf64Sym) -> Result<Deed, ElfError>
-    ensures { result ≡ named_call inputs.now.file.now inputs.now.builtins.now inputs.now.job len r y (dynamic_symbol_name inputs.now.file.now inputs.now.job.layout y.st_name) }
-{
-    let number = y.st_name;
-    let unknown = |_| ElfError::UnknownSymbol { number };
-    let place = inputs.elf().dynamic_symbol_name(number).map_err(unknown)?;
-    let part = bytes_at(inputs.file, place);
-    call_by_name(inputs, part, len, r, y, place)
-}
-
-// Type 10: a call by the name of a symbol.
-#[tactic(auto, using(ebpf::specs::Choice::choices), unfolding(crate::specs::Relocations::plan6432))]
-fn plan_64_32(inputs: &Inputs<'_>, len: u64, r: u64, number: u32) -> Result<Deed, ElfError>
-    ensures { result ≡ plan6432 inputs.now.file.now inputs.now.builtins.now inputs.now.job len r number }
-{
-    let unknown = |_| ElfError::UnknownSymbol { number };
-    let y = inputs.elf().dynamic_symbol(number).map_err(unknown)?;
-    named_call(inputs, len, r, y)
-}
-
-// A relocation at a place of the file, by its type.
-#[tactic(auto, using(ebpf::specs::Choice::choices), unfolding(crate::specs::Relocations::plan_at))]
-fn plan_at(
-    inputs: &Inputs<'_>,
-    image: &[u8],
-    r: u64,
-    r_info: u64,
-    addend: Option<u64>,
-) -> Result<Deed, ElfError>
-    ensures { result ≡ plan_at inputs.now.file.now image.now inputs.now.builtins.now inputs.now.job r r_info addend }
-{
-    let r_type = (r_info % 0x1_0000_0000) as u32;
-    let r_sym = (r_info / 0x1_0000_0000) as u32;
-    let in_text = is_within(inputs.job.text, r);
-    let version2 = inputs.job.version2;
-    let uses_addend = (r_type == R_BPF_64_64) | (r_type == R_BPF_64_RELATIVE);
-    if uses_addend & is_negative(addend) {
-        return Err(ElfError::AddendNegative);
-    }
-    if r_type == R_BPF_64_64 {
-        let elf = inputs.elf();
-        if in_text | !version2 {
-            return halves_64_64(&elf, image, r, r_sym, addend);
+    // Two halves of a number, four bytes each.
+    #[tactic(auto, using(ebpf::specs::Choice::choices), unfolding(crate::specs::Relocations::halves_deed))]
+    fn halves_deed(&self, low: u64, high: u64, value: u64) -> Result<Deed, ElfError>
+        ensures { result ≡ halves_deed (length self.now.image.now) low high value }
+    {
+        if self.is_past(low, 4) | self.is_past(high, 4) {
+            return Err(ElfError::ValueOutOfBounds);
         }
-        return word_64_64(&elf, image, r, r_sym, addend);
+        Ok(Deed::Halves {
+            low: low as usize,
+            high: high as usize,
+            value,
+        })
     }
-    if r_type == R_BPF_64_RELATIVE {
-        if in_text {
-            return relative_in_text(image, r, addend);
+
+    // A number of eight bytes.
+    #[tactic(auto, using(ebpf::specs::Choice::choices), unfolding(crate::specs::Relocations::word_deed))]
+    fn word_deed(&self, at: u64, value: u64) -> Result<Deed, ElfError>
+        ensures { result ≡ word_deed (length self.now.image.now) at value }
+    {
+        if self.is_past(at, 8) {
+            return Err(ElfError::ValueOutOfBounds);
         }
-        return relative_elsewhere(image, version2, r, addend);
+        Ok(Deed::Word {
+            at: at as usize,
+            value,
+        })
     }
-    if r_type == R_BPF_64_32 {
-        return plan_64_32(inputs, image.len() as u64, r, r_sym);
+
+    // Type 1: the address of a symbol, plus the addend or the four bytes that are there.
+    #[tactic(auto, using(ebpf::specs::Choice::choices), unfolding(crate::specs::Relocations::symbol_address))]
+    fn symbol_address(&self, at: u64) -> Result<u64, ElfError>
+        ensures { let p = self.now in let i = p.inputs.now in result ≡ symbol_address i.file.now p.image.now i.job.layout at (p.relocation.r_info / 2 ^ 32) p.relocation.addend }
+    {
+        if self.is_past(at, 4) {
+            return Err(ElfError::ValueOutOfBounds);
+        }
+        let there = read::<u32>(self.image, at as usize) as u64;
+        let addend = self.relocation.addend.unwrap_or(there);
+        let number = self.relocation.r_sym();
+        let unknown = |_| ElfError::UnknownSymbol { number };
+        let y = self.inputs.elf().dynamic_symbol(number).map_err(unknown)?;
+        Ok(program_address(y.st_value.saturating_add(addend)))
     }
-    Err(ElfError::UnknownRelocation { number: r_type })
+
+    // Type 1 in the text, and in version 1: an instruction's two halves.
+    #[tactic(auto, using(crate::proofs::Addressed::halves_written, crate::proofs::Addressed::halves_refused))]
+    fn halves_64_64(&self) -> Result<Deed, ElfError>
+        ensures { let p = self.now in let i = p.inputs.now in result ≡ plan6464 i.file.now p.image.now i.job.layout true p.r (p.relocation.r_info / 2 ^ 32) p.relocation.addend }
+    {
+        let at = immediate_at(self.r);
+        let address = self.symbol_address(at)?;
+        self.halves_deed(at, at.saturating_add(8), address)
+    }
+
+    // Type 1 elsewhere: eight bytes.
+    #[tactic(auto, using(crate::proofs::Addressed::word_written, crate::proofs::Addressed::word_refused))]
+    fn word_64_64(&self) -> Result<Deed, ElfError>
+        ensures { let p = self.now in let i = p.inputs.now in result ≡ plan6464 i.file.now p.image.now i.job.layout false p.r (p.relocation.r_info / 2 ^ 32) p.relocation.addend }
+    {
+        let address = self.symbol_address(self.r)?;
+        self.word_deed(self.r, address)
+    }
+
+    // Type 8 in the text: an instruction's two halves.
+    #[tactic(auto, using(ebpf::specs::Choice::choices), unfolding(crate::specs::Relocations::relative_text))]
+    fn relative_text(&self, low: u64, high: u64, address: u64) -> Result<Deed, ElfError>
+        ensures { result ≡ relative_text (length self.now.image.now) low high address }
+    {
+        if self.is_past(low, 4) | self.is_past(high, 4) {
+            return Err(ElfError::ValueOutOfBounds);
+        }
+        if address == 0 {
+            return Err(ElfError::InvalidVirtualAddress);
+        }
+        Ok(Deed::Halves {
+            low: low as usize,
+            high: high as usize,
+            value: program_address(address),
+        })
+    }
+
+    // Type 8 in the text: the addend, or the address whose halves are there.
+    #[tactic(auto, using(ebpf::specs::Choice::choices), unfolding(crate::specs::Relocations::plan_relative))]
+    fn relative_in_text(&self) -> Result<Deed, ElfError>
+        ensures { result ≡ plan_relative self.now.image.now self.now.inputs.now.job.version2 true self.now.r self.now.relocation.addend }
+    {
+        let low = immediate_at(self.r);
+        let high = immediate_at(self.r.saturating_add(8));
+        let address = join_halves(
+            read(self.image, low as usize),
+            read(self.image, high as usize),
+        );
+        self.relative_text(low, high, self.relocation.addend.unwrap_or(address))
+    }
+
+    // Type 8 outside the text: the addend, or the bytes that are there. Version 2 keeps an address of eight
+    // bytes there, version 1 the lower half of one in the upper four.
+    #[tactic(auto, using(ebpf::specs::Choice::choices), unfolding(crate::specs::Relocations::plan_relative, crate::specs::Relocations::relative_value))]
+    fn relative_elsewhere(&self) -> Result<Deed, ElfError>
+        requires { is_negative self.now.relocation.addend ≡ false }
+        ensures { result ≡ plan_relative self.now.image.now self.now.inputs.now.job.version2 false self.now.r self.now.relocation.addend }
+    {
+        let low = immediate_at(self.r);
+        let addend = self.relocation.addend;
+        let value = if self.inputs.job.version2 {
+            program_address(addend.unwrap_or(read::<u64>(self.image, self.r as usize)))
+        } else {
+            MM_PROGRAM_START + addend.unwrap_or(read::<u32>(self.image, low as usize) as u64)
+        };
+        self.word_deed(self.r, value)
+    }
+
+    // A function to register, and the place of its key.
+    #[tactic(auto, using(ebpf::specs::Choice::choices))]
+    fn register_deed(&self, row: Result<Row, SymbolHashCollision>) -> Result<Deed, ElfError>
+        ensures { result ≡ register_deed (length self.now.image.now) (immediate_at self.now.r) row }
+    {
+        let row = row?;
+        let at = immediate_at(self.r);
+        if self.is_past(at, 4) {
+            return Ok(Deed::RegisterOutside { row });
+        }
+        Ok(Deed::Register {
+            row,
+            at: at as usize,
+        })
+    }
+
+    // A call of a function symbol.
+    #[tactic(auto, using(ebpf::specs::Choice::choices), unfolding(crate::specs::Relocations::function_call))]
+    fn function_call(&self, name: FunctionName, st_value: u64) -> Result<Deed, ElfError>
+        ensures { let p = self.now in let i = p.inputs.now in result ≡ function_call i.builtins.now i.job (length p.image.now) (immediate_at p.r) name st_value }
+    {
+        let sh_addr = self.inputs.job.sh_addr;
+        let sh_size = self.inputs.job.sh_size;
+        if !in_addresses(sh_addr, sh_size, st_value) {
+            return Err(ElfError::ValueOutOfBounds);
+        }
+        let index = ((st_value - sh_addr) / 8) as u32;
+        self.register_deed(row_for(self.inputs, name, index))
+    }
+
+    // A call of any other symbol: by the hash of its name.
+    #[tactic(auto, using(ebpf::specs::Choice::choices), unfolding(crate::specs::Relocations::builtin_call))]
+    fn builtin_call(&self, place: Place, hash: u32) -> Result<Deed, ElfError>
+        ensures { let p = self.now in let i = p.inputs.now in result ≡ builtin_call i.builtins.now i.job.reject_broken (length p.image.now) (immediate_at p.r) p.r place.start place.length hash }
+    {
+        let known = is_builtin(self.inputs.builtins, hash);
+        if self.inputs.job.reject_broken & !known {
+            return Err(ElfError::UnresolvedSymbol {
+                name: place,
+                offset: self.r,
+            });
+        }
+        let at = immediate_at(self.r);
+        if self.is_past(at, 4) {
+            return Err(ElfError::ValueOutOfBounds);
+        }
+        Ok(Deed::Key {
+            at: at as usize,
+            key: hash,
+        })
+    }
+
+    // A call of a symbol whose name is `part`, which stands at `place`.
+    #[tactic(auto, using(ebpf::specs::Choice::choices), unfolding(crate::specs::Relocations::call_by_name))]
+    fn call_by_name(&self, y: Elf64Sym, part: &[u8], place: Place) -> Result<Deed, ElfError>
+        requires { (place.start ≤ 2 ^ 24) × (place.length ≤ 64) }
+        ensures { let p = self.now in let i = p.inputs.now in result ≡ call_by_name part.now i.builtins.now i.job (length p.image.now) p.r y place.start place.length }
+    {
+        let st_value = y.st_value;
+        if (y.st_info % 16 == 2) & (st_value != 0) {
+            return self.function_call(symbol_function(part, place), st_value);
+        }
+        self.builtin_call(place, hash_symbol_name(part))
+    }
+
+    // A call of a symbol.
+    #[tactic(auto, using(elf_parser::specs::Names::name_within, elf_parser::specs::Parts::part_within, crate::proofs::Mapped::mapped_ok))]
+    fn named_call(&self, y: Elf64Sym) -> Result<Deed, ElfError>
+        ensures { let p = self.now in let i = p.inputs.now in result ≡ named_call i.file.now i.builtins.now i.job (length p.image.now) p.r y (dynamic_symbol_name i.file.now i.job.layout y.st_name) }
+    {
+        let number = y.st_name;
+        let unknown = |_| ElfError::UnknownSymbol { number };
+        let elf = self.inputs.elf();
+        let place = elf.dynamic_symbol_name(number).map_err(unknown)?;
+        self.call_by_name(y, bytes_at(self.inputs.file, place), place)
+    }
+
+    // Type 10: a call by the name of a symbol.
+    #[tactic(auto, using(ebpf::specs::Choice::choices), unfolding(crate::specs::Relocations::plan6432))]
+    fn call_64_32(&self) -> Result<Deed, ElfError>
+        ensures { let p = self.now in let i = p.inputs.now in result ≡ plan6432 i.file.now i.builtins.now i.job (length p.image.now) p.r (p.relocation.r_info / 2 ^ 32) }
+    {
+        let number = self.relocation.r_sym();
+        let unknown = |_| ElfError::UnknownSymbol { number };
+        let y = self.inputs.elf().dynamic_symbol(number).map_err(unknown)?;
+        self.named_call(y)
+    }
+
+    // What it asks for, by its type.
+    #[tactic(auto, using(ebpf::specs::Choice::choices), unfolding(crate::specs::Relocations::plan_at))]
+    fn plan(&self) -> Result<Deed, ElfError>
+        ensures { let p = self.now in let i = p.inputs.now in result ≡ plan_at i.file.now p.image.now i.builtins.now i.job p.r p.relocation.r_info p.relocation.addend }
+    {
+        let in_text = is_within(self.inputs.job.text, self.r);
+        let version2 = self.inputs.job.version2;
+        let negative = is_negative(self.relocation.addend);
+        match self.relocation.r_type() {
+            R_BPF_64_64 | R_BPF_64_RELATIVE if negative => Err(ElfError::AddendNegative),
+            R_BPF_64_64 if in_text | !version2 => self.halves_64_64(),
+            R_BPF_64_64 => self.word_64_64(),
+            R_BPF_64_RELATIVE if in_text => self.relative_in_text(),
+            R_BPF_64_RELATIVE => self.relative_elsewhere(),
+            R_BPF_64_32 => self.call_64_32(),
+            number => Err(ElfError::UnknownRelocation { number }),
+        }
+    }
 }
 
 // What a relocation asks for, `used` being the header that maps it. The bytes that it adds to are the
@@ -507,11 +456,12 @@ pub(crate) fn plan_relocation(
 ) -> Result<Deed, ElfError>
     ensures { result ≡ plan_of inputs.now.file.now image.now inputs.now.builtins.now inputs.now.job (place_of inputs.now.job.version2 used relocation.r_offset) relocation.r_info relocation.addend }
 {
-    let Relocation {
-        r_offset,
-        r_info,
-        addend,
-    } = relocation;
-    let r = r_place(inputs.job.version2, used, r_offset).ok_or(ElfError::ValueOutOfBounds)?;
-    plan_at(inputs, image, r, r_info, addend)
+    let place = r_place(inputs.job.version2, used, relocation.r_offset);
+    let placed = PlacedRelocation {
+        inputs,
+        image,
+        r: place.ok_or(ElfError::ValueOutOfBounds)?,
+        relocation,
+    };
+    placed.plan()
 }
