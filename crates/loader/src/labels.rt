@@ -28,6 +28,7 @@ fn label_as(inputs: &Inputs<'_>, part: &[u8], index: u32, place: Place) -> Resul
 }
 
 // A function at `index`.
+#[tactic(auto, using(elf_parser::specs::Names::name_within, elf_parser::specs::Parts::part_within, crate::proofs::Mapped::mapped_ok))]
 fn named_label(inputs: &Inputs<'_>, index: u32, st_name: u32) -> Result<Deed, ElfError>
     ensures { result ≡ named_label inputs.now.file.now inputs.now.builtins.now inputs.now.job index st_name (symbol_name inputs.now.file.now inputs.now.job.layout st_name) }
 {
