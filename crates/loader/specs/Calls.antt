@@ -32,6 +32,10 @@ target count i imm =
     Err (RelativeJumpOutOfBounds i) if ltb (i + 1 + imm) 0x1_0000_0000 else
     inside count i (i + 1 + imm - 0x1_0000_0000)
 
+-- a call whose immediate is a key in the image: opcode 0x85, in version 2 source not 0
+unfoldable pub calls_key : Bool → Insn → Bool
+calls_key version2 insn = eqb insn.opc 0x85 && not (version2 && eqb insn.src 0)
+
 -- a local call: opcode 0x85, immediate not −1, in version 2 source not 0
 unfoldable pub is_local_call : Bool → Insn → Bool
 is_local_call version2 insn = eqb insn.opc 0x85 && (not (eqb insn.imm 0xffff_ffff) && not (version2 && eqb insn.src 0))

@@ -2,7 +2,7 @@
 ghost use Rattle.std.specs.Prelude.{◌≡◌, ◌+◌, ◌-◌, ◌*◌, ◌%◌, ◌≤◌, ◌<◌, ◌^◌, min, eqb, length, get_or, set};
 ghost use Rattle.program.specs.declared.FunctionName.TheVariants.{OfIndex};
 ghost use Rattle.loader.specs.Functions.{row_for};
-ghost use Rattle.loader.specs.Calls.{inside, target, is_local_call, call_of, call_at, text_of, slot_count, slot_trace, calls_trace, next_call};
+ghost use Rattle.loader.specs.Calls.{inside, target, calls_key, is_local_call, call_of, call_at, text_of, slot_count, slot_trace, calls_trace, next_call};
 ghost use Rattle.loader.specs.CallLoop.{TargetAsks, Targets, StillAlike, target_row, SlotAsks, StillHeld, SlotsAsk, SlotsLead};
 ghost use Rattle.loader.specs.InnerContracts.{Keeps, SettlesTo, FirstAsks};
 
@@ -41,12 +41,21 @@ fn target_of(count: u64, i: u64, imm: u32) -> Result<u32, ElfError>
     inside_text(count, i, to - 0x1_0000_0000)
 }
 
-#[tactic(auto, using(ebpf::specs::Choice::choices), unfolding(crate::specs::Calls::is_local_call))]
+// Whether an instruction of the image calls by a key, which is its immediate.
+#[tactic(auto, unfolding(crate::specs::Calls::calls_key))]
+pub fn calls_key(version2: bool, insn: Insn) -> bool
+    ensures { result ≡ calls_key version2 insn }
+{
+    let near = version2 & (insn.src == 0);
+    (insn.opc == CALL_IMM) & !near
+}
+
+// Whether an instruction of the file calls another slot of the text.
+#[tactic(auto, unfolding(crate::specs::Calls::calls_key, crate::specs::Calls::is_local_call))]
 pub fn is_local_call(version2: bool, insn: Insn) -> bool
     ensures { result ≡ is_local_call version2 insn }
 {
-    let near = version2 & (insn.src == 0);
-    (insn.opc == CALL_IMM) & ((insn.imm != 0xffff_ffff) & !near)
+    calls_key(version2, insn) & (insn.imm != 0xffff_ffff)
 }
 
 // Inlined, as what it answers would go through memory otherwise.

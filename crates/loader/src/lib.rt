@@ -30,7 +30,7 @@ mod sections;
 mod validate;
 
 pub use answer::Accepted;
-pub use calls::is_local_call;
+pub use calls::{calls_key, is_local_call};
 pub use error::ElfError;
 pub use filling::clear_words;
 pub use get_bytes::{
