@@ -20,7 +20,8 @@ use Rattle.std.proofs.lemmas.List.Recursion.{is_position_or_len}
 use Rattle.ebpf.specs.LittleEndian.{le_byte}
 use Rattle.program.specs.Search.{index_of}
 use Rattle.program.proofs.Cases.{by_eq, by_test, zero_one}
-use Rattle.call_depth.specs.Called.{calls_key, callee_by, callee_in}
+use Rattle.loader.specs.Calls.{calls_key}
+use Rattle.call_depth.specs.Called.{callee_by, callee_in}
 
 -- another opcode
 pub no_call : (text keys : List ℕ) (version2 : Bool) (s : ℕ) → (get_or text (8 * s) 0 ≡ 0x85 → ⊥) → None ≡ callee_by keys version2 (insn_at text s)

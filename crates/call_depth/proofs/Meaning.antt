@@ -29,7 +29,8 @@ use Rattle.loader.specs.declared.error.ElfError.TheVariants.{BufferShort}
 use Rattle.loader.specs.declared.validate.Config.{Config}
 use Rattle.loader.specs.Demand.{Finds}
 use Rattle.call_depth.specs.declared.error.CallDepthError.TheVariants.{RecursiveCall, TooDeep, Refused}
-use Rattle.call_depth.specs.Called.{calls_key, row_or, callee_by, callee_in}
+use Rattle.loader.specs.Calls.{calls_key}
+use Rattle.call_depth.specs.Called.{row_or, callee_by, callee_in}
 use Rattle.call_depth.specs.Asked.{CallDepth, limit_of, limited, depth_in, depth_by, depth_asked}
 use Rattle.call_depth.specs.Loads.{MeansOf}
 use Rattle.call_depth.specs.Meaning.{text_of_image, profile_after, SlotCalls, FunctionCalls, Means, MeansUnlessRefused, MeansAsked}

@@ -1,17 +1,14 @@
 -- Which function a slot of the image calls: by the text's bytes in the image, and the columns of keys and indices of the used rows.
-use Rattle.std.specs.Prelude.{ℕ, ◌/◌, ◌<◌, ◌≡◌, Bool, ◌&&◌, not, List, length, eqb, Option, Some, None}
+use Rattle.std.specs.Prelude.{ℕ, ◌/◌, ◌<◌, ◌≡◌, Bool, List, length, Option, Some, None}
 use denote.Triple.Both.{Both}
 use Rattle.ebpf.specs.Choice.{◌if◌else◌}
 use Rattle.ebpf.specs.Instructions.{insn_at}
 use Rattle.ebpf.specs.declared.Insn.{Insn}
 use Rattle.program.specs.Table.{row_ascending_in}
+use Rattle.loader.specs.Calls.{calls_key}
 use Rattle.call_graph.specs.Profile.{Profile, next_above, nth_of}
 use Rattle.call_graph.specs.Words.{Scan}
 use Rattle.call_depth.specs.declared.profile.Profile.{Profile as LentProfile}
-
--- a call by a key: opcode 0x85, and in version 2 source not 0
-unfoldable pub calls_key : Bool → Insn → Bool
-calls_key version2 insn = eqb insn.opc 0x85 && not (version2 && eqb insn.src 0)
 
 -- the number of a row, or of all rows where none was found
 abbrev pub row_or : ℕ → Option ℕ → ℕ

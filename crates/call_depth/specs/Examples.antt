@@ -12,7 +12,8 @@ use Rattle.loader.specs.declared.error.ElfError.TheVariants.{WrongAbi, BufferSho
 use Rattle.loader.specs.Bytes.{put}
 use Rattle.loader.specs.Deeds.{written}
 use Rattle.call_depth.specs.declared.error.CallDepthError.TheVariants.{RecursiveCall, TooDeep, Refused}
-use Rattle.call_depth.specs.Called.{calls_key, callee_in}
+use Rattle.loader.specs.Calls.{calls_key}
+use Rattle.call_depth.specs.Called.{callee_in}
 use Rattle.call_depth.specs.Asked.{CallDepth, limit_of, depth_in, fits_in, depth_by, depth_asked}
 
 -- slots: a call by a key, with source 1 or 0, and an exit

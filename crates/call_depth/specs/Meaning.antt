@@ -9,7 +9,8 @@ use Rattle.loader.specs.declared.error.ElfError.{ElfError}
 use Rattle.loader.specs.declared.answer.Accepted.{Accepted}
 use Rattle.loader.specs.Demand.{Finds}
 use Rattle.call_depth.specs.declared.error.CallDepthError.TheVariants.{RecursiveCall, TooDeep, Refused}
-use Rattle.call_depth.specs.Called.{calls_key, slots_in, profile_in}
+use Rattle.loader.specs.Calls.{calls_key}
+use Rattle.call_depth.specs.Called.{slots_in, profile_in}
 use Rattle.call_depth.specs.Asked.{CallDepth, limit_of}
 
 -- the text's bytes in an image, and the indices of the used rows of a table

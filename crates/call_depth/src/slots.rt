@@ -2,10 +2,11 @@
 ghost use Rattle.std.specs.Prelude.{◌≡◌, ◌≤◌, ◌<◌, length};
 ghost use Rattle.ebpf.specs.Instructions.{insn_at};
 ghost use Rattle.call_graph.specs.Marks.{Slots, always};
-ghost use Rattle.call_depth.specs.Called.{calls_key, callee_by, callee_in, slots_in, Scanned};
+ghost use Rattle.call_depth.specs.Called.{callee_by, callee_in, slots_in, Scanned};
 
 use crate::profile::Profile;
 use ebpf::{CALL_IMM, Insn, get_insn};
+use loader::calls_key;
 use program::row_ascending;
 
 // In the word of a row whose depth is not known yet.
@@ -14,14 +15,6 @@ pub(crate) const FLAG: u32 = 0x8000_0000;
 pub(crate) const MARK: u32 = 0x4000_0000;
 
 pub(crate) const BOTH: u32 = 0xc000_0000;
-
-#[tactic(auto, unfolding(crate::specs::Called::calls_key))]
-fn calls_key(version2: bool, insn: Insn) -> bool
-    ensures { result ≡ calls_key version2 insn }
-{
-    let near = version2 & (insn.src == 0);
-    (insn.opc == CALL_IMM) & !near
-}
 
 // Marks a row that is neither settled nor marked: 1 where it is newly marked, else 0.
 #[tactic(auto, using(call_graph::proofs::Marking::row_kept))]

@@ -5,7 +5,7 @@ use Prim.Native.Nat.{ℕ, zero, suc, ◌+◌, ◌-◌, ◌*◌, ◌/◌, ◌≤�
 use native.Mathlib.Omega.{arith}
 use mathlib.Core.Bool.{Bool, true, false}
 use lib.ListN.{length, drop, get_or, length-drop}
-use lib.Seq.{length-take-le, get_or-take, get_or-drop}
+use lib.Seq.{length-take-le}
 use lib.Dec.{leb, eqb}
 use borrow.Author.Tests.{leb-false, lt-leb, eqb-false, ne_eqb}
 use Rattle.program.specs.HashedLegacy.{LegacyResult}
@@ -54,6 +54,10 @@ whole_slot text i insn e = leb-false _ _ (not_first _ _ _ _ (λ p. zero_one (cc)
 whole : (file : List ℕ) (j : Job) → InFile file j → length (text_of file j) ≡ j.text.length
 whole file j inside = length-take-le j.text.length (drop j.text.start file) (simp length-drop (omega (arith, inside.text)))
 
+-- the slots up to number n lie in the text
+pub slots_in_text : (file : List ℕ) (j : Job) → InFile file j → (n : ℕ) → n ≤ slot_count j → 8 * n ≤ length (text_of file j)
+slots_in_text file j inside n l = omega (arith, whole file j inside, l)
+
 -- by its slot, which is there
 none_by : (text : List ℕ) (version2 : Bool) (i : ℕ) → i < length text / 8 → (le 1 text (8 * i) ≡ 0x85 → ⊥) → call_at text version2 i ≡ Ok None
 unfolding call_at insn_at slot_at call_of is_local_call ◌if◌else◌
@@ -62,20 +66,19 @@ none_by text version2 i h e =
     let other : eqb (le 1 text (8 * i)) 0x85 ≡ false = ne_eqb _ _ e in
     rw there (rw other refl)
 
-no_call : (file builtins : List ℕ) (j : Job) → InFile file j → (i : ℕ) → i < slot_count j → (get_or file (j.text.start + 8 * i) 0 ≡ 0x85 → ⊥) → call_deed file builtins j i ≡ Ok Skip
+no_call : (file builtins : List ℕ) (j : Job) → InFile file j → (i : ℕ) → i < slot_count j → (get_or (text_of file j) (8 * i) 0 ≡ 0x85 → ⊥) → call_deed file builtins j i ≡ Ok Skip
 unfolding call_deed
 no_call file builtins j inside i h e =
     let text = text_of file j in
-    let byte : le 1 text (8 * i) ≡ get_or file (j.text.start + 8 * i) 0 = le_byte text (8 * i) ∙ get_or-take j.text.length (drop j.text.start file) (8 * i) 0 (omega (arith, h)) ∙ get_or-drop j.text.start file (8 * i) 0 in
-    ap (call_by builtins j i) (none_by text j.version2 i (rw (whole file j inside) h) (λ q. e (sym byte ∙ q)))
+    ap (call_by builtins j i) (none_by text j.version2 i (rw (whole file j inside) h) (λ q. e (sym (le_byte text (8 * i)) ∙ q)))
 
 -- the next call lies among the slots that are left, or behind them
-pub next_bounds : (file : List ℕ) (start n i : ℕ) → (i ≤ next_call file start n i) × (next_call file start n i ≤ i + n)
+pub next_bounds : (text : List ℕ) (n i : ℕ) → (i ≤ next_call text n i) × (next_call text n i ≤ i + n)
 unfolding next_call ◌if◌else◌
-next_bounds file start zero i = (omega arith, omega arith)
-next_bounds file start (suc n) i = go (eqb (get_or file (start + 8 * i) 0) 0x85) (next_bounds file start n (i + 1))
+next_bounds text zero i = (omega arith, omega arith)
+next_bounds text (suc n) i = go (eqb (get_or text (8 * i) 0) 0x85) (next_bounds text n (i + 1))
   where
-    go : (b : Bool) → (i + 1 ≤ next_call file start n (i + 1)) × (next_call file start n (i + 1) ≤ i + 1 + n) → (i ≤ (i if b else next_call file start n (i + 1))) × ((i if b else next_call file start n (i + 1)) ≤ i + suc n)
+    go : (b : Bool) → (i + 1 ≤ next_call text n (i + 1)) × (next_call text n (i + 1) ≤ i + 1 + n) → (i ≤ (i if b else next_call text n (i + 1))) × ((i if b else next_call text n (i + 1)) ≤ i + suc n)
     go true h = (omega arith, omega arith)
     go false h = (omega (arith, h.0), omega (arith, h.1))
 
@@ -87,14 +90,14 @@ module _ (file builtins : List ℕ) (j : Job) (inside : InFile file j) (im : Lis
 
   -- those from the next call on, among the first n of n + m
   skipped : (n m i : ℕ) → i + n + m ≤ slot_count j
-      → each (slot_trace file builtins j) (n + m) i im ≡ each (slot_trace file builtins j) (i + n + m - next_call file j.text.start n i) (next_call file j.text.start n i) im
+      → each (slot_trace file builtins j) (n + m) i im ≡ each (slot_trace file builtins j) (i + n + m - next_call (text_of file j) n i) (next_call (text_of file j) n i) im
   unfolding next_call ◌if◌else◌
   skipped zero m i h = let e : i + 0 + m - i ≡ 0 + m = omega arith in rw e refl
-  skipped (suc n) m i h = go (eqb (get_or file (j.text.start + 8 * i) 0) 0x85) refl (λ k. skipped n m (i + 1) k)
+  skipped (suc n) m i h = go (eqb (get_or (text_of file j) (8 * i) 0) 0x85) refl (λ k. skipped n m (i + 1) k)
     where
-      go : (b : Bool) → eqb (get_or file (j.text.start + 8 * i) 0) 0x85 ≡ b
-          → (i + 1 + n + m ≤ slot_count j → each (slot_trace file builtins j) (n + m) (i + 1) im ≡ each (slot_trace file builtins j) (i + 1 + n + m - next_call file j.text.start n (i + 1)) (next_call file j.text.start n (i + 1)) im)
-          → each (slot_trace file builtins j) (suc n + m) i im ≡ each (slot_trace file builtins j) (i + suc n + m - (i if b else next_call file j.text.start n (i + 1))) (i if b else next_call file j.text.start n (i + 1)) im
+      go : (b : Bool) → eqb (get_or (text_of file j) (8 * i) 0) 0x85 ≡ b
+          → (i + 1 + n + m ≤ slot_count j → each (slot_trace file builtins j) (n + m) (i + 1) im ≡ each (slot_trace file builtins j) (i + 1 + n + m - next_call (text_of file j) n (i + 1)) (next_call (text_of file j) n (i + 1)) im)
+          → each (slot_trace file builtins j) (suc n + m) i im ≡ each (slot_trace file builtins j) (i + suc n + m - (i if b else next_call (text_of file j) n (i + 1))) (i if b else next_call (text_of file j) n (i + 1)) im
       go true e rec = let k : i + suc n + m - i ≡ suc n + m = omega arith in rw k refl
       go false e rec =
           let k : i + suc n + m ≡ i + 1 + n + m = omega arith in
@@ -107,14 +110,14 @@ pub calls_ahead : (file builtins : List ℕ) (j : Job) → InFile file j
     → (im₀ im : List ℕ) (t₀ t : Slices) (used₀ moves₀ used moves i k : ℕ)
     → BeginsIn (to - o) t₀ used₀ moves₀
     → GoingIn (slot_trace file builtins j) (slot_count j) o to im₀ im t₀ t used₀ moves₀ used moves i
-    → k ≡ next_call file j.text.start (to - i) i
+    → k ≡ next_call (text_of file j) (to - i) i
     → GoingIn (slot_trace file builtins j) (slot_count j) o to im₀ im t₀ t used₀ moves₀ used moves k
 calls_ahead file builtins j inside o to l im₀ im t₀ t used₀ moves₀ used moves i k b g e =
     let h : i ≤ to = g.passed in
     let n = slot_count j in
     let at : to - i + (n - to) ≡ n - i = omega (arith, h) in
     let up : i + (to - i) + (n - to) ≡ n = omega (arith, h) in
-    let bounds = next_bounds file j.text.start (to - i) i in
+    let bounds = next_bounds (text_of file j) (to - i) i in
     let on = skipped file builtins j inside im (to - i) (n - to) i (omega (arith, up)) in
     in_ahead (slot_trace file builtins j) n o to l im₀ im t₀ t used₀ moves₀ used moves i b g k (omega (arith, bounds.0, e)) (omega (arith, bounds.1, e, h)) (rw (at, up, ← e) at on)
 

@@ -32,6 +32,10 @@ target count i imm =
     Err (RelativeJumpOutOfBounds i) if ltb (i + 1 + imm) 0x1_0000_0000 else
     inside count i (i + 1 + imm - 0x1_0000_0000)
 
+-- a call whose immediate is a key in the image: opcode 0x85, in version 2 source not 0
+unfoldable pub calls_key : Bool → Insn → Bool
+calls_key version2 insn = eqb insn.opc 0x85 && not (version2 && eqb insn.src 0)
+
 -- a local call: opcode 0x85, immediate not −1, in version 2 source not 0
 unfoldable pub is_local_call : Bool → Insn → Bool
 is_local_call version2 insn = eqb insn.opc 0x85 && (not (eqb insn.imm 0xffff_ffff) && not (version2 && eqb insn.src 0))
@@ -89,36 +93,36 @@ calls_trace file builtins j im = each (slot_trace file builtins j) (slot_count j
 
 -- ---- slots passed over without a look at more than their opcode
 
--- the first of n slots from number i on, in a text that starts at `start`, whose opcode is a call's; the one behind them where none is
-unfoldable pub next_call : List ℕ → ℕ → ℕ → ℕ → ℕ
-next_call file start zero i = i
-next_call file start (suc n) i = i if eqb (get_or file (start + 8 * i) 0) 0x85 else next_call file start n (i + 1)
+-- the first of n slots of a text, from number i on, whose opcode is a call's; the one behind them where none is
+unfoldable pub next_call : List ℕ → ℕ → ℕ → ℕ
+next_call text zero i = i
+next_call text (suc n) i = i if eqb (get_or text (8 * i) 0) 0x85 else next_call text n (i + 1)
 
 -- in the form that the loop's proof needs
-module _ (file : List ℕ) (start i : ℕ) where
-  pub call_here : (n : ℕ) → 0 < n → get_or file (start + 8 * i) 0 ≡ 0x85 → next_call file start n i ≡ i
+module _ (text : List ℕ) (i : ℕ) where
+  pub call_here : (n : ℕ) → 0 < n → get_or text (8 * i) 0 ≡ 0x85 → next_call text n i ≡ i
   unfolding next_call ◌if◌else◌
   call_here zero h e = absurd (omega arith)
-  call_here (suc n) h e = let b : eqb (get_or file (start + 8 * i) 0) 0x85 ≡ true = eq-eqb _ _ e in rw b
+  call_here (suc n) h e = let b : eqb (get_or text (8 * i) 0) 0x85 ≡ true = eq-eqb _ _ e in rw b
 
-  pub call_later : (n m : ℕ) → n ≡ suc m → (get_or file (start + 8 * i) 0 ≡ 0x85 → ⊥) → next_call file start n i ≡ next_call file start m (i + 1)
+  pub call_later : (n m : ℕ) → n ≡ suc m → (get_or text (8 * i) 0 ≡ 0x85 → ⊥) → next_call text n i ≡ next_call text m (i + 1)
   unfolding next_call ◌if◌else◌
-  call_later n m h e = let b : eqb (get_or file (start + 8 * i) 0) 0x85 ≡ false = ne_eqb _ _ e in rw (h, b)
+  call_later n m h e = let b : eqb (get_or text (8 * i) 0) 0x85 ≡ false = ne_eqb _ _ e in rw (h, b)
 
-  pub call_none : (n : ℕ) → n ≤ 0 → next_call file start n i ≡ i
+  pub call_none : (n : ℕ) → n ≤ 0 → next_call text n i ≡ i
   unfolding next_call
   call_none zero h = refl
   call_none (suc n) h = absurd (omega arith)
 
 -- the search goes on from what it found among the first n
-pub next_again : (file : List ℕ) (start n m i : ℕ) → next_call file start (n + m) i ≡ next_call file start (i + n + m - next_call file start n i) (next_call file start n i)
+pub next_again : (text : List ℕ) (n m i : ℕ) → next_call text (n + m) i ≡ next_call text (i + n + m - next_call text n i) (next_call text n i)
 unfolding next_call ◌if◌else◌
-next_again file start zero m i = let e : i + 0 + m - i ≡ 0 + m = omega arith in rw e refl
-next_again file start (suc n) m i = go (eqb (get_or file (start + 8 * i) 0) 0x85) refl (next_again file start n m (i + 1))
+next_again text zero m i = let e : i + 0 + m - i ≡ 0 + m = omega arith in rw e refl
+next_again text (suc n) m i = go (eqb (get_or text (8 * i) 0) 0x85) refl (next_again text n m (i + 1))
   where
-    go : (b : Bool) → eqb (get_or file (start + 8 * i) 0) 0x85 ≡ b
-        → next_call file start (n + m) (i + 1) ≡ next_call file start (i + 1 + n + m - next_call file start n (i + 1)) (next_call file start n (i + 1))
-        → next_call file start (suc n + m) i ≡ next_call file start (i + suc n + m - (i if b else next_call file start n (i + 1))) (i if b else next_call file start n (i + 1))
+    go : (b : Bool) → eqb (get_or text (8 * i) 0) 0x85 ≡ b
+        → next_call text (n + m) (i + 1) ≡ next_call text (i + 1 + n + m - next_call text n (i + 1)) (next_call text n (i + 1))
+        → next_call text (suc n + m) i ≡ next_call text (i + suc n + m - (i if b else next_call text n (i + 1))) (i if b else next_call text n (i + 1))
     go true e rec = let k : i + suc n + m - i ≡ suc n + m = omega arith in rw k refl
     go false e rec =
         let k : i + suc n + m ≡ i + 1 + n + m = omega arith in
@@ -126,17 +130,17 @@ next_again file start (suc n) m i = go (eqb (get_or file (start + 8 * i) 0) 0x85
         rw (q, e, k) rec
 
 -- it stops among the first n, or goes on behind them
-pub next_first : (file : List ℕ) (start n m i : ℕ) → next_call file start n i < i + n → next_call file start (n + m) i ≡ next_call file start n i
+pub next_first : (text : List ℕ) (n m i : ℕ) → next_call text n i < i + n → next_call text (n + m) i ≡ next_call text n i
 unfolding next_call ◌if◌else◌
-next_first file start zero m i h = absurd (omega arith)
-next_first file start (suc n) m i h = go (eqb (get_or file (start + 8 * i) 0) 0x85) refl h (next_first file start n m (i + 1))
+next_first text zero m i h = absurd (omega arith)
+next_first text (suc n) m i h = go (eqb (get_or text (8 * i) 0) 0x85) refl h (next_first text n m (i + 1))
   where
-    go : (b : Bool) → eqb (get_or file (start + 8 * i) 0) 0x85 ≡ b
-        → (i if b else next_call file start n (i + 1)) < i + suc n
-        → (next_call file start n (i + 1) < i + 1 + n → next_call file start (n + m) (i + 1) ≡ next_call file start n (i + 1))
-        → next_call file start (suc n + m) i ≡ (i if b else next_call file start n (i + 1))
+    go : (b : Bool) → eqb (get_or text (8 * i) 0) 0x85 ≡ b
+        → (i if b else next_call text n (i + 1)) < i + suc n
+        → (next_call text n (i + 1) < i + 1 + n → next_call text (n + m) (i + 1) ≡ next_call text n (i + 1))
+        → next_call text (suc n + m) i ≡ (i if b else next_call text n (i + 1))
     go true e h rec = let q : suc n + m ≡ suc (n + m) = omega arith in rw (q, e) refl
     go false e h rec = let q : suc n + m ≡ suc (n + m) = omega arith in rw (q, e) (rec (omega arith))
 
-pub next_behind : (file : List ℕ) (start n m i : ℕ) → next_call file start n i ≡ i + n → next_call file start (n + m) i ≡ next_call file start m (i + n)
-next_behind file start n m i e = next_again file start n m i ∙ (let k : i + n + m - (i + n) ≡ m = omega arith in rw (e, k) refl)
+pub next_behind : (text : List ℕ) (n m i : ℕ) → next_call text n i ≡ i + n → next_call text (n + m) i ≡ next_call text m (i + n)
+next_behind text n m i e = next_again text n m i ∙ (let k : i + n + m - (i + n) ≡ m = omega arith in rw (e, k) refl)

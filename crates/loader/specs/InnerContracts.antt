@@ -1,8 +1,10 @@
 -- What the inner functions of this crate ask and promise; the public ones ask nothing.
+use Rattle.ebpf.specs.Murmur3.{murmur3}
+use Rattle.program.specs.HashedLegacy.{entrypoint}
 use Rattle.program.specs.Rows.{RegisterResult}
 use Rattle.program.specs.declared.RegisterError.TheVariants.{Collision, Full}
 use Rattle.program.specs.declared.Registered.TheVariants.{Inserted, Repeat}
-use Rattle.std.specs.Prelude.{ℕ, ◌+◌, ◌*◌, ◌≤◌, ◌^◌, ◌≡◌, List, Bool, length, Ok, Err, Result}
+use Rattle.std.specs.Prelude.{ℕ, ◌+◌, ◌*◌, ◌≤◌, ◌^◌, ◌≡◌, List, length, Ok, Err, Result}
 use Rattle.program.specs.declared.Row.{Row}
 use Rattle.program.specs.Table.{Slices, SameLens, SameColumns, columns_of, capacity, rows_of, Ready}
 use Rattle.loader.specs.declared.error.ElfError.TheVariants.{SymbolHashCollision, TableFull}
@@ -10,8 +12,7 @@ use Rattle.loader.specs.declared.deeds.Outputs.{Outputs}
 use Rattle.loader.specs.declared.inputs.Inputs.{Inputs}
 use Rattle.loader.specs.declared.error.ElfError.{ElfError}
 use Rattle.loader.specs.Deeds.{Held, holding}
-use Rattle.loader.specs.Entry.{forget_trace}
-use Rattle.loader.specs.Trace.{Trace, done, register, Settled, accepted, refused, settle}
+use Rattle.loader.specs.Trace.{Trace, done, register, forget, Settled, accepted, refused, settle}
 
 -- a registration's answer, as the load's
 abbrev pub entered_as : RegisterResult → ℕ → ℕ → Result (Unit {0}) ElfError
@@ -95,9 +96,9 @@ SettlesTo trace n o o' a = SettlesAs trace o'.image.now n o o' a
 abbrev pub Enters : Row → Outputs → Outputs → Result (Unit {0}) ElfError → Type 0
 Enters row o o' a = (im : List ℕ) → SettlesAs (register row (done im)) im 1 o o' a
 
--- the key of the name entrypoint forgotten in version 1, whatever the image
-abbrev pub Forgets : Bool → Outputs → Outputs → Type 0
-Forgets version2 o o' = (im : List ℕ) → SettlesAs (forget_trace version2 im) im 1 o o' (Ok tt)
+-- the key of the name entrypoint forgotten, whatever the image
+abbrev pub Forgets : Outputs → Outputs → Type 0
+Forgets o o' = (im : List ℕ) → SettlesAs (forget (murmur3 entrypoint) (done im)) im 1 o o' (Ok tt)
 
 -- what a part of a load asks: an image as long as the file, and room for n registrations more
 abbrev pub PartAsks : ℕ → Inputs → Outputs → Type 0

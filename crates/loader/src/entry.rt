@@ -23,19 +23,15 @@ fn entry_deed(inputs: &Inputs<'_>) -> Result<Deed, ElfError>
     label_row(row_for(inputs, FunctionName::Entrypoint, index))
 }
 
-// Version 1 removes the row under the key of the name entrypoint.
-fn forget_entrypoint(out: &mut Outputs<'_, '_>, version2: bool)
+// The row under the key of the name entrypoint goes.
+fn forget_entrypoint(out: &mut Outputs<'_, '_>)
     requires { Begins 1 out.old }
     ensures keeps { Keeps out.old out.new }
     ensures image { out.new.image.now ≡ out.old.image.now }
-    ensures forgets { Forgets version2 out.old out.new }
+    ensures forgets { Forgets out.old out.new }
 {
-    if version2 {
-        return;
-    }
-    if let Some(n) = out.registry.unregister_function(ENTRYPOINT_KEY) {
-        out.moves += n as u64;
-    }
+    let gone = out.registry.unregister_function(ENTRYPOINT_KEY);
+    out.moves += gone.unwrap_or(0) as u64;
 }
 
 // The entry is registered, in version 1 behind the removal.
@@ -45,6 +41,8 @@ pub(crate) fn register_entry(out: &mut Outputs<'_, '_>, inputs: &Inputs<'_>) -> 
     ensures settles { SettlesTo (entry_trace inputs.now.builtins.now inputs.now.job out.old.image.now) 2 out.old out.new result }
 {
     let deed = entry_deed(inputs)?;
-    forget_entrypoint(out, inputs.job.version2);
+    if !inputs.job.version2 {
+        forget_entrypoint(out);
+    }
     out.perform(deed)
 }

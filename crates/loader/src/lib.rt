@@ -29,8 +29,8 @@ mod relocations;
 mod sections;
 mod validate;
 
-pub use answer::{Accepted, LoadAnd};
-pub use calls::is_local_call;
+pub use answer::Accepted;
+pub use calls::{calls_key, is_local_call};
 pub use error::ElfError;
 pub use filling::clear_words;
 pub use get_bytes::{ro_bytes, ro_place, text_bytes, text_place};

@@ -7,4 +7,4 @@ use Rattle.loader.proofs.calls.call_among.Given as goal
 
 abbrev pub invariant-loop-at : goal.invariant-loop-at
 invariant-loop-at l =
-    (l.from ≤ l.at) × (l.at ≤ l.to) × (next_call l.file l.start (l.to - l.at) l.at ≡ next_call l.file l.start (l.to - l.from) l.from)
+    (l.from ≤ l.at) × (l.at ≤ l.to) × (next_call l.text (l.to - l.at) l.at ≡ next_call l.text (l.to - l.from) l.from)

@@ -2,7 +2,6 @@
 -- Assumes nothing.
 use mathlib.Core.Path.{◌≡◌, sym, subst, ◌∙◌, ap}
 use mathlib.Core.List.{List}
-use native.Mathlib.Nat.{add-sub_cancel_left}
 use Prim.Native.Nat.{ℕ, ◌^◌, ◌<◌}
 use borrow.Author.Tests.{eqb-true}
 use Rattle.program.specs.Table.{columns_of, rows_of}
@@ -20,7 +19,7 @@ use Rattle.loader.proofs.calls.call_step.Goals as goal
 
 -- what the slot calls, as the definition says it
 called : (r : After-call_at) (x : Result (Option ℕ) ElfError) → r.call_at.result ≡ x → call_at (text_of r.args.inputs.now.file.now r.args.inputs.now.job) r.args.inputs.now.job.version2 r.args.i ≡ x
-called r x e = sym (rw add-sub_cancel_left at r.call_at.ensures) ∙ e
+called r x e = sym (rw r.text.ensures at r.call_at.ensures) ∙ e
 
 small : (r : After-call_at) (to : ℕ) → r.call_at.result ≡ Ok (Some to) → to < 2 ^ 24
 small r to e = to_small r.args.inputs.now.file.now r.args.inputs.now.job r.args.i to r.args.inputs.now.in_file.short (r.requires.1, called r (Ok (Some to)) e)

@@ -7,4 +7,4 @@ use Rattle.loader.proofs.calls.next_call.Given as goal
 
 abbrev pub invariant-loop-eight : goal.invariant-loop-eight
 invariant-loop-eight l =
-    (l.eight ≤ l.eights) × (next_call l.file l.start (l.count - (l.from + 8 * l.eight)) (l.from + 8 * l.eight) ≡ next_call l.file l.start (l.count - l.from) l.from)
+    (l.eight ≤ l.eights) × (next_call l.text (l.to - (l.from + 8 * l.eight)) (l.from + 8 * l.eight) ≡ next_call l.text (l.to - l.from) l.from)

@@ -15,15 +15,15 @@ use Rattle.loader.specs.Calls.{slot_count, slot_trace}
 use Rattle.loader.specs.CallLoop.{ahead, StillHeld}
 use Rattle.loader.specs.InnerContracts.{SettlesAs, held_of}
 use Rattle.loader.proofs.Ahead.{ahead_length, slot_ahead}
-use Rattle.loader.proofs.Slots.{next_bounds, calls_ahead, text_in}
+use Rattle.loader.proofs.Slots.{next_bounds, calls_ahead, slots_in_text, text_in}
 use Rattle.loader.proofs.Going.{keeps_all, keeps_on, in_start, in_begins, in_stop, in_on, in_done}
 use Rattle.loader.proofs.calls.register_slots.Goals.{After-call_step}
 use Rattle.loader.proofs.calls.register_slots.Goals as goal
 
 pub next_call-i-requires : goal.next_call-i-requires
 next_call-i-requires c =
-    let j = c.args.inputs.now.job in
-    (c.requires.1, text_in j.text.start j.text.length c.args.to _ c.args.inputs.now.in_file.text c.requires.2, c.args.inputs.now.in_file.short)
+    let i = c.args.inputs.now in
+    (c.requires.1, rw c.text-text.ensures (slots_in_text i.file.now i.job i.in_file c.args.to c.requires.2))
 
 pub loop-i-init : goal.loop-i-init
 loop-i-init c =
@@ -34,7 +34,7 @@ loop-i-init c =
       keeps_all o,
       calls_ahead i.file.now i.builtins.now i.job c.args.inputs.now.in_file c.args.from c.args.to c.requires.2 im im (columns_of o.registry.now) (columns_of o.registry.now) o.registry.now.used o.moves o.registry.now.used o.moves c.args.from c.next_call-i.result c.requires.0.1
           (in_start step (slot_count i.job) c.args.from c.args.to c.requires.2 im (columns_of o.registry.now) o.registry.now.used o.moves c.requires.1 c.requires.0.1)
-          c.next_call-i.ensures,
+          (rw c.text-text.ensures at c.next_call-i.ensures),
       c.requires.3,
     )
 
@@ -78,12 +78,12 @@ returns-in_err-call_step-clause-leads c =
 
 pub next_call-i-requires-in-loop-i : goal.next_call-i-requires-in-loop-i
 next_call-i-requires-in-loop-i c =
-    let j = c.args.inputs.now.job in
-    (omega (arith, c.loop-i-test.true), text_in j.text.start j.text.length c.args.to _ c.args.inputs.now.in_file.text c.requires.2, c.args.inputs.now.in_file.short)
+    let i = c.args.inputs.now in
+    (omega (arith, c.loop-i-test.true), rw c.text-text.ensures (slots_in_text i.file.now i.job i.in_file c.args.to c.requires.2))
 
 pub loop-i-smaller : goal.loop-i-smaller
 loop-i-smaller c =
-    omega (arith, c.loop-i-test.true, (next_bounds c.args.inputs.now.file.now c.args.inputs.now.job.text.start (c.args.to - (c.loop-i.i + 1)) (c.loop-i.i + 1)).0, c.next_call-i-in-loop-i.ensures)
+    omega (arith, c.loop-i-test.true, (next_bounds c.text-text.result.now (c.args.to - (c.loop-i.i + 1)) (c.loop-i.i + 1)).0, c.next_call-i-in-loop-i.ensures)
 
 pub loop-i-preserved : goal.loop-i-preserved
 loop-i-preserved c =
@@ -97,7 +97,7 @@ loop-i-preserved c =
     let on = in_on (slot_trace i.file.now i.builtins.now i.job) (slot_count i.job) c.args.from c.args.to c.requires.2 (ahead q o₀.image.now i.file.now) (ahead q o.image.now i.file.now) (columns_of o₀.registry.now) (columns_of o.registry.now) o₀.registry.now.used o₀.moves o.registry.now.used o.moves c.loop-i.i c.requires.0.1 c.loop-i.invariant.1 c.loop-i-test.true (ahead q o'.image.now i.file.now) (columns_of o'.registry.now) o'.registry.now.used o'.moves c.call_step.ensures.keeps.table_as same
     (stepped (goal.at.loop-i-preserved c).After-call_step (Ok tt) c.in_ok-call_step.was) in (
       keeps_on o₀ o o' c.loop-i.invariant.0 c.call_step.ensures.keeps,
-      calls_ahead i.file.now i.builtins.now i.job c.args.inputs.now.in_file c.args.from c.args.to c.requires.2 (ahead q o₀.image.now i.file.now) (ahead q o'.image.now i.file.now) (columns_of o₀.registry.now) (columns_of o'.registry.now) o₀.registry.now.used o₀.moves _ _ (c.loop-i.i + 1) c.next_call-i-in-loop-i.result c.requires.0.1 on c.next_call-i-in-loop-i.ensures,
+      calls_ahead i.file.now i.builtins.now i.job c.args.inputs.now.in_file c.args.from c.args.to c.requires.2 (ahead q o₀.image.now i.file.now) (ahead q o'.image.now i.file.now) (columns_of o₀.registry.now) (columns_of o'.registry.now) o₀.registry.now.used o₀.moves _ _ (c.loop-i.i + 1) c.next_call-i-in-loop-i.result c.requires.0.1 on (rw c.text-text.ensures at c.next_call-i-in-loop-i.ensures),
       subst (StillHeld i c.call_step.new.seen o') c.in_ok-call_step.was c.call_step.ensures.held,
     )
 
