@@ -77,8 +77,8 @@ impl<'a> Inputs<'a> {
     fn text(&self) -> &'a [u8]
         ensures { result.now ≡ text_of self.now.file.now self.now.job }
     {
-        let start = self.job.start;
-        &self.file[start..start + self.job.length]
+        let start = self.job.text.start;
+        &self.file[start..start + self.job.text.length]
     }
 }
 
@@ -191,7 +191,7 @@ fn call_step(
     let key = inputs
         .hashed_legacy()
         .legacy_key(FunctionName::OfIndex, index);
-    store_u32(out.image, inputs.job.start + 8 * i + 4, key);
+    store_u32(out.image, inputs.job.text.start + 8 * i + 4, key);
     if is_seen(seen, index) {
         return Ok(());
     }

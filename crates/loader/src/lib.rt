@@ -29,7 +29,7 @@ mod relocations;
 mod sections;
 mod validate;
 
-pub use answer::Accepted;
+pub use answer::{Accepted, LoadAnd};
 pub use calls::{calls_key, is_local_call};
 pub use error::ElfError;
 pub use filling::clear_words;
