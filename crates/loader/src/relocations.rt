@@ -308,7 +308,6 @@ impl PlacedRelocation<'_> {
     }
 
     // Type 8 in the text: the addend, or the address whose halves are there.
-    #[inline(always)]
     #[tactic(auto, using(ebpf::specs::Choice::choices), unfolding(crate::specs::Relocations::plan_relative))]
     fn relative_in_text(&self) -> Result<Deed, ElfError>
         ensures { result ≡ plan_relative self.now.image.now self.now.inputs.now.job.version2 true self.now.r self.now.relocation.addend }
@@ -427,8 +426,7 @@ impl PlacedRelocation<'_> {
         self.named_call(y)
     }
 
-    // What it asks for, by its type. Inlined, so that what it goes by need not stand in memory.
-    #[inline(always)]
+    // What it asks for, by its type.
     #[tactic(auto, using(ebpf::specs::Choice::choices), unfolding(crate::specs::Relocations::plan_at))]
     fn plan(&self) -> Result<Deed, ElfError>
         ensures { let p = self.now in let i = p.inputs.now in result ≡ plan_at i.file.now p.image.now i.builtins.now i.job p.r p.relocation.r_info p.relocation.addend }
