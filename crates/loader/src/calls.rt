@@ -167,10 +167,8 @@ fn register_target(
     ensures alike { StillAlike (target_row inputs.now.job) out.new result }
 {
     let legacy = inputs.hashed_legacy();
-    match legacy.row_under(key, FunctionName::OfIndex, index) {
-        Ok(row) => out.enter_alike(row),
-        Err(taken) => Err(ElfError::SymbolHashCollision { key: taken.key }),
-    }
+    let row = legacy.row_under(key, FunctionName::OfIndex, index)?;
+    out.enter_alike(row)
 }
 
 // A slot of the job's text: the key of what it calls is written, and the target registered.

@@ -1,9 +1,9 @@
 // The row that a function is registered as.
-ghost use Rattle.std.specs.Prelude.{◌≡◌, ◌≤◌, ◌^◌, length};
+ghost use Rattle.std.specs.Prelude.{◌≡◌};
 ghost use Rattle.loader.specs.Functions.{hashed_legacy, row_for, symbol_function};
 
 use crate::inputs::Inputs;
-use elf_parser::Place;
+use crate::symbol_name::SymbolName;
 use program::{FunctionName, HashedLegacy, Row, SymbolHashCollision};
 
 impl<'a> Inputs<'a> {
@@ -35,13 +35,12 @@ pub(crate) fn row_for(
 
 // A name that is a part of the file.
 #[tactic(auto, using(elf_parser::specs::SectionNames::same_tested))]
-pub(crate) fn symbol_function(part: &[u8], place: Place) -> FunctionName
-    requires { (place.start ≤ 2 ^ 24) × (place.length ≤ 64) }
-    ensures { result ≡ symbol_function part.now place.start place.length }
+pub(crate) fn symbol_function(name: SymbolName<'_>) -> FunctionName
+    ensures { result ≡ symbol_function name.entry.part.now name.entry.place.start name.entry.place.length }
 {
     FunctionName::Symbol {
-        start: place.start as u32,
-        length: place.length as u32,
-        entrypoint: part == b"entrypoint".as_slice(),
+        start: name.place.start as u32,
+        length: name.place.length as u32,
+        entrypoint: name.part == b"entrypoint".as_slice(),
     }
 }

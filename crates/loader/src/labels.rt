@@ -1,5 +1,5 @@
 // What a symbol of .symtab asks for where labels are kept: a function to register.
-ghost use Rattle.std.specs.Prelude.{◌≡◌, ◌≤◌, ◌^◌};
+ghost use Rattle.std.specs.Prelude.{◌≡◌};
 ghost use Rattle.elf_parser.specs.Names.{symbol_name};
 ghost use Rattle.loader.specs.Labels.{label_row, label_as, named_label, label_of, label_deed, label_symbols};
 
@@ -8,8 +8,9 @@ use crate::deeds::Deed;
 use crate::error::ElfError;
 use crate::functions::{row_for, symbol_function};
 use crate::inputs::Inputs;
+use crate::symbol_name::SymbolName;
 use elf_parser::types::Elf64Sym;
-use elf_parser::{Entries, NO_ENTRIES, Place, bytes_at, entry};
+use elf_parser::{Entries, bytes_at, entry};
 use program::{Row, SymbolHashCollision};
 
 pub(crate) fn label_row(row: Result<Row, SymbolHashCollision>) -> Result<Deed, ElfError>
@@ -18,13 +19,11 @@ pub(crate) fn label_row(row: Result<Row, SymbolHashCollision>) -> Result<Deed, E
     Ok(Deed::RegisterOnly { row: row? })
 }
 
-// A function whose name is `part`, which stands at `place`.
-fn label_as(inputs: &Inputs<'_>, part: &[u8], index: u32, place: Place) -> Result<Deed, ElfError>
-    requires { (place.start ≤ 2 ^ 24) × (place.length ≤ 64) }
-    ensures { result ≡ label_as part.now inputs.now.builtins.now inputs.now.job index place.start place.length }
+// A function of that name.
+fn label_as(inputs: &Inputs<'_>, name: SymbolName<'_>, index: u32) -> Result<Deed, ElfError>
+    ensures { result ≡ label_as name.entry.part.now inputs.now.builtins.now inputs.now.job index name.entry.place.start name.entry.place.length }
 {
-    let name = symbol_function(part, place);
-    label_row(row_for(inputs, name, index))
+    label_row(row_for(inputs, symbol_function(name), index))
 }
 
 // A function at `index`.
@@ -34,7 +33,8 @@ fn named_label(inputs: &Inputs<'_>, index: u32, st_name: u32) -> Result<Deed, El
 {
     let unknown = |_| ElfError::UnknownSymbol { number: st_name };
     let place = inputs.elf().symbol_name(st_name).map_err(unknown)?;
-    label_as(inputs, bytes_at(inputs.file, place), index, place)
+    let part = bytes_at(inputs.file, place);
+    label_as(inputs, SymbolName { part, place }, index)
 }
 
 #[tactic(auto, using(ebpf::specs::Choice::choices), unfolding(crate::specs::Labels::label_of))]
@@ -75,7 +75,7 @@ pub(crate) fn label_symbols(inputs: &Inputs<'_>) -> Entries
     ensures { result ≡ label_symbols inputs.now.file.now inputs.now.job }
 {
     if !inputs.job.labels {
-        return NO_ENTRIES;
+        return Entries::default();
     }
-    inputs.elf().symbol_table().unwrap_or(NO_ENTRIES)
+    inputs.elf().symbol_table().unwrap_or_default()
 }

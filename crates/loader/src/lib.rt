@@ -27,6 +27,7 @@ mod read_only;
 mod relocating;
 mod relocations;
 mod sections;
+mod symbol_name;
 mod validate;
 
 pub use answer::{Accepted, LoadAnd};

@@ -167,10 +167,9 @@ pub(crate) fn gather_next(
     if !is_read_only(name) {
         return Ok(x);
     }
-    match elf.file_range(index) {
-        Ok(place) => take_section(rules, index as u64, h, place.length as u64, x),
-        Err(_) => Err(ElfError::ValueOutOfBounds),
-    }
+    let outside = |_| ElfError::ValueOutOfBounds;
+    let place = elf.file_range(index).map_err(outside)?;
+    take_section(rules, index as u64, h, place.length as u64, x)
 }
 
 // An address as an offset from the program's start.

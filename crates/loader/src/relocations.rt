@@ -10,6 +10,7 @@ use crate::deeds::Deed;
 use crate::error::ElfError;
 use crate::functions::{row_for, symbol_function};
 use crate::inputs::Inputs;
+use crate::symbol_name::SymbolName;
 use ebpf::little_endian::read;
 use ebpf::{MM_PROGRAM_START, hash_symbol_name};
 use elf_parser::types::{Elf64Rel, Elf64Rela, Elf64Sym};
@@ -25,7 +26,7 @@ pub const R_BPF_64_32: u32 = 10;
 
 // A relocation of either kind, with the addend that it brings, if it is of the kind that does: its bits as
 // an unsigned number.
-#[derive(Clone, Copy, PartialEq, Eq, Debug)]
+#[derive(Clone, Copy, PartialEq, Eq, Debug, Default)]
 pub struct Relocation {
     pub r_offset: u64,
     pub r_info: u64,
@@ -47,12 +48,6 @@ impl Relocation {
         (self.r_info & 0xffff_ffff) as u32
     }
 }
-
-const BLANK: Relocation = Relocation {
-    r_offset: 0,
-    r_info: 0,
-    addend: None,
-};
 
 impl From<Elf64Rel> for Relocation {
     ghost from_gives = { λ r x. x ≡ relocation_or (Ok r) };
@@ -88,10 +83,10 @@ pub fn relocation_at(elf: &Elf64<'_>, index: u32) -> Relocation
     if number < older {
         return elf
             .dynamic_relocation(index)
-            .map_or(BLANK, Relocation::from);
+            .map_or(Relocation::default(), Relocation::from);
     }
     elf.dynamic_rela((number - older) as u32)
-        .map_or(BLANK, Relocation::from)
+        .map_or(Relocation::default(), Relocation::from)
 }
 
 // A program header, as far as version 2 maps by it: the addresses from `p_vaddr` up to `end` stand
@@ -390,17 +385,16 @@ impl PlacedRelocation<'_> {
         })
     }
 
-    // A call of a symbol whose name is `part`, which stands at `place`.
+    // A call of a symbol of that name.
     #[tactic(auto, using(ebpf::specs::Choice::choices), unfolding(crate::specs::Relocations::call_by_name))]
-    fn call_by_name(&self, y: Elf64Sym, part: &[u8], place: Place) -> Result<Deed, ElfError>
-        requires { (place.start ≤ 2 ^ 24) × (place.length ≤ 64) }
-        ensures { let p = self.now in let i = p.inputs.now in result ≡ call_by_name part.now i.builtins.now i.job (length p.image.now) p.r y place.start place.length }
+    fn call_by_name(&self, y: Elf64Sym, name: SymbolName<'_>) -> Result<Deed, ElfError>
+        ensures { let p = self.now in let i = p.inputs.now in let s = name.entry in result ≡ call_by_name s.part.now i.builtins.now i.job (length p.image.now) p.r y s.place.start s.place.length }
     {
         let st_value = y.st_value;
         if (y.st_info % 16 == 2) & (st_value != 0) {
-            return self.function_call(symbol_function(part, place), st_value);
+            return self.function_call(symbol_function(name), st_value);
         }
-        self.builtin_call(place, hash_symbol_name(part))
+        self.builtin_call(name.place, hash_symbol_name(name.part))
     }
 
     // A call of a symbol.
@@ -412,7 +406,8 @@ impl PlacedRelocation<'_> {
         let unknown = |_| ElfError::UnknownSymbol { number };
         let elf = self.inputs.elf();
         let place = elf.dynamic_symbol_name(number).map_err(unknown)?;
-        self.call_by_name(y, bytes_at(self.inputs.file, place), place)
+        let part = bytes_at(self.inputs.file, place);
+        self.call_by_name(y, SymbolName { part, place })
     }
 
     // Type 10: a call by the name of a symbol.

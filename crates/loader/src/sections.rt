@@ -5,22 +5,12 @@ ghost use Rattle.loader.specs.Sections.{section_at, starts_with, unsupported, no
 use elf_parser::types::Elf64Shdr;
 use elf_parser::{Elf64, past};
 
-// A header with nothing in it.
-const BLANK: Elf64Shdr = Elf64Shdr {
-    sh_name: 0,
-    sh_type: 0,
-    sh_flags: 0,
-    sh_addr: 0,
-    sh_offset: 0,
-    sh_size: 0,
-};
-
 // The section number `index`; a blank one where there is none.
 #[tactic(auto, unfolding(crate::specs::Sections::section_at))]
 pub(crate) fn section_at(elf: &Elf64<'_>, index: u32) -> Elf64Shdr
     ensures { result ≡ section_at elf.now.file.now elf.now.layout index }
 {
-    elf.section_header(index).unwrap_or(BLANK)
+    elf.section_header(index).unwrap_or_default()
 }
 
 #[tactic(auto, using(crate::specs::Sections::front_tested))]
