@@ -1,5 +1,6 @@
 -- The row that a function is registered as, and its name.
-use Rattle.std.specs.Prelude.{ℕ, ◌-◌, ◌/◌, ◌≡◌, Bool, ◌&&◌, List, [], leb, ltb}
+use Rattle.std.specs.Prelude.{ℕ, ◌-◌, ◌/◌, ◌≡◌, Bool, ◌&&◌, List, [], leb, ltb, Option, Some, None}
+use Rattle.ebpf.specs.Choice.{◌if◌else◌}
 use Rattle.ebpf.specs.IndexKeys.{index_key, key_in}
 use Rattle.elf_parser.specs.SectionNames.{same_bytes}
 use Rattle.std.specs.Borrow.{Bor}
@@ -39,3 +40,7 @@ in_text j a = leb j.sh_addr a && ltb a (sum_up_to j.sh_addr j.sh_size)
 -- the index of an address of the text
 abbrev pub index_of : Job → ℕ → ℕ
 index_of j a = (a - j.sh_addr) / 8
+
+-- the same of an address of the text's alone
+abbrev pub index_at : Job → ℕ → Option ℕ
+index_at j a = Some (index_of j a) if in_text j a else None

@@ -1,7 +1,8 @@
 // The row that a function is registered as.
 ghost use Rattle.std.specs.Prelude.{◌≡◌};
-ghost use Rattle.loader.specs.Functions.{hashed_legacy, row_for, symbol_function};
+ghost use Rattle.loader.specs.Functions.{hashed_legacy, index_at, row_for, symbol_function};
 
+use crate::addresses::in_addresses;
 use crate::inputs::Inputs;
 use crate::symbol_name::SymbolName;
 use program::{FunctionName, HashedLegacy, Row, SymbolHashCollision};
@@ -19,6 +20,19 @@ impl<'a> Inputs<'a> {
             check_collision: self.job.check_collision,
             labels: self.job.labels,
         }
+    }
+}
+
+impl Inputs<'_> {
+    // The index of the slot at an address, if it is one of the text's.
+    #[tactic(auto, using(ebpf::specs::Choice::choices))]
+    pub(crate) fn index_at(&self, a: u64) -> Option<u32>
+        ensures { result ≡ index_at self.now.job a }
+    {
+        if !in_addresses(self.job.sh_addr, self.job.sh_size, a) {
+            return None;
+        }
+        Some(((a - self.job.sh_addr) / 8) as u32)
     }
 }
 

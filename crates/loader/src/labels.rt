@@ -3,7 +3,6 @@ ghost use Rattle.std.specs.Prelude.{◌≡◌};
 ghost use Rattle.elf_parser.specs.Names.{symbol_name};
 ghost use Rattle.loader.specs.Labels.{label_row, label_as, named_label, label_of, label_deed, label_symbols};
 
-use crate::addresses::in_addresses;
 use crate::deeds::Deed;
 use crate::error::ElfError;
 use crate::functions::{row_for, symbol_function};
@@ -41,16 +40,11 @@ fn named_label(inputs: &Inputs<'_>, index: u32, st_name: u32) -> Result<Deed, El
 fn label_of(inputs: &Inputs<'_>, y: Elf64Sym) -> Result<Deed, ElfError>
     ensures { result ≡ label_of inputs.now.file.now inputs.now.builtins.now inputs.now.job y }
 {
-    let sh_addr = inputs.job.sh_addr;
-    let sh_size = inputs.job.sh_size;
-    let st_value = y.st_value;
     if y.st_info & 0xef != 2 {
         return Ok(Deed::Skip);
     }
-    if !in_addresses(sh_addr, sh_size, st_value) {
-        return Err(ElfError::ValueOutOfBounds);
-    }
-    let index = ((st_value - sh_addr) / 8) as u32;
+    let slot = inputs.index_at(y.st_value);
+    let index = slot.ok_or(ElfError::ValueOutOfBounds)?;
     named_label(inputs, index, y.st_name)
 }
 

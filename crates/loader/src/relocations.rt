@@ -5,7 +5,6 @@ ghost use Rattle.ebpf.specs.LittleEndian.{join};
 ghost use Rattle.elf_parser.specs.Names.{dynamic_symbol_name};
 ghost use Rattle.loader.specs.Relocations.{relocation_or, rela_or, relocation_at, header_at, contains, first_from, used_header, place_of, within, program_address, immediate_at, halves_deed, word_deed, symbol_address, plan6464, relative_text, is_negative, plan_relative, register_deed, function_call, builtin_call, call_by_name, named_call, plan6432, plan_at, plan_of};
 
-use crate::addresses::in_addresses;
 use crate::deeds::Deed;
 use crate::error::ElfError;
 use crate::functions::{row_for, symbol_function};
@@ -354,12 +353,8 @@ impl PlacedRelocation<'_> {
     fn function_call(&self, name: FunctionName, st_value: u64) -> Result<Deed, ElfError>
         ensures { let p = self.now in let i = p.inputs.now in result ≡ function_call i.builtins.now i.job (length p.image.now) (immediate_at p.r) name st_value }
     {
-        let sh_addr = self.inputs.job.sh_addr;
-        let sh_size = self.inputs.job.sh_size;
-        if !in_addresses(sh_addr, sh_size, st_value) {
-            return Err(ElfError::ValueOutOfBounds);
-        }
-        let index = ((st_value - sh_addr) / 8) as u32;
+        let slot = self.inputs.index_at(st_value);
+        let index = slot.ok_or(ElfError::ValueOutOfBounds)?;
         self.register_deed(row_for(self.inputs, name, index))
     }
 
