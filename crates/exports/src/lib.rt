@@ -21,7 +21,7 @@ use answers::{
 use ebpf::hash_symbol_name;
 use elf_parser::{Elf64, parse};
 use hash_table::find_symbol;
-use loader::{BuiltinProgram, Config, load, text_place};
+use loader::{BuiltinProgram, Config, ReadOnly, load};
 use loading::{load_answer, text_answer};
 use names::refusal_name;
 use program::{FunctionRegistry, FunctionTable, index_ascending, row_ascending};
@@ -280,8 +280,11 @@ pub fn sbpf_text_place(
 ) -> u32
     ensures { Gives (text_answer (text_place lent ro_offset ro_start ro_length text_addr text_length)) answer result }
 {
-    give(
-        answer,
-        text_answer(text_place(lent, ro_offset, ro_start, ro_length, text_addr, text_length)),
-    )
+    let read_only = ReadOnly {
+        offset: ro_offset,
+        start: ro_start,
+        length: ro_length,
+    };
+    let place = read_only.text_place(lent, text_addr, text_length);
+    give(answer, text_answer(place))
 }

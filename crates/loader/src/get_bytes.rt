@@ -8,30 +8,13 @@ use crate::error::ElfError;
 use ebpf::MM_PROGRAM_START;
 use elf_parser::{Place, past};
 
-// The text's place, by how many bytes are lent, the read-only bytes' offset from the program's start
-// and their place, `n` of them from `start` on, and the text's address and size.
-#[tactic(auto, using(ebpf::specs::Choice::choices), unfolding(crate::specs::GetBytes::text_place))]
-pub fn text_place(
-    lent: u64,
-    offset: u64,
-    start: u64,
-    n: u64,
-    addr: u64,
-    size: u64,
-) -> Result<Place, ElfError>
-    ensures { result ≡ text_place lent offset start n addr size }
-{
-    let at = addr.saturating_sub(MM_PROGRAM_START).saturating_sub(offset);
-    if past(lent, start, n) {
-        return Err(ElfError::TextOutsideReadOnly);
-    }
-    if past(n, at, size) {
-        return Err(ElfError::TextOutsideReadOnly);
-    }
-    Ok(Place {
-        start: (start + at) as usize,
-        length: size as usize,
-    })
+// The read-only bytes of a load: their offset from the program's start, where they start in the bytes that hold
+// them, and how many they are.
+#[derive(Clone, Copy, PartialEq, Eq, Debug)]
+pub struct ReadOnly {
+    pub offset: u64,
+    pub start: u64,
+    pub length: u64,
 }
 
 // The bytes at a place that lies among the lent ones; none where it is refused.
@@ -48,35 +31,56 @@ fn part_of(lent: &[u8], place: Result<Place, ElfError>) -> &[u8]
     }
 }
 
-// The text's bytes among the lent ones; none where it is refused.
-#[tactic(auto, using(crate::specs::GetBytes::text_lies))]
-pub fn text_bytes(lent: &[u8], offset: u64, start: u64, n: u64, addr: u64, size: u64) -> &[u8]
-    ensures { result.now ≡ part_of lent.now (text_place (length lent.now) offset start n addr size) }
-{
-    let place = text_place(lent.len() as u64, offset, start, n, addr, size);
-    part_of(lent, place)
-}
-
-// The read-only bytes' place, by how many bytes are lent.
-#[tactic(auto, using(ebpf::specs::Choice::choices), unfolding(crate::specs::GetBytes::ro_place))]
-pub fn ro_place(lent: u64, start: u64, n: u64) -> Result<Place, ElfError>
-    ensures { result ≡ ro_place lent start n }
-{
-    if past(lent, start, n) {
-        return Err(ElfError::TextOutsideReadOnly);
+impl ReadOnly {
+    // Their place, by how many bytes are lent.
+    #[tactic(auto, using(ebpf::specs::Choice::choices), unfolding(crate::specs::GetBytes::ro_place))]
+    pub fn place(self, lent: u64) -> Result<Place, ElfError>
+        ensures { result ≡ ro_place lent self.start self.length }
+    {
+        if past(lent, self.start, self.length) {
+            return Err(ElfError::TextOutsideReadOnly);
+        }
+        Ok(Place {
+            start: self.start as usize,
+            length: self.length as usize,
+        })
     }
-    Ok(Place {
-        start: start as usize,
-        length: n as usize,
-    })
-}
 
-// The read-only bytes among the lent ones; none where they are refused.
-#[tactic(auto, using(crate::specs::GetBytes::ro_lies))]
-pub fn ro_bytes(lent: &[u8], start: u64, n: u64) -> &[u8]
-    ensures { result.now ≡ part_of lent.now (ro_place (length lent.now) start n) }
-{
-    part_of(lent, ro_place(lent.len() as u64, start, n))
+    // The bytes there; none where they are refused.
+    #[tactic(auto, using(crate::specs::GetBytes::ro_lies))]
+    pub fn bytes(self, lent: &[u8]) -> &[u8]
+        ensures { result.now ≡ part_of lent.now (ro_place (length lent.now) self.start self.length) }
+    {
+        part_of(lent, self.place(lent.len() as u64))
+    }
+
+    // The place of the text among them, by its address and size.
+    #[tactic(auto, using(ebpf::specs::Choice::choices), unfolding(crate::specs::GetBytes::text_place))]
+    pub fn text_place(self, lent: u64, addr: u64, size: u64) -> Result<Place, ElfError>
+        ensures { result ≡ text_place lent self.offset self.start self.length addr size }
+    {
+        let at = addr
+            .saturating_sub(MM_PROGRAM_START)
+            .saturating_sub(self.offset);
+        if past(lent, self.start, self.length) {
+            return Err(ElfError::TextOutsideReadOnly);
+        }
+        if past(self.length, at, size) {
+            return Err(ElfError::TextOutsideReadOnly);
+        }
+        Ok(Place {
+            start: (self.start + at) as usize,
+            length: size as usize,
+        })
+    }
+
+    // The text's bytes; none where they are refused.
+    #[tactic(auto, using(crate::specs::GetBytes::text_lies))]
+    pub fn text_bytes(self, lent: &[u8], addr: u64, size: u64) -> &[u8]
+        ensures { result.now ≡ part_of lent.now (text_place (length lent.now) self.offset self.start self.length addr size) }
+    {
+        part_of(lent, self.text_place(lent.len() as u64, addr, size))
+    }
 }
 
 impl Accepted {
@@ -91,11 +95,15 @@ impl Accepted {
         image
     }
 
-    // Where they start there.
-    fn start(self) -> u64
-        ensures { result ≡ ro_start_of self }
+    // The read-only bytes there: at the front where they were copied.
+    fn read_only(self) -> ReadOnly
+        ensures { result ≡ record { offset = self.ro_offset; start = ro_start_of self; length = self.ro_length } }
     {
-        self.ro_start.unwrap_or(0)
+        ReadOnly {
+            offset: self.ro_offset,
+            start: self.ro_start.unwrap_or(0),
+            length: self.ro_length,
+        }
     }
 
     // The read-only bytes, of the lent image or of the lent buffer.
@@ -103,22 +111,14 @@ impl Accepted {
     pub fn get_ro_section<'a>(self, image: &'a [u8], ro_section: &'a [u8]) -> &'a [u8]
         ensures { result.now ≡ part_for self image ro_section (ro_of self) }
     {
-        ro_bytes(
-            self.lent_for(image, ro_section),
-            self.start(),
-            self.ro_length,
-        )
+        self.read_only().bytes(self.lent_for(image, ro_section))
     }
 
     // Where they stand, by how many bytes are lent for the image and for the buffer.
     pub fn get_ro_place(self, image: u64, ro_section: u64) -> Result<Place, ElfError>
         ensures { result ≡ ro_of self (lent_for self image ro_section) }
     {
-        ro_place(
-            self.lent_for(image, ro_section),
-            self.start(),
-            self.ro_length,
-        )
+        self.read_only().place(self.lent_for(image, ro_section))
     }
 
     // The text's bytes.
@@ -126,27 +126,17 @@ impl Accepted {
     pub fn get_text_bytes<'a>(self, image: &'a [u8], ro_section: &'a [u8]) -> &'a [u8]
         ensures { result.now ≡ part_for self image ro_section (text_place_of self) }
     {
-        text_bytes(
-            self.lent_for(image, ro_section),
-            self.ro_offset,
-            self.start(),
-            self.ro_length,
-            self.text_addr,
-            self.text.length as u64,
-        )
+        let lent = self.lent_for(image, ro_section);
+        self.read_only()
+            .text_bytes(lent, self.text_addr, self.text.length as u64)
     }
 
     // Where it stands.
     pub fn get_text_place(self, image: u64, ro_section: u64) -> Result<Place, ElfError>
         ensures { result ≡ text_place_of self (lent_for self image ro_section) }
     {
-        text_place(
-            self.lent_for(image, ro_section),
-            self.ro_offset,
-            self.start(),
-            self.ro_length,
-            self.text_addr,
-            self.text.length as u64,
-        )
+        let lent = self.lent_for(image, ro_section);
+        self.read_only()
+            .text_place(lent, self.text_addr, self.text.length as u64)
     }
 }

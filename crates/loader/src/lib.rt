@@ -34,7 +34,7 @@ pub use answer::{Accepted, LoadAnd};
 pub use calls::{calls_key, is_local_call};
 pub use error::ElfError;
 pub use filling::clear_words;
-pub use get_bytes::{ro_bytes, ro_place, text_bytes, text_place};
+pub use get_bytes::ReadOnly;
 pub use relocations::{
     R_BPF_64_32, R_BPF_64_64, R_BPF_64_RELATIVE, Relocation, UsedHeader, is_within, r_place,
     relocation_at, used_header,
