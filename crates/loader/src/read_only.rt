@@ -53,29 +53,138 @@ fn is_read_only(name: &[u8]) -> bool
     (text | rodata) | (rel | frame)
 }
 
-// Whether a section gives the constant.
-#[tactic(auto, using(ebpf::specs::Choice::choices), unfolding(crate::specs::ReadOnly::gives))]
-fn gives_shift(version2: bool, addr: u64, offset: u64, x: Extent) -> bool
-    ensures { result ≡ gives version2 addr offset x }
-{
-    (version2 & (offset <= addr)) & (!x.invalid & x.shift.is_none())
-}
+impl Extent {
+    // Whether a section gives the constant.
+    #[tactic(auto, using(ebpf::specs::Choice::choices), unfolding(crate::specs::ReadOnly::gives))]
+    fn gives_shift(self, version2: bool, addr: u64, offset: u64) -> bool
+        ensures { result ≡ gives version2 addr offset self }
+    {
+        (version2 & (offset <= addr)) & (!self.invalid & self.shift.is_none())
+    }
 
-// Whether an offset is invalid, with this section's.
-#[tactic(auto, using(ebpf::specs::Choice::choices), unfolding(crate::specs::ReadOnly::invalid_by))]
-fn is_invalid(version2: bool, addr: u64, offset: u64, x: Extent) -> bool
-    ensures { result ≡ invalid_by version2 addr offset x }
-{
-    if x.invalid {
-        return true;
+    // Whether an offset is invalid, with this section's.
+    #[tactic(auto, using(ebpf::specs::Choice::choices), unfolding(crate::specs::ReadOnly::invalid_by))]
+    fn is_invalid(self, version2: bool, addr: u64, offset: u64) -> bool
+        ensures { result ≡ invalid_by version2 addr offset self }
+    {
+        if self.invalid {
+            return true;
+        }
+        if !version2 {
+            return addr != offset;
+        }
+        if addr < offset {
+            return true;
+        }
+        self.shift.is_some_and(|shift| shift != addr - offset)
     }
-    if !version2 {
-        return addr != offset;
+
+    // With one section more, of `n` bytes in the file.
+    #[tactic(auto, using(ebpf::specs::Choice::choices), unfolding(crate::specs::ReadOnly::grown))]
+    fn grow(self, version2: bool, index: u64, addr: u64, offset: u64, n: u64) -> Extent
+        ensures { result ≡ grown version2 index addr offset n self }
+    {
+        let gives = self.gives_shift(version2, addr, offset);
+        Extent {
+            lowest: self.lowest.min(addr),
+            highest: self.highest.max(addr.saturating_add(n)),
+            filled: self.filled.saturating_add(n),
+            invalid: self.is_invalid(version2, addr, offset),
+            shift: if gives {
+                Some(addr.saturating_sub(offset))
+            } else {
+                self.shift
+            },
+            first: if self.many == 0 { index } else { self.first },
+            last: index,
+            many: self.many.saturating_add(1),
+        }
     }
-    if addr < offset {
-        return true;
+
+    #[tactic(auto, using(ebpf::specs::Choice::choices), unfolding(crate::specs::ReadOnly::taken))]
+    fn take_section(
+        self,
+        rules: Rules,
+        index: u64,
+        h: Elf64Shdr,
+        n: u64,
+    ) -> Result<Extent, ElfError>
+        ensures { result ≡ taken rules.version2 rules.config.reject_broken_elfs index h n self }
+    {
+        let version2 = rules.version2;
+        let reject_broken = rules.config.reject_broken_elfs;
+        let invalid = self.is_invalid(version2, h.sh_addr, h.sh_offset);
+        let end = end_of(version2, h.sh_addr, h.sh_size);
+        if reject_broken & invalid {
+            return Err(ElfError::ValueOutOfBounds);
+        }
+        if MM_STACK_START < end {
+            return Err(ElfError::ValueOutOfBounds);
+        }
+        Ok(self.grow(version2, index, h.sh_addr, h.sh_offset, n))
     }
-    x.shift.is_some_and(|shift| shift != addr - offset)
+
+    #[tactic(auto, using(ebpf::specs::Choice::choices), unfolding(crate::specs::ReadOnly::can_borrow))]
+    fn can_borrow(self) -> bool
+        ensures { result ≡ can_borrow self }
+    {
+        let end = self.last.saturating_add(1);
+        !self.invalid & (end.saturating_sub(self.first) == self.many)
+    }
+
+    #[tactic(auto, using(ebpf::specs::Choice::choices), unfolding(crate::specs::ReadOnly::borrowed))]
+    fn borrow_sections(self, version2: bool) -> Result<Placing, ElfError>
+        ensures { result ≡ borrowed version2 self }
+    {
+        let shift = self.shift.unwrap_or(0);
+        let start = self.lowest.saturating_sub(shift);
+        let end = self.highest.saturating_sub(shift);
+        if version2 & (self.lowest < MM_PROGRAM_START) {
+            return Err(ElfError::ValueOutOfBounds);
+        }
+        Ok(Placing::Borrowed {
+            offset: from_start(self.lowest),
+            start,
+            length: end.saturating_sub(start),
+        })
+    }
+
+    #[tactic(auto, using(ebpf::specs::Choice::choices), unfolding(crate::specs::ReadOnly::owned))]
+    fn own_sections(self, len: u64, optimize: bool) -> Result<Placing, ElfError>
+        ensures { result ≡ owned len optimize self }
+    {
+        let lowest = if optimize { self.lowest } else { 0 };
+        let length = self.highest.saturating_sub(lowest);
+        if len < length {
+            return Err(ElfError::ValueOutOfBounds);
+        }
+        Ok(Placing::Owned {
+            offset: from_start(lowest),
+            lowest,
+            length,
+        })
+    }
+
+    #[tactic(auto, using(ebpf::specs::Choice::choices), unfolding(crate::specs::ReadOnly::placed))]
+    fn place_extent(self, rules: Rules, len: u64) -> Result<Placing, ElfError>
+        ensures { result ≡ placed len rules.version2 rules.config.reject_broken_elfs rules.config.optimize_rodata self }
+    {
+        let version2 = rules.version2;
+        let reject_broken = rules.config.reject_broken_elfs;
+        let optimize = rules.config.optimize_rodata;
+        let borrows = self.can_borrow();
+        let end = self.lowest.saturating_add(self.filled);
+        if reject_broken & (self.highest < end) {
+            return Err(ElfError::ValueOutOfBounds);
+        }
+        if version2 & !borrows {
+            return Err(ElfError::ValueOutOfBounds);
+        }
+        if optimize & borrows {
+            return self.borrow_sections(version2);
+        }
+        self.own_sections(len, optimize)
+    }
 }
 
 // Where a section ends in the machine; in version 1 its start counts.
@@ -88,51 +197,6 @@ fn end_of(version2: bool, addr: u64, size: u64) -> u64
         return start.saturating_add(size);
     }
     start
-}
-
-// With one section more, of `n` bytes in the file.
-#[tactic(auto, using(ebpf::specs::Choice::choices), unfolding(crate::specs::ReadOnly::grown))]
-fn grow(version2: bool, index: u64, addr: u64, offset: u64, n: u64, x: Extent) -> Extent
-    ensures { result ≡ grown version2 index addr offset n x }
-{
-    let gives = gives_shift(version2, addr, offset, x);
-    Extent {
-        lowest: x.lowest.min(addr),
-        highest: x.highest.max(addr.saturating_add(n)),
-        filled: x.filled.saturating_add(n),
-        invalid: is_invalid(version2, addr, offset, x),
-        shift: if gives {
-            Some(addr.saturating_sub(offset))
-        } else {
-            x.shift
-        },
-        first: if x.many == 0 { index } else { x.first },
-        last: index,
-        many: x.many.saturating_add(1),
-    }
-}
-
-#[tactic(auto, using(ebpf::specs::Choice::choices), unfolding(crate::specs::ReadOnly::taken))]
-fn take_section(
-    rules: Rules,
-    index: u64,
-    h: Elf64Shdr,
-    n: u64,
-    x: Extent,
-) -> Result<Extent, ElfError>
-    ensures { result ≡ taken rules.version2 rules.config.reject_broken_elfs index h n x }
-{
-    let version2 = rules.version2;
-    let reject_broken = rules.config.reject_broken_elfs;
-    let invalid = is_invalid(version2, h.sh_addr, h.sh_offset, x);
-    let end = end_of(version2, h.sh_addr, h.sh_size);
-    if reject_broken & invalid {
-        return Err(ElfError::ValueOutOfBounds);
-    }
-    if MM_STACK_START < end {
-        return Err(ElfError::ValueOutOfBounds);
-    }
-    Ok(grow(version2, index, h.sh_addr, h.sh_offset, n, x))
 }
 
 // Before the first section.
@@ -169,7 +233,7 @@ pub(crate) fn gather_next(
     }
     let outside = |_| ElfError::ValueOutOfBounds;
     let place = elf.file_range(index).map_err(outside)?;
-    take_section(rules, index as u64, h, place.length as u64, x)
+    x.take_section(rules, index as u64, h, place.length as u64)
 }
 
 // An address as an offset from the program's start.
@@ -183,68 +247,6 @@ fn from_start(addr: u64) -> u64
     addr
 }
 
-#[tactic(auto, using(ebpf::specs::Choice::choices), unfolding(crate::specs::ReadOnly::can_borrow))]
-fn can_borrow(x: Extent) -> bool
-    ensures { result ≡ can_borrow x }
-{
-    let end = x.last.saturating_add(1);
-    !x.invalid & (end.saturating_sub(x.first) == x.many)
-}
-
-#[tactic(auto, using(ebpf::specs::Choice::choices), unfolding(crate::specs::ReadOnly::borrowed))]
-fn borrow_sections(version2: bool, x: Extent) -> Result<Placing, ElfError>
-    ensures { result ≡ borrowed version2 x }
-{
-    let shift = x.shift.unwrap_or(0);
-    let start = x.lowest.saturating_sub(shift);
-    let end = x.highest.saturating_sub(shift);
-    if version2 & (x.lowest < MM_PROGRAM_START) {
-        return Err(ElfError::ValueOutOfBounds);
-    }
-    Ok(Placing::Borrowed {
-        offset: from_start(x.lowest),
-        start,
-        length: end.saturating_sub(start),
-    })
-}
-
-#[tactic(auto, using(ebpf::specs::Choice::choices), unfolding(crate::specs::ReadOnly::owned))]
-fn own_sections(len: u64, optimize: bool, x: Extent) -> Result<Placing, ElfError>
-    ensures { result ≡ owned len optimize x }
-{
-    let lowest = if optimize { x.lowest } else { 0 };
-    let length = x.highest.saturating_sub(lowest);
-    if len < length {
-        return Err(ElfError::ValueOutOfBounds);
-    }
-    Ok(Placing::Owned {
-        offset: from_start(lowest),
-        lowest,
-        length,
-    })
-}
-
-#[tactic(auto, using(ebpf::specs::Choice::choices), unfolding(crate::specs::ReadOnly::placed))]
-fn place_extent(rules: Rules, len: u64, x: Extent) -> Result<Placing, ElfError>
-    ensures { result ≡ placed len rules.version2 rules.config.reject_broken_elfs rules.config.optimize_rodata x }
-{
-    let version2 = rules.version2;
-    let reject_broken = rules.config.reject_broken_elfs;
-    let optimize = rules.config.optimize_rodata;
-    let borrows = can_borrow(x);
-    let end = x.lowest.saturating_add(x.filled);
-    if reject_broken & (x.highest < end) {
-        return Err(ElfError::ValueOutOfBounds);
-    }
-    if version2 & !borrows {
-        return Err(ElfError::ValueOutOfBounds);
-    }
-    if optimize & borrows {
-        return borrow_sections(version2, x);
-    }
-    own_sections(len, optimize, x)
-}
-
 // It asks for no byte of the sections, only for what was gathered of their headers and names.
 pub(crate) fn place_gathered(
     rules: Rules,
@@ -253,7 +255,7 @@ pub(crate) fn place_gathered(
 ) -> Result<Placing, ElfError>
     ensures { result ≡ placing_by len rules.version2 rules.config.reject_broken_elfs rules.config.optimize_rodata g }
 {
-    place_extent(rules, len, g?)
+    g?.place_extent(rules, len)
 }
 
 // The bytes of `from` from `start` on, `n` of them, go to `at`.
