@@ -69,6 +69,7 @@ impl FunctionTable<'_> {
     // The row that a binary search over the used keys comes to, if it has the key. Where the rows
     // ascend, as in every table that a load leaves, this is what `lookup_by_key` answers, in few steps.
     // On other content it may miss a row that is there. At most the rows lent count.
+    #[tactic(auto, using(crate::proofs::Steps::row_inside, crate::proofs::Steps::row_within, crate::proofs::Tables::row_counted))]
     pub fn lookup_ascending(self, key: u32) -> Option<Row>
         ensures { result ≡ lookup_ascending_in (columns_in self.entry) self.entry.used key }
     {
