@@ -64,6 +64,7 @@ fn list_load(out: &mut [u8], file: &[u8]) -> usize
 
 // THE LINES of a file in a lent slice, as many bytes as there is room for and zeros behind them; and
 // how many bytes they are.
+#[tactic(auto, using(crate::proofs::Listed::lines_load, crate::proofs::Stores::sets_filled))]
 pub fn list_file(file: &[u8], out: &mut [u8]) -> usize
     ensures { Lists file out result }
 {

@@ -10,6 +10,7 @@ use loader::{Accepted, ElfError};
 use program::{FunctionTable, Row};
 
 // A word and four numbers, at the front.
+#[tactic(auto, using(crate::proofs::Stores::parts), unfolding(crate::specs::Lines::word_line))]
 fn put_word_line(out: &mut [u8], word: &[u8], a: u64, b: u64, c: u64, d: u64) -> usize
     requires { length word.now ≤ 8 }
     ensures { Stores 93 (word_line word.now a b c d) out 0 result }
@@ -43,6 +44,7 @@ fn put_accepted(out: &mut [u8], a: Accepted) -> usize
 }
 
 // A row: key, index, name kind.
+#[tactic(auto, using(crate::proofs::Stores::parts), unfolding(crate::specs::Lines::row_line))]
 fn put_row(out: &mut [u8], at: usize, row: Row) -> usize
     requires { at + 63 ≤ 2 ^ 32 }
     ensures { Stores 63 (row_line row.key row.index row.kind) out at result }
@@ -54,6 +56,7 @@ fn put_row(out: &mut [u8], at: usize, row: Row) -> usize
 }
 
 // The used rows.
+#[tactic(auto, using(crate::proofs::Stores::parts, crate::proofs::Listed::lines_from, crate::proofs::Listed::lines_end))]
 fn put_rows(out: &mut [u8], at: usize, table: FunctionTable) -> usize
     requires { (at ≤ 93) × (table.used ≤ 256) × Within table.used (columns_in table) }
     ensures { Stores 16128 (row_lines (rows_of (columns_in table.entry) table.entry.used)) out at result }
@@ -73,6 +76,7 @@ fn put_rows(out: &mut [u8], at: usize, table: FunctionTable) -> usize
 }
 
 // What a load answered, and its rows.
+#[tactic(auto, using(crate::proofs::Stores::parts))]
 pub(crate) fn put_load(
     out: &mut [u8],
     answer: Result<Accepted, ElfError>,

@@ -14,7 +14,7 @@ pub(crate) fn clear(out: &mut [u8])
     out.fill(0);
 }
 
-#[tactic(auto, using(crate::proofs::Stores::byte_left, crate::proofs::Stores::byte_stored))]
+#[tactic(auto, using(crate::proofs::Stores::parts))]
 pub(crate) fn put_byte(out: &mut [u8], at: usize, b: u8) -> usize
     requires { at + 1 ≤ 2 ^ 32 }
     ensures { Stores 1 (b ∷ []) out at result }
@@ -26,6 +26,7 @@ pub(crate) fn put_byte(out: &mut [u8], at: usize, b: u8) -> usize
     at + 1
 }
 
+#[tactic(auto, using(crate::proofs::Stores::parts))]
 pub(crate) fn put_bytes(out: &mut [u8], at: usize, bytes: &[u8]) -> usize
     requires { at + length bytes.now ≤ 2 ^ 32 }
     ensures { Stores (length bytes.now) bytes.now out at result }
@@ -45,6 +46,7 @@ fn last_digit(n: u64) -> u8
 }
 
 // A number's digits, the highest first: those of a tenth, and the last one.
+#[tactic(auto, using(crate::proofs::Stores::parts, crate::proofs::Tenths::decimal_one, crate::proofs::Tenths::decimal_more, crate::proofs::Tenths::decimal_few, crate::proofs::Tenths::tenth_few))]
 pub(crate) fn put_decimal(out: &mut [u8], at: usize, n: u64) -> usize
     requires { at + 20 ≤ 2 ^ 32 }
     ensures { Stores 20 (decimal n) out at result }
@@ -57,6 +59,7 @@ pub(crate) fn put_decimal(out: &mut [u8], at: usize, n: u64) -> usize
 }
 
 // A space and a number.
+#[tactic(auto, using(crate::proofs::Stores::parts), unfolding(crate::specs::Lines::spaced))]
 pub(crate) fn put_spaced(out: &mut [u8], at: usize, n: u64) -> usize
     requires { at + 21 ≤ 2 ^ 32 }
     ensures { Stores 21 (spaced n) out at result }
