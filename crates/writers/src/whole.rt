@@ -73,6 +73,7 @@ fn mark_calls(numbers: &mut [u32], text: &Text<'_>)
 }
 
 // The calls of all slots, and then all relocations in turn, in numbers that are zero.
+#[tactic(auto, using(crate::proofs::Marking::holds_as, crate::proofs::Marking::holds_here, crate::proofs::Marking::holds_then, crate::proofs::Turns::last_none, crate::proofs::Turns::none_used), unfolding(crate::specs::Named::by_names))]
 pub(crate) fn mark_all(numbers: &mut [u32], text: &Text<'_>)
     requires { OnlyZeros numbers.old }
     ensures { HoldsAll text.now.elf.file.now text.now.elf.layout text.now.loaded numbers }
