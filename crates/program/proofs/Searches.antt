@@ -84,7 +84,7 @@ turn k xs base (suc n) b l e =
     (λ one. let same : base ≡ b = omega (arith, e, half_le (suc n / 2) (get_or xs (base + suc n / 2) 0) k) in same ∙ sym (narrow_ends k xs b (suc n - suc n / 2) (omega arith)))
 
 -- four turns over at most sixteen numbers
-module _ (k : ℕ) (xs : List ℕ) (base size b₁ b₂ b₃ r : ℕ) (some : 0 < size) (few : size ≤ 16) where
+module _ (k : ℕ) (xs : List ℕ) (base size : ℕ) (some : 0 < size) (few : size ≤ 16) where
   abbrev s₁ : ℕ
   s₁ = size - size / 2
 
@@ -94,10 +94,22 @@ module _ (k : ℕ) (xs : List ℕ) (base size b₁ b₂ b₃ r : ℕ) (some : 0 
   abbrev s₃ : ℕ
   s₃ = s₂ - s₂ / 2
 
-  pub four_turns : Halved k xs base (size / 2) b₁ → Halved k xs b₁ (s₁ / 2) b₂ → Halved k xs b₂ (s₂ / 2) b₃ → Halved k xs b₃ (s₃ / 2) r → r ≡ narrowed size k xs base size
-  four_turns e₁ e₂ e₃ e₄ =
-      sym (turn k xs base size b₁ some e₁.is ∙ turn k xs b₁ s₁ b₂ (omega arith) e₂.is ∙ turn k xs b₂ s₂ b₃ (omega arith) e₃.is ∙ turn k xs b₃ s₃ r (omega arith) e₄.is
-      ∙ narrow_ends k xs r (s₃ - s₃ / 2) (omega arith))
+  abbrev b₁ : ℕ
+  b₁ = halved k xs base (size / 2)
+
+  abbrev b₂ : ℕ
+  b₂ = halved k xs b₁ (s₁ / 2)
+
+  abbrev b₃ : ℕ
+  b₃ = halved k xs b₂ (s₂ / 2)
+
+  abbrev b₄ : ℕ
+  b₄ = halved k xs b₃ (s₃ / 2)
+
+  pub four_turns : narrowed size k xs base size ≡ b₄
+  four_turns =
+      turn k xs base size b₁ some refl ∙ turn k xs b₁ s₁ b₂ (omega arith) refl ∙ turn k xs b₂ s₂ b₃ (omega arith) refl ∙ turn k xs b₃ s₃ b₄ (omega arith) refl
+      ∙ narrow_ends k xs b₄ (s₃ - s₃ / 2) (omega arith)
 
 -- what is left behind a turn lies where it did
 pub stays : (k : ℕ) (xs : List ℕ) (base size b n : ℕ) → Halved k xs base (size / 2) b → base + size ≤ n → b + (size - size / 2) ≤ n

@@ -1,5 +1,5 @@
 // Searching a slice.
-ghost use Rattle.std.specs.Prelude.{◌≡◌, ◌+◌, ◌≤◌, ◌<◌, eqb, leb, length, position};
+ghost use Rattle.std.specs.Prelude.{MatchResult, ◌≡◌, ◌+◌, ◌≤◌, ◌<◌, eqb, leb, length, position};
 ghost use Rattle.ebpf.specs.Choice.{◌if◌else◌};
 ghost use Rattle.program.specs.Search.{search_result, Halved, left_of, narrowed, PassesTo};
 
@@ -29,7 +29,7 @@ fn halve(ranks: &[u32], base: usize, half: usize, key: u32) -> usize
 
 // Halves at most sixteen numbers, from `base` on, until one is left: four turns, of which some may find
 // one number already.
-#[tactic(auto, using(crate::proofs::Searches::stays))]
+#[tactic(auto, using(crate::proofs::Searches::stays, crate::proofs::Searches::four_turns))]
 fn narrow_few(ranks: &[u32], base: usize, size: usize, key: u32) -> usize
     requires { (0 < size) × (size ≤ 16) × (base + size ≤ length ranks.now) }
     ensures { result ≡ narrowed size key ranks.now base size }
@@ -70,7 +70,8 @@ fn narrow(ranks: &[u32], key: u32) -> usize
 // an equation there too.
 #[tactic(auto, using(crate::proofs::Searches::search_none, crate::proofs::Searches::search_next, crate::proofs::Searches::search_here, crate::proofs::Searches::search_before))]
 pub(crate) fn binary_search(ranks: &[u32], key: u32) -> Result<usize, usize>
-    ensures { result ≡ search_result key ranks.now }
+    ensures is { result ≡ search_result key ranks.now }
+    ensures inside { MatchResult result (λ at. at < length ranks.now) (λ at. at ≤ length ranks.now) }
 {
     if ranks.is_empty() {
         return Err(0);
