@@ -1,23 +1,13 @@
 -- `writers::fill_by` meets its contract: by the text, if there is one, and how many numbers are lent.
 -- Assumes nothing.
-use mathlib.Core.Path.{◌≡◌, refl, sym, ◌∙◌}
+use mathlib.Core.Path.{◌≡◌, sym, ◌∙◌}
 use lib.ListN.{length}
 use Rattle.elf_parser.specs.declared.layout.Layout.{Layout}
 use Rattle.std.specs.Prelude.{Ok}
 use Rattle.writers.specs.Asked.{text_of}
 use Rattle.writers.proofs.Marking.{joined_long, joined_at}
-use Rattle.writers.proofs.Telling.{short_filled, short_tells, whole_filled, whole_tells}
+use Rattle.writers.proofs.Telling.{whole_filled, whole_tells}
 use Rattle.writers.proofs.fill_by.Goals as goal
-
-pub returns-then-numbers-file : goal.returns-then-numbers-file
-returns-then-numbers-file c =
-    let l : Layout = c.in_ok-layout.layout in
-    let e : text_of c.args.file.now c.args.loaded ≡ Ok l = sym c.layout_of.ensures ∙ c.in_ok-layout.was in
-    record {
-      answers = rw e (short_filled c.args.file.now c.args.loaded (length c.args.numbers.now) l c.if-numbers-file.true);
-      length_as = refl;
-      tells = λ b. rw e (c.requires b ∙ short_tells c.args.file.now c.args.loaded (length c.args.numbers.now) l c.if-numbers-file.true b);
-    }
 
 pub returns : goal.returns
 returns c =
