@@ -53,7 +53,7 @@ fn mark_named(numbers: &mut [u32], named: Option<Named>, code: u32)
 }
 
 // Slot number `i`, for the bytes of its immediate, if it is a local call.
-#[tactic(auto, using(ebpf::specs::Choice::choices, crate::proofs::Slots::and_off))]
+#[tactic(auto, using(ebpf::specs::Choice::choices))]
 fn mark_call(numbers: &mut [u32], text: &Text<'_>, i: usize)
     requires { i < 2 ^ 24 }
     ensures { Marks (λ b. is_in (immediate_of text.now.loaded i) 4 b && is_call text.now.elf.file.now text.now.loaded i) (i + 1) numbers }
