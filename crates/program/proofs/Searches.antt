@@ -22,7 +22,7 @@ use Rattle.std.proofs.lemmas.List.{take_rest}
 use Rattle.std.proofs.lemmas.List.Sums.{prefix_len-le-length}
 use Rattle.ebpf.specs.Choice.{◌if◌else◌, or_false}
 use Rattle.program.specs.Search.{halved, Halved, narrowed, left_of, binary_search, is_among, search_result, index_of, PassesTo, member, Over, Rising, place}
-use Rattle.program.proofs.Cases.{by_test, by_lt, by_le, by_eq, zero_one}
+use Rattle.program.proofs.Cases.{by_test, by_lt, by_le, by_eq}
 
 -- ---- a number or 0, by a test
 
@@ -201,29 +201,6 @@ module _ (k : ℕ) (xs : List ℕ) where
     pub search_before : k ≤ get_or xs at 0 → (get_or xs at 0 ≡ k → ⊥) → Err at ≡ search_result k xs
     unfolding search_result is_among ◌if◌else◌
     search_before l ne = rw (search_stays l, lt-leb (length xs) at within, ne_eqb (get_or xs at 0) k ne) refl
-
-  -- what an answer says
-  pub found_at : (at : ℕ) → search_result k xs ≡ Ok at → (at ≡ binary_search k xs) × (at < length xs) × (get_or xs at 0 ≡ k)
-  unfolding search_result is_among ◌if◌else◌
-  found_at at =
-      by_le (length xs) (binary_search k xs)
-      (λ (b : Bool). (Ok (binary_search k xs) if (false if b else eqb (get_or xs (binary_search k xs) 0) k) else Err (binary_search k xs)) ≡ Ok at → (at ≡ binary_search k xs) × (at < length xs) × (get_or xs at 0 ≡ k))
-      (λ _ e. absurd (zero_one (cc)))
-      (λ l. by_eq (get_or xs (binary_search k xs) 0) k
-      (λ (b : Bool). (Ok (binary_search k xs) if b else Err (binary_search k xs)) ≡ Ok at → (at ≡ binary_search k xs) × (at < length xs) × (get_or xs at 0 ≡ k))
-      (λ h e. let same : at ≡ binary_search k xs = cc in (same, omega arith, rw same h))
-      (λ _ e. absurd (zero_one (cc))))
-
-  pub missed_at : (at : ℕ) → search_result k xs ≡ Err at → (at ≡ binary_search k xs) × (at < length xs → get_or xs at 0 ≡ k → ⊥)
-  unfolding search_result is_among ◌if◌else◌
-  missed_at at =
-      by_le (length xs) (binary_search k xs)
-      (λ (b : Bool). (Ok (binary_search k xs) if (false if b else eqb (get_or xs (binary_search k xs) 0) k) else Err (binary_search k xs)) ≡ Err at → (at ≡ binary_search k xs) × (at < length xs → get_or xs at 0 ≡ k → ⊥))
-      (λ past e. let same : at ≡ binary_search k xs = cc in (same, λ l. absurd (omega arith)))
-      (λ l. by_eq (get_or xs (binary_search k xs) 0) k
-      (λ (b : Bool). (Ok (binary_search k xs) if b else Err (binary_search k xs)) ≡ Err at → (at ≡ binary_search k xs) × (at < length xs → get_or xs at 0 ≡ k → ⊥))
-      (λ _ e. absurd (zero_one (cc)))
-      (λ ne e. let same : at ≡ binary_search k xs = cc in (same, λ _ h. ne (rw same at h))))
 
   pub found_among : is_ok (search_result k xs) ≡ is_among k xs
   unfolding search_result ◌if◌else◌
