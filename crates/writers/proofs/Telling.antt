@@ -1,12 +1,12 @@
 -- What the questions may count on where the text is known, and what the numbers tell. Assumes nothing.
-use Prim.Native.Nat.{ℕ, zero, suc, ◌+◌, ◌≤◌, ◌<◌, ◌^◌}
+use Prim.Native.Nat.{ℕ, zero, suc, ◌+◌, ◌≤◌, ◌^◌}
 use mathlib.Core.Path.{◌≡◌, refl, ap, subst, ◌∙◌}
 use mathlib.Core.Bool.{Bool}
 use mathlib.Core.List.{List}
 use lib.ListN.{length, replicate, length-replicate}
 use lib.Dec.{ltb}
-use borrow.Author.Tests.{ltb-false, lt-ltb, le-ltb}
-use Rattle.ebpf.specs.Choice.{◌if◌else◌, yes as picks, no_go, not_first, row_rest}
+use borrow.Author.Tests.{ltb-false, le-ltb}
+use Rattle.ebpf.specs.Choice.{◌if◌else◌, no_go, not_first, row_rest}
 use Rattle.program.proofs.Cases.{by_test}
 use Rattle.elf_parser.specs.declared.layout.Layout.{Layout}
 use Rattle.elf_parser.specs.Errors.{ok_is}
