@@ -39,6 +39,7 @@ pub fn index_key_in(table: &[u32], index: u64) -> u32
 
 // The keys of the first indices. A constant array is copied at each use: a caller makes this table
 // once and lends it.
+#[tactic(auto, unfolding(crate::specs::IndexKeys::first_keys, crate::specs::IndexKeys::index_key, crate::specs::LittleEndian::bytes_of, crate::specs::Murmur3::murmur3, crate::specs::Murmur3::body))]
 pub fn key_table() -> [u32; KEY_TABLE_SIZE]
     ensures { result ≡ first_keys KEY_TABLE_SIZE }
 {

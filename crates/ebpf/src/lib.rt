@@ -23,6 +23,7 @@ pub const MM_STACK_START: u64 = 0x2_0000_0000;
 pub const CALL_IMM: u8 = 0x85;
 
 // The hash of a name of any length: four bytes a turn, then the rest and the length.
+#[tactic(auto, using(crate::proofs::Blocks::again, crate::proofs::Blocks::ended))]
 pub fn hash_symbol_name(name: &[u8]) -> u32
     ensures { result ≡ murmur3 name.now }
 {
@@ -47,6 +48,7 @@ pub struct Insn {
 }
 
 // The slot number `pc` of a text; none where the text has no more than `pc` whole slots.
+#[tactic(auto, using(crate::proofs::Slots::no_slot, crate::proofs::Slots::slot_read))]
 pub fn get_insn(prog: &[u8], pc: usize) -> Option<Insn>
     ensures { result ≡ insn_at prog.now pc }
 {

@@ -18,6 +18,7 @@ fn padded<const N: usize>(s: &[u8]) -> [u8; N]
 
 // The bytes from a place on, with zeros past the end. Where the slice has them all, LLVM makes one
 // load of them.
+#[tactic(auto, using(crate::proofs::Reading::past, crate::proofs::Reading::whole, crate::proofs::Reading::from_rest))]
 fn bytes_at<const N: usize>(s: &[u8], at: usize) -> [u8; N]
     ensures { result ≡ bytes_at N s.now at }
 {

@@ -57,6 +57,7 @@ fn contains_step(h: Elf64Phdr, vaddr: u64) -> Result<Option<u64>, ElfParserError
 }
 
 // The first program header that contains the address decides.
+#[tactic(auto, using(std::proofs::lemmas::Result::err_from_is_err_and, crate::specs::ProgramHeaders::found_is, crate::specs::ProgramHeaders::found_end))]
 pub(crate) fn header_for_vaddr(
     table: &Table<'_, Elf64Phdr>,
     vaddr: u64,

@@ -59,6 +59,7 @@ impl<'a, T: Record> Table<'a, T> {
 
     // What is left of a state after the records, in turn: `step` goes from one to the next, with the place where
     // the record starts, up to the first that refuses.
+    #[tactic(auto, using(std::proofs::lemmas::Result::err_from_is_err_and, crate::specs::Loops::rest_all, crate::specs::Loops::rest_next, crate::specs::Loops::rest_stop, crate::specs::Loops::rest_end))]
     pub(crate) fn over<S: Copy, F: Fn(u64, T, S) -> Result<S, ElfParserError>>(
         &self,
         first: S,

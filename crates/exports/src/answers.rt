@@ -22,6 +22,7 @@ pub(crate) fn word_in(words: &[u64], i: usize) -> u64
 }
 
 // Fills a slice: the words, as many as there is room for, and zeros behind them.
+#[tactic(auto, using(crate::proofs::Writing::filled_all))]
 fn fill(to: &mut [u64], words: &[u64])
     ensures { to.new ≡ written (length to.old) words.now }
 {
@@ -139,6 +140,7 @@ pub(crate) fn word_or_none(found: Option<u64>) -> u64
 
 // Fills the lent slice: the number, and the words behind it. The words are lent: by value they
 // would be copied.
+#[tactic(auto, using(crate::proofs::Writing::behind_length, crate::proofs::Writing::filled_behind, crate::proofs::Writing::no_room))]
 fn give_words(answer: &mut [u64], number: u32, words: &[u64])
     ensures { answer.new ≡ written (length answer.old) (number ∷ words.now) }
 {
@@ -172,6 +174,7 @@ fn give_nine(answer: &mut [u64], found: u64, index: u64, kind: u64, start: u64, 
 }
 
 // Fills the lent slice with the words of a row, or of none.
+#[tactic(auto, using(crate::proofs::Writing::row_given, crate::proofs::Writing::none_given))]
 pub(crate) fn give_row(answer: &mut [u64], f: Option<Row>) -> u32
     ensures { Gives (row_answer f) answer result }
 {

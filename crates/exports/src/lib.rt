@@ -178,6 +178,7 @@ pub fn sbpf_row_ascending(keys: &[u32], used: u64, key: u32) -> u64
 
 // A load, as `loader::load`, with the settings by their bits.
 // Kept: the columns one by one, as C lends them.
+#[tactic(auto, using(crate::proofs::Giving::one_by_one, crate::proofs::Giving::given))]
 pub fn sbpf_load(
     file: &[u8],
     builtins: &[u32],
@@ -233,6 +234,7 @@ pub fn sbpf_who_wrote_all(
 // A load, as `sbpf_load`, and who wrote a byte of its image: the words of the load's answer, and behind
 // them the writer's two.
 // Kept: the columns one by one, as C lends them.
+#[tactic(auto, using(crate::proofs::Giving::one_by_one, crate::proofs::GivingBoth::given))]
 pub fn sbpf_load_who_wrote(
     file: &[u8],
     builtins: &[u32],

@@ -7,6 +7,7 @@ ghost use Rattle.exports.specs.Names.{Named, refusal_name};
 // Kept: apart from `fill` of answers.rt. One `fill` for any `T: Copy` was tried: std's `fill` then asks of `T` that
 // a clone can't fail, and tells of clones and not of the value; and `written`, which every answer is stated by,
 // would take a type and its zero wherever it stands, to save these three lines.
+#[tactic(auto, using(crate::proofs::Writing::filled_all))]
 fn fill_bytes(to: &mut [u8], bytes: &[u8])
     ensures { to.new ≡ written (length to.old) bytes.now }
 {
@@ -64,6 +65,7 @@ fn name_of(number: u32) -> &'static [u8]
 }
 
 // Gives the name of the refusal with a number: its bytes in the lent slice, and its length.
+#[tactic(auto, using(crate::proofs::Named::name_short))]
 pub(crate) fn refusal_name(name: &mut [u8], number: u32) -> u32
     ensures { Named (refusal_name number) name result }
 {

@@ -83,6 +83,7 @@ fn filled_answer(filled: Result<(), ElfError>) -> Answer
 }
 
 // Who wrote each byte, by the words of a load's answer.
+#[tactic(auto, using(ebpf::specs::Choice::choices, writers::proofs::Telling::cleared, writers::proofs::Telling::as_long), unfolding(crate::specs::Wrote::all_answer, crate::specs::Wrote::all_number))]
 pub(crate) fn numbers_answer(numbers: &mut [u32], file: &[u8], loaded: &[u64]) -> Answer
     ensures { Numbers file loaded numbers result }
 {

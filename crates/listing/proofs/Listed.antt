@@ -20,7 +20,6 @@ use Rattle.loader.specs.declared.answer.Accepted.{Accepted}
 use Rattle.loader.specs.declared.error.ElfError.{ElfError}
 use Rattle.loader.specs.declared.validate.Config.{Config}
 use Rattle.loader.specs.declared.validate.Job.{Job}
-use Rattle.loader.specs.Errors.{report_of}
 use Rattle.loader.specs.Load.{Loading, load_of, on_prepared, on_trace, held_by, answer_of, rows_in, Loaded}
 use Rattle.loader.specs.Loads.{used_of}
 use Rattle.loader.specs.Parts.{job_trace}
@@ -28,8 +27,8 @@ use Rattle.loader.specs.Trace.{Settled, accepted, refused, settle}
 use Rattle.loader.specs.Validate.{prepared}
 use Rattle.loader.proofs.Keyed.{rows_room}
 use Rattle.loader.proofs.Traces.{settle_ascends}
-use Rattle.listing.specs.Lines.{row_line, row_lines, refused_line, accepted_line, answer_lines, load_lines, listed_load, all_on, too_long, lines_of, Stored, Listing}
-use Rattle.listing.proofs.Stores.{stored_both, stored_most, sets_filled}
+use Rattle.listing.specs.Lines.{row_line, row_lines, answer_lines, load_lines, listed_load, all_on, too_long, lines_of, Stored, Listing}
+use Rattle.listing.proofs.Stores.{sets_filled}
 
 -- ---- rows in columns
 
@@ -44,15 +43,6 @@ module _ (t : Slices) (n i : ℕ) where
   pub lines_end : n ≤ i → row_lines (drop i (rows_of t n)) ≡ []
   unfolding row_lines
   lines_end h = rw (drop_of_length-le (rows_of t n) {i = i} (rw length_rows h))
-
--- ---- the lines of an answer, stored
-
-module _ (answer : Result Accepted ElfError) (rows : List Row) (s u : List ℕ) (at : ℕ) where
-  pub refused_stored : (e : ElfError) (r : ℕ) → answer ≡ Err e → Stored 93 (refused_line (report_of e)) s u at r → Stored 16221 (answer_lines answer rows) s u at r
-  refused_stored e r is a = rw is (stored_most 93 16221 (refused_line (report_of e)) s u at r (omega (arith, a.next, a.near)) a)
-
-  pub accepted_stored : (y : Accepted) (v : List ℕ) (p r : ℕ) → answer ≡ Ok y → Stored 93 (accepted_line y) s u at p → Stored 16128 (row_lines rows) u v p r → Stored 16221 (answer_lines answer rows) s v at r
-  accepted_stored y v p r is a b = rw is (stored_both 93 16128 (accepted_line y) (row_lines rows) s u v at p r a b)
 
 -- ---- the rows of a load: the answer counts them, there are no more than n, and their keys rise
 

@@ -11,6 +11,7 @@ use program::{FunctionTable, Row};
 
 impl Lines<'_> {
     // A word and four numbers.
+    #[tactic(auto, using(crate::proofs::Stores::parts), unfolding(crate::specs::Lines::word_line))]
     fn put_word_line(&mut self, word: &[u8], a: u64, b: u64, c: u64, d: u64)
         requires { (self.old.at + 93 ≤ 2 ^ 32) × (length word.now ≤ 8) }
         ensures same { SameSlice self.old self.new }
@@ -48,6 +49,7 @@ impl Lines<'_> {
     }
 
     // A row: key, index, name kind.
+    #[tactic(auto, using(crate::proofs::Stores::parts), unfolding(crate::specs::Lines::row_line))]
     fn put_row(&mut self, row: Row)
         requires { self.old.at + 63 ≤ 2 ^ 32 }
         ensures same { SameSlice self.old self.new }
@@ -60,6 +62,7 @@ impl Lines<'_> {
     }
 
     // The used rows.
+    #[tactic(auto, using(crate::proofs::Stores::parts, crate::proofs::Listed::lines_from, crate::proofs::Listed::lines_end))]
     fn put_rows(&mut self, table: FunctionTable)
         requires { (self.old.at + 16128 ≤ 2 ^ 32) × (table.used ≤ 256) × Within table.used (columns_in table) }
         ensures same { SameSlice self.old self.new }
@@ -77,6 +80,7 @@ impl Lines<'_> {
     }
 
     // What a load answered, and its rows.
+    #[tactic(auto, using(crate::proofs::Stores::parts))]
     pub(crate) fn put_load(&mut self, answer: Result<Accepted, ElfError>, table: FunctionTable)
         requires { (self.old.at + 16221 ≤ 2 ^ 32) × (table.used ≤ 256) × Within table.used (columns_in table) }
         ensures same { SameSlice self.old self.new }

@@ -31,7 +31,7 @@ impl Lines<'_> {
         self.out.fill(0);
     }
 
-    #[tactic(auto, using(crate::proofs::Stores::byte_left, crate::proofs::Stores::byte_stored))]
+    #[tactic(auto, using(crate::proofs::Stores::parts))]
     pub(crate) fn put_byte(&mut self, b: u8)
         requires { self.old.at + 1 ≤ 2 ^ 32 }
         ensures same { SameSlice self.old self.new }
@@ -43,6 +43,7 @@ impl Lines<'_> {
         self.at += 1;
     }
 
+    #[tactic(auto, using(crate::proofs::Stores::parts))]
     pub(crate) fn put_bytes(&mut self, bytes: &[u8])
         requires { self.old.at + length bytes.now ≤ 2 ^ 32 }
         ensures same { SameSlice self.old self.new }
@@ -54,6 +55,7 @@ impl Lines<'_> {
     }
 
     // A number's digits, the highest first: those of a tenth, and the last one.
+    #[tactic(auto, using(crate::proofs::Stores::parts, crate::proofs::Tenths::decimal_one, crate::proofs::Tenths::decimal_more, crate::proofs::Tenths::decimal_few, crate::proofs::Tenths::tenth_few))]
     pub(crate) fn put_decimal(&mut self, n: u64)
         requires { self.old.at + 20 ≤ 2 ^ 32 }
         ensures same { SameSlice self.old self.new }
@@ -68,6 +70,7 @@ impl Lines<'_> {
     }
 
     // A space and a number.
+    #[tactic(auto, using(crate::proofs::Stores::parts), unfolding(crate::specs::Lines::spaced))]
     pub(crate) fn put_spaced(&mut self, n: u64)
         requires { self.old.at + 21 ≤ 2 ^ 32 }
         ensures same { SameSlice self.old self.new }

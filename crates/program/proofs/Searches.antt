@@ -22,7 +22,7 @@ use Rattle.std.proofs.lemmas.List.{take_rest}
 use Rattle.std.proofs.lemmas.List.Sums.{prefix_len-le-length}
 use Rattle.ebpf.specs.Choice.{◌if◌else◌, or_false}
 use Rattle.program.specs.Search.{halved, Halved, narrowed, left_of, binary_search, is_among, search_result, index_of, PassesTo, member, Over, Rising, place}
-use Rattle.program.proofs.Cases.{by_test, by_lt, by_le, by_eq, zero_one}
+use Rattle.program.proofs.Cases.{by_test, by_lt, by_le, by_eq}
 
 -- ---- a number or 0, by a test
 
@@ -84,7 +84,7 @@ turn k xs base (suc n) b l e =
     (λ one. let same : base ≡ b = omega (arith, e, half_le (suc n / 2) (get_or xs (base + suc n / 2) 0) k) in same ∙ sym (narrow_ends k xs b (suc n - suc n / 2) (omega arith)))
 
 -- four turns over at most sixteen numbers
-module _ (k : ℕ) (xs : List ℕ) (base size b₁ b₂ b₃ r : ℕ) (some : 0 < size) (few : size ≤ 16) where
+module _ (k : ℕ) (xs : List ℕ) (base size : ℕ) (some : 0 < size) (few : size ≤ 16) where
   abbrev s₁ : ℕ
   s₁ = size - size / 2
 
@@ -94,10 +94,22 @@ module _ (k : ℕ) (xs : List ℕ) (base size b₁ b₂ b₃ r : ℕ) (some : 0 
   abbrev s₃ : ℕ
   s₃ = s₂ - s₂ / 2
 
-  pub four_turns : Halved k xs base (size / 2) b₁ → Halved k xs b₁ (s₁ / 2) b₂ → Halved k xs b₂ (s₂ / 2) b₃ → Halved k xs b₃ (s₃ / 2) r → r ≡ narrowed size k xs base size
-  four_turns e₁ e₂ e₃ e₄ =
-      sym (turn k xs base size b₁ some e₁.is ∙ turn k xs b₁ s₁ b₂ (omega arith) e₂.is ∙ turn k xs b₂ s₂ b₃ (omega arith) e₃.is ∙ turn k xs b₃ s₃ r (omega arith) e₄.is
-      ∙ narrow_ends k xs r (s₃ - s₃ / 2) (omega arith))
+  abbrev b₁ : ℕ
+  b₁ = halved k xs base (size / 2)
+
+  abbrev b₂ : ℕ
+  b₂ = halved k xs b₁ (s₁ / 2)
+
+  abbrev b₃ : ℕ
+  b₃ = halved k xs b₂ (s₂ / 2)
+
+  abbrev b₄ : ℕ
+  b₄ = halved k xs b₃ (s₃ / 2)
+
+  pub four_turns : narrowed size k xs base size ≡ b₄
+  four_turns =
+      turn k xs base size b₁ some refl ∙ turn k xs b₁ s₁ b₂ (omega arith) refl ∙ turn k xs b₂ s₂ b₃ (omega arith) refl ∙ turn k xs b₃ s₃ b₄ (omega arith) refl
+      ∙ narrow_ends k xs b₄ (s₃ - s₃ / 2) (omega arith)
 
 -- what is left behind a turn lies where it did
 pub stays : (k : ℕ) (xs : List ℕ) (base size b n : ℕ) → Halved k xs base (size / 2) b → base + size ≤ n → b + (size - size / 2) ≤ n
@@ -189,29 +201,6 @@ module _ (k : ℕ) (xs : List ℕ) where
     pub search_before : k ≤ get_or xs at 0 → (get_or xs at 0 ≡ k → ⊥) → Err at ≡ search_result k xs
     unfolding search_result is_among ◌if◌else◌
     search_before l ne = rw (search_stays l, lt-leb (length xs) at within, ne_eqb (get_or xs at 0) k ne) refl
-
-  -- what an answer says
-  pub found_at : (at : ℕ) → search_result k xs ≡ Ok at → (at ≡ binary_search k xs) × (at < length xs) × (get_or xs at 0 ≡ k)
-  unfolding search_result is_among ◌if◌else◌
-  found_at at =
-      by_le (length xs) (binary_search k xs)
-      (λ (b : Bool). (Ok (binary_search k xs) if (false if b else eqb (get_or xs (binary_search k xs) 0) k) else Err (binary_search k xs)) ≡ Ok at → (at ≡ binary_search k xs) × (at < length xs) × (get_or xs at 0 ≡ k))
-      (λ _ e. absurd (zero_one (cc)))
-      (λ l. by_eq (get_or xs (binary_search k xs) 0) k
-      (λ (b : Bool). (Ok (binary_search k xs) if b else Err (binary_search k xs)) ≡ Ok at → (at ≡ binary_search k xs) × (at < length xs) × (get_or xs at 0 ≡ k))
-      (λ h e. let same : at ≡ binary_search k xs = cc in (same, omega arith, rw same h))
-      (λ _ e. absurd (zero_one (cc))))
-
-  pub missed_at : (at : ℕ) → search_result k xs ≡ Err at → (at ≡ binary_search k xs) × (at < length xs → get_or xs at 0 ≡ k → ⊥)
-  unfolding search_result is_among ◌if◌else◌
-  missed_at at =
-      by_le (length xs) (binary_search k xs)
-      (λ (b : Bool). (Ok (binary_search k xs) if (false if b else eqb (get_or xs (binary_search k xs) 0) k) else Err (binary_search k xs)) ≡ Err at → (at ≡ binary_search k xs) × (at < length xs → get_or xs at 0 ≡ k → ⊥))
-      (λ past e. let same : at ≡ binary_search k xs = cc in (same, λ l. absurd (omega arith)))
-      (λ l. by_eq (get_or xs (binary_search k xs) 0) k
-      (λ (b : Bool). (Ok (binary_search k xs) if b else Err (binary_search k xs)) ≡ Err at → (at ≡ binary_search k xs) × (at < length xs → get_or xs at 0 ≡ k → ⊥))
-      (λ _ e. absurd (zero_one (cc)))
-      (λ ne e. let same : at ≡ binary_search k xs = cc in (same, λ _ h. ne (rw same at h))))
 
   pub found_among : is_ok (search_result k xs) ≡ is_among k xs
   unfolding search_result ◌if◌else◌

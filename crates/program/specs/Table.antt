@@ -199,6 +199,12 @@ registered_in t used row = registered_by opened_row t used row
 abbrev pub registered_alike_in : Slices → ℕ → Row → Slices
 registered_alike_in t used row = registered_by opened_alike t used row
 
+-- where a row is inserted the rows that move are among the used ones, behind which there is room
+abbrev pub HasRoom : Slices → ℕ → RegisterResult → Type 0
+HasRoom t used (Ok (Inserted m)) = (m ≤ used) × Within (used + 1) t
+HasRoom t used (Ok Repeat) = Unit {0}
+HasRoom t used (Err e) = Unit {0}
+
 -- a removal of rank k at a place, from a table of n rows
 unfoldable pub unregister_at : Slices → ℕ → ℕ → ℕ → Option ℕ
 unregister_at t n at k = Some (n - at - 1) if holds t n at k else None

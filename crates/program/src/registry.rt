@@ -61,6 +61,7 @@ impl FunctionRegistry<'_> {
     }
 
     // Registers a row, at the place where the search for its key comes to.
+    #[tactic(auto, using(std::proofs::lemmas::Result::err_from_is_err_and, crate::proofs::Steps::registered_counted))]
     fn register<const ALIKE: bool>(&mut self, row: Row) -> Result<Registered, RegisterError>
         ensures same { SameColumns self.old self.new }
         ensures registers { RegistersBy (opening_of ALIKE) (columns_of self.old) (columns_of self.new) self.old.used row result }
@@ -95,7 +96,7 @@ impl FunctionRegistry<'_> {
     }
 
     // Removes the row of a key, where there is one: how many rows moved. At most the rows lent count.
-    #[tactic(auto, using(crate::proofs::Steps::row_inside))]
+    #[tactic(auto, using(crate::proofs::Steps::row_inside, crate::proofs::Steps::unregister_counted, crate::proofs::Steps::unregistered_counted))]
     pub fn unregister_function(&mut self, key: u32) -> Option<usize>
         ensures same { SameColumns self.old self.new }
         ensures unregisters { Unregisters (columns_of self.old) (columns_of self.new) self.old.used key result }

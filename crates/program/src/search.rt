@@ -1,11 +1,12 @@
 // Searching a slice.
-ghost use Rattle.std.specs.Prelude.{◌≡◌, ◌+◌, ◌≤◌, ◌<◌, eqb, leb, length, position};
+ghost use Rattle.std.specs.Prelude.{MatchResult, ◌≡◌, ◌+◌, ◌≤◌, ◌<◌, eqb, leb, length, position};
 ghost use Rattle.ebpf.specs.Choice.{◌if◌else◌};
 ghost use Rattle.program.specs.Search.{search_result, Halved, left_of, narrowed, PassesTo};
 
 // `half` where a is at most b, else 0.
 // Kept: worked out, since in a loop a test becomes a branch, which is guessed wrong every second time: with
 // `half * (a <= b) as usize` a lookup of an index among 200 rows took 35 % longer.
+#[tactic(auto, using(crate::proofs::Searches::half_where, crate::proofs::Searches::half_fits))]
 fn half_where(half: usize, a: u32, b: u32) -> usize
     ensures { result ≡ (half if leb a b else 0) }
 {
@@ -28,6 +29,7 @@ fn halve(ranks: &[u32], base: usize, half: usize, key: u32) -> usize
 
 // Halves at most sixteen numbers, from `base` on, until one is left: four turns, of which some may find
 // one number already.
+#[tactic(auto, using(crate::proofs::Searches::stays, crate::proofs::Searches::four_turns))]
 fn narrow_few(ranks: &[u32], base: usize, size: usize, key: u32) -> usize
     requires { (0 < size) × (size ≤ 16) × (base + size ≤ length ranks.now) }
     ensures { result ≡ narrowed size key ranks.now base size }
@@ -46,6 +48,7 @@ fn narrow_few(ranks: &[u32], base: usize, size: usize, key: u32) -> usize
 
 // Halves the numbers until one is left: where that one stands.
 // Kept: a turn takes off half of what is left, which no range gives.
+#[tactic(auto, using(crate::proofs::Searches::half_le, crate::proofs::Searches::turn, crate::proofs::Searches::left_within))]
 fn narrow(ranks: &[u32], key: u32) -> usize
     requires { 0 < length ranks.now }
     ensures is { result ≡ left_of key ranks.now }
@@ -67,7 +70,8 @@ fn narrow(ranks: &[u32], key: u32) -> usize
 // an equation there too.
 #[tactic(auto, using(crate::proofs::Searches::search_none, crate::proofs::Searches::search_next, crate::proofs::Searches::search_here, crate::proofs::Searches::search_before))]
 pub(crate) fn binary_search(ranks: &[u32], key: u32) -> Result<usize, usize>
-    ensures { result ≡ search_result key ranks.now }
+    ensures is { result ≡ search_result key ranks.now }
+    ensures inside { MatchResult result (λ at. at < length ranks.now) (λ at. at ≤ length ranks.now) }
 {
     if ranks.is_empty() {
         return Err(0);

@@ -1,6 +1,6 @@
 // A table lent for reading: how many rows count, what a registration answers, and the lookups.
 ghost use Rattle.std.specs.Prelude.{◌≡◌, ◌+◌};
-ghost use Rattle.program.specs.Table.{register_in, lookup_in, lookup_ascending_in, row_ascending_in, index_ascending_in, Within, capacity, counted, row_at, columns_in};
+ghost use Rattle.program.specs.Table.{HasRoom, register_in, lookup_in, lookup_ascending_in, row_ascending_in, index_ascending_in, Within, capacity, counted, row_at, columns_in};
 
 use crate::{FunctionTable, RegisterError, Registered, Row, search};
 
@@ -31,8 +31,10 @@ impl FunctionTable<'_> {
     // What a registration answers, before anything moves. Inlined, since as a call's result it would go
     // through memory.
     #[inline(always)]
+    #[tactic(auto, using(ebpf::specs::Choice::choices, crate::proofs::Steps::register_counted), unfolding(crate::specs::Table::counted))]
     pub(crate) fn answer_of(self, row: Row) -> Result<Registered, RegisterError>
-        ensures { result ≡ register_in (columns_in self.entry) self.entry.used row }
+        ensures is { result ≡ register_in (columns_in self.entry) self.entry.used row }
+        ensures room { HasRoom (columns_in self.entry) self.entry.used result }
     {
         let rows = self.rows_lent();
         let n = self.used.min(rows);
@@ -59,6 +61,7 @@ impl FunctionTable<'_> {
 
     // The first used row with the key, whatever the columns hold: a scan, since the rows need not
     // ascend. At most the rows lent count.
+    #[tactic(auto, using(crate::proofs::Steps::row_within, crate::proofs::Steps::lookup_counted))]
     pub fn lookup_by_key(self, key: u32) -> Option<Row>
         ensures { result ≡ lookup_in (columns_in self.entry) self.entry.used key }
     {
@@ -69,6 +72,7 @@ impl FunctionTable<'_> {
     // The row that a binary search over the used keys comes to, if it has the key. Where the rows
     // ascend, as in every table that a load leaves, this is what `lookup_by_key` answers, in few steps.
     // On other content it may miss a row that is there. At most the rows lent count.
+    #[tactic(auto, using(crate::proofs::Steps::row_inside, crate::proofs::Steps::row_within, crate::proofs::Tables::row_counted))]
     pub fn lookup_ascending(self, key: u32) -> Option<Row>
         ensures { result ≡ lookup_ascending_in (columns_in self.entry) self.entry.used key }
     {

@@ -9,7 +9,7 @@ use borrow.Author.Tests.{le-ltb}
 use Rattle.program.proofs.Cases.{by_le, by_lt}
 use Rattle.loader.specs.Deeds.{is_in}
 use Rattle.loader.proofs.Kept.{not_in, in_places}
-use Rattle.writers.proofs.Slots.{and_off}
+use Rattle.std.proofs.Math.Bool.{and-false}
 
 -- four of them, by the distance
 pub behind : (r n b : ℕ) → r ≤ b → (leb n (b - r) && ltb (b - r) (n + 4)) ≡ is_in (r + n) 4 b
@@ -45,4 +45,4 @@ pub past_all : (start n len b : ℕ) → len ≤ start → (is_in start n b && l
 past_all start n len b h =
     by_lt b start (λ (x : Bool). (is_in start n b && ltb b len) ≡ false)
     (λ l. rw (not_in start n b (inl l)) refl)
-    (λ l. rw (le-ltb b len (omega arith)) (and_off (is_in start n b)))
+    (λ l. rw (le-ltb b len (omega arith)) (and-false (is_in start n b)))

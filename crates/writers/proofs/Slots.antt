@@ -8,6 +8,7 @@ use mathlib.Core.Bool.{Bool, true, false, ◌&&◌}
 use mathlib.Core.Logic.{◌⊎◌, inl, inr}
 use mathlib.Core.List.{List}
 use lib.Dec.{ltb, leb}
+use Rattle.std.proofs.Math.Bool.{and-false}
 use borrow.Author.Tests.{le-leb, lt-leb, lt-ltb, le-ltb}
 use Rattle.ebpf.specs.Choice.{◌if◌else◌}
 use Rattle.program.proofs.Cases.{by_le, by_lt}
@@ -16,14 +17,6 @@ use Rattle.loader.proofs.Kept.{not_in, in_places}
 use Rattle.writers.specs.declared.Writer.TheVariants.{File, Call}
 use Rattle.writers.specs.declared.text.LoadedText.{LoadedText}
 use Rattle.writers.specs.Named.{is_call, immediate_of, slot_of, in_immediate, call_to, last_of}
-
-pub and_off : (x : Bool) → (x && false) ≡ false
-and_off true = refl
-and_off false = refl
-
-pub and_on : (x : Bool) → (x && true) ≡ x
-and_on true = refl
-and_on false = refl
 
 module _ (file : List ℕ) (t : LoadedText) (b : ℕ) where
   -- what is said of slot number i: it has b in its immediate; or b is in none's; or in another one's
@@ -45,13 +38,13 @@ module _ (file : List ℕ) (t : LoadedText) (b : ℕ) where
           by_le t.place.start b (λ (x : Bool). Where i)
           (λ l. by_le 4 ((b - t.place.start) % 8) (λ (x : Bool). Where i)
           (λ m. here (in_places (immediate_of t i) 4 b (omega arith) (omega arith)) (rw (le-leb t.place.start b l, le-leb 4 ((b - t.place.start) % 8) m) refl) q (omega arith) (omega arith))
-          (λ m. nowhere (out (inr (inl (omega arith)))) (rw (lt-leb 4 ((b - t.place.start) % 8) m) (and_off (leb t.place.start b)))))
+          (λ m. nowhere (out (inr (inl (omega arith)))) (rw (lt-leb 4 ((b - t.place.start) % 8) m) (and-false (leb t.place.start b)))))
           (λ l. nowhere (out (inl l)) (rw (lt-leb t.place.start b l) refl))
       go (no q) =
           by_le t.place.start b (λ (x : Bool). Where i)
           (λ l. by_le 4 ((b - t.place.start) % 8) (λ (x : Bool). Where i)
           (λ m. elsewhere (apart l m) (rw (le-leb t.place.start b l, le-leb 4 ((b - t.place.start) % 8) m) refl) q)
-          (λ m. nowhere (low l m) (rw (lt-leb 4 ((b - t.place.start) % 8) m) (and_off (leb t.place.start b)))))
+          (λ m. nowhere (low l m) (rw (lt-leb 4 ((b - t.place.start) % 8) m) (and-false (leb t.place.start b)))))
           (λ l. nowhere (out (inl l)) (rw (lt-leb t.place.start b l) refl))
         where
           apart : t.place.start ≤ b → 4 ≤ (b - t.place.start) % 8 → is_in (immediate_of t i) 4 b ≡ false
@@ -72,7 +65,7 @@ module _ (file : List ℕ) (t : LoadedText) (b : ℕ) where
 
   pub no_slot : call_to file t 0 b ≡ File
   unfolding call_to ◌if◌else◌
-  no_slot = rw (le-ltb (slot_of t b) 0 (omega arith), and_off (in_immediate t b)) refl
+  no_slot = rw (le-ltb (slot_of t b) 0 (omega arith), and-false (in_immediate t b)) refl
 
   -- so the last slot that has it is the only one
   pub last_slot : (n : ℕ) → last_of Call (λ i. is_in (immediate_of t i) 4 b && is_call file t i) n File ≡ call_to file t n b

@@ -1,12 +1,12 @@
 -- What the questions may count on where the text is known, and what the numbers tell. Assumes nothing.
-use Prim.Native.Nat.{ℕ, zero, suc, ◌+◌, ◌≤◌, ◌<◌, ◌^◌}
+use Prim.Native.Nat.{ℕ, zero, suc, ◌+◌, ◌≤◌, ◌^◌}
 use mathlib.Core.Path.{◌≡◌, refl, ap, subst, ◌∙◌}
 use mathlib.Core.Bool.{Bool}
 use mathlib.Core.List.{List}
 use lib.ListN.{length, replicate, length-replicate}
 use lib.Dec.{ltb}
-use borrow.Author.Tests.{ltb-false, lt-ltb, le-ltb}
-use Rattle.ebpf.specs.Choice.{◌if◌else◌, yes as picks, no_go, not_first, row_rest}
+use borrow.Author.Tests.{ltb-false, le-ltb}
+use Rattle.ebpf.specs.Choice.{◌if◌else◌, no_go, not_first, row_rest}
 use Rattle.program.proofs.Cases.{by_test}
 use Rattle.elf_parser.specs.declared.layout.Layout.{Layout}
 use Rattle.elf_parser.specs.Errors.{ok_is}
@@ -65,13 +65,6 @@ module _ (file : List ℕ) (x : LoadedText) (n : ℕ) where
   told p b = 0 if ltb n (length file) else code_by (asked_in file x b p)
 
   module _ (t : Layout) where
-    -- too few numbers
-    pub short_filled : n < length file → Err BufferShort ≡ filled_in (length file) n (Ok t)
-    short_filled h = picks (ltb n (length file)) (Err BufferShort) (Ok tt) (lt-ltb n (length file) h)
-
-    pub short_tells : n < length file → (b : ℕ) → 0 ≡ told (Ok t) b
-    short_tells h b = picks (ltb n (length file)) 0 (code_by (asked_in file x b (Ok t))) (lt-ltb n (length file) h)
-
     -- a number a byte
     pub whole_filled : length file ≤ n → Ok tt ≡ filled_in (length file) n (Ok t)
     whole_filled h = no_go (ltb n (length file)) (Err BufferShort) (Ok tt) (Ok tt) (le-ltb n (length file) h) refl

@@ -1,37 +1,43 @@
--- One relocation behind another: the header used last, the bytes that it names, and the last that names a byte. Assumes nothing.
-use Rattle.std.specs.Prelude.{Option, None}
-use Rattle.loader.specs.declared.relocations.UsedHeader.{UsedHeader}
+-- One relocation behind another: the header used last, and the last relocation that names a byte. Assumes nothing.
+use Rattle.std.specs.Prelude.{None}
 use Prim.Native.Nat.{ℕ, ◌+◌}
-use mathlib.Core.Path.{◌≡◌, refl, sym, ◌∙◌}
-use mathlib.Core.Bool.{Bool}
+use mathlib.Core.Path.{◌≡◌, refl}
+use mathlib.Core.Bool.{Bool, ◌&&◌}
 use mathlib.Core.List.{List}
 use Rattle.ebpf.specs.Choice.{◌if◌else◌}
 use Rattle.elf_parser.specs.declared.layout.Layout.{Layout}
-use Rattle.loader.specs.Relocations.{used_before, used_next}
+use Rattle.loader.specs.Relocations.{used_before}
 use Rattle.writers.specs.declared.Writer.{Writer}
 use Rattle.writers.specs.declared.Writer.TheVariants.{Relocation}
-use Rattle.writers.specs.declared.naming.Next.{Next}
 use Rattle.writers.specs.declared.text.LoadedText.{LoadedText}
-use Rattle.writers.specs.Named.{is_named, names_byte, last_of, NamesNext}
+use Rattle.writers.specs.Named.{names_byte, call_writer, last_of, by_names, count_of}
+use Rattle.writers.specs.Whole.{code_of}
 use Rattle.writers.proofs.Folds.{last_next}
-
-pub last_none : (who : ℕ → Writer) (P : ℕ → Bool) (w : Writer) → last_of who P 0 w ≡ w
-unfolding last_of
-last_none who P w = refl
+use Rattle.writers.proofs.Marking.{later}
 
 pub none_used : (file : List ℕ) (l : Layout) (version2 : Bool) → None ≡ used_before file l version2 0
 unfolding used_before
 none_used file l version2 = refl
 
-module _ (file : List ℕ) (l : Layout) (t : LoadedText) (header : Option UsedHeader) (i : ℕ) (x : Next) (before : header ≡ used_before file l t.version2 i) (goes : NamesNext file l t header i x) where
-  -- the header used last, behind this one
-  pub next_used : x.header ≡ used_before file l t.version2 (i + 1)
-  next_used = rw (goes.used, before) (sym (used_next file l t.version2 i))
+-- who wrote b, with the first n relocations only
+unfoldable pub up_to : List ℕ → Layout → LoadedText → ℕ → ℕ → Writer
+up_to file l t n b = last_of Relocation (λ k. names_byte file l t k b) n (call_writer file t b)
 
-  -- the bytes that it names
-  pub next_names : (b : ℕ) → is_named x.named b ≡ names_byte file l t i b
-  next_names b = goes.names b ∙ rw next_used refl
+module _ (file : List ℕ) (l : Layout) (t : LoadedText) where
+  pub up_none : (b : ℕ) → up_to file l t 0 b ≡ call_writer file t b
+  unfolding up_to last_of
+  up_none b = refl
 
-  -- the last one that names b, with this one
-  pub next_last : (b : ℕ) (w : Writer) → (Relocation i if is_named x.named b else last_of Relocation (λ k. names_byte file l t k b) i w) ≡ last_of Relocation (λ k. names_byte file l t k b) (i + 1) w
-  next_last b w = rw (next_names b) (sym (last_next Relocation (λ k. names_byte file l t k b) i w))
+  -- with one relocation more
+  pub up_next : (i b : ℕ) → up_to file l t (i + 1) b ≡ (Relocation i if names_byte file l t i b else up_to file l t i b)
+  unfolding up_to
+  up_next i b = last_next Relocation (λ k. names_byte file l t k b) i (call_writer file t b)
+
+  -- and with all of them
+  pub up_all : (b : ℕ) → by_names file l t b ≡ up_to file l t (count_of l) b
+  unfolding by_names up_to
+  up_all b = refl
+
+-- its number, where it names the byte, over that of the writer before
+pub later_named : (p l : Bool) (i : ℕ) (w : Writer) → (0x8000_0000 + i if p && l else code_of w if l else 0) ≡ (code_of (Relocation i if p else w) if l else 0)
+later_named p l i w = later p l (Relocation i) w

@@ -29,7 +29,8 @@ use Rattle.writers.specs.declared.text.LoadedText.{LoadedText}
 use Rattle.writers.specs.Named.{is_call, names_byte, call_writer, last_of, by_names}
 use Rattle.writers.specs.Writers.{writer_after, call_deeds, image_of_calls, image_of_all, writer_of}
 use Rattle.writers.proofs.Folds.{image_after_lem, writer_after_lem, kept_after}
-use Rattle.writers.proofs.Slots.{and_off, and_on, last_slot}
+use Rattle.std.proofs.Math.Bool.{and-false, and-true}
+use Rattle.writers.proofs.Slots.{last_slot}
 
 -- the text of a job
 abbrev pub text_is : Job → LoadedText
@@ -55,9 +56,9 @@ module _ (file builtins : List ℕ) (j : Job) where
 
       go : (c : Result (Option ℕ) ElfError) → call_at (text_of file j) j.version2 i ≡ c → stops (call_by builtins j i c) ≡ false
           → (is_in (immediate j i) 4 b && is_call file (text_is j) i) ≡ writes (call_by builtins j i c) b
-      go (Ok None) e s = rw (no_call (is_call file (text_is j) i) refl e) (and_off (is_in (immediate j i) 4 b))
+      go (Ok None) e s = rw (no_call (is_call file (text_is j) i) refl e) (and-false (is_in (immediate j i) 4 b))
       go (Err r) e s = never s
-      go (Ok (Some to)) e s = let q : is_call file (text_is j) i ≡ true = (calls_local file j i to (l, e)).1 in rw q (and_on (is_in (immediate j i) 4 b) ∙ free (row_for builtins j OfIndex to) s)
+      go (Ok (Some to)) e s = let q : is_call file (text_is j) i ≡ true = (calls_local file j i to (l, e)).1 in rw q (and-true (is_in (immediate j i) 4 b) ∙ free (row_for builtins j OfIndex to) s)
 
   module _ (inside : InFile file j) (im' : List ℕ) (ends : Ends (job_trace file builtins j file) im') where
     calls_image : (parts file builtins j inside im' ends).0 ≡ image_of_calls file builtins j

@@ -56,6 +56,7 @@ pub fn who_wrote(
 }
 
 // A load, and who wrote a byte of its image.
+#[tactic(auto, using(crate::proofs::Agreeing::agrees, crate::proofs::Agreeing::kept))]
 pub fn load_who_wrote(
     file: &[u8],
     loader: BuiltinProgram<'_>,
@@ -77,7 +78,7 @@ pub fn load_who_wrote(
 }
 
 // In numbers that are zero.
-#[tactic(auto, using(crate::proofs::Telling::askable))]
+#[tactic(auto, using(ebpf::specs::Choice::choices, crate::proofs::Telling::askable, std::proofs::lemmas::Result::err_from_is_err_and, crate::proofs::Marking::only_zero, crate::proofs::Marking::zeros_front))]
 fn fill_by(numbers: &mut [u32], file: &[u8], loaded: LoadedText) -> Result<(), ElfError>
     requires { OnlyZeros numbers.old }
     ensures { FillsBy file loaded numbers result }

@@ -92,7 +92,7 @@ pub(crate) fn relocation_count(layout: Layout) -> u32
 }
 
 // The last relocation that names the byte, else the call that has it in its immediate, else the file.
-#[tactic(auto, using(crate::proofs::Turns::last_none, crate::proofs::Turns::none_used), unfolding(crate::specs::Named::by_names))]
+#[tactic(auto, using(ebpf::specs::Choice::choices, crate::proofs::Turns::none_used, loader::specs::Relocations::used_next, crate::proofs::Turns::up_none, crate::proofs::Turns::up_next, crate::proofs::Turns::up_all))]
 pub(crate) fn last_naming(text: &Text<'_>, b: u64) -> Writer
     requires { b < length text.now.elf.file.now }
     ensures { result ≡ by_names text.now.elf.file.now text.now.elf.layout text.now.loaded b }

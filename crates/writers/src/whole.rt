@@ -10,6 +10,7 @@ use crate::text::Text;
 use elf_parser::Elf64;
 
 // `code` at a place, if there is such a number.
+#[tactic(auto, using(ebpf::specs::Choice::choices, crate::proofs::Places::past_all))]
 fn mark_one(numbers: &mut [u32], at: usize, code: u32)
     ensures { Marks (is_in at 1) code numbers }
 {
@@ -19,6 +20,7 @@ fn mark_one(numbers: &mut [u32], at: usize, code: u32)
 }
 
 // `code` at the four places from the `n`th behind `r` on, as far as there are numbers.
+#[tactic(auto, using(ebpf::specs::Choice::choices, crate::proofs::Places::past_all, crate::proofs::Places::no_places, crate::proofs::Places::parts, crate::proofs::Marking::either))]
 fn mark_four(numbers: &mut [u32], r: u64, n: usize, code: u32)
     requires { n ≤ 12 }
     ensures { Marks (is_in (r + n) 4) code numbers }
@@ -32,7 +34,7 @@ fn mark_four(numbers: &mut [u32], r: u64, n: usize, code: u32)
 }
 
 // `code` for each byte that a relocation names, if it names any.
-#[tactic(auto, using(crate::proofs::Marking::named_immediate))]
+#[tactic(auto, using(ebpf::specs::Choice::choices, crate::proofs::Places::parts, crate::proofs::Places::eight, crate::proofs::Marking::either))]
 fn mark_named(numbers: &mut [u32], named: Option<Named>, code: u32)
     ensures { Marks (is_named named) code numbers }
 {
@@ -51,7 +53,7 @@ fn mark_named(numbers: &mut [u32], named: Option<Named>, code: u32)
 }
 
 // Slot number `i`, for the bytes of its immediate, if it is a local call.
-#[tactic(auto, using(crate::proofs::Marking::marked_if))]
+#[tactic(auto, using(ebpf::specs::Choice::choices))]
 fn mark_call(numbers: &mut [u32], text: &Text<'_>, i: usize)
     requires { i < 2 ^ 24 }
     ensures { Marks (λ b. is_in (immediate_of text.now.loaded i) 4 b && is_call text.now.elf.file.now text.now.loaded i) (i + 1) numbers }
@@ -63,6 +65,7 @@ fn mark_call(numbers: &mut [u32], text: &Text<'_>, i: usize)
 }
 
 // The calls of all slots, in numbers that are zero.
+#[tactic(auto, using(ebpf::specs::Choice::choices, crate::proofs::Slots::no_slot, crate::proofs::Slots::call_next, crate::proofs::Marking::later, crate::proofs::Marking::only_zero))]
 fn mark_calls(numbers: &mut [u32], text: &Text<'_>)
     requires { OnlyZeros numbers.old }
     ensures { HoldsCalls text.now.elf.file.now text.now.loaded numbers }
@@ -73,6 +76,7 @@ fn mark_calls(numbers: &mut [u32], text: &Text<'_>)
 }
 
 // The calls of all slots, and then all relocations in turn, in numbers that are zero.
+#[tactic(auto, using(crate::proofs::Turns::later_named, crate::proofs::Turns::none_used, loader::specs::Relocations::used_next, crate::proofs::Turns::up_none, crate::proofs::Turns::up_next, crate::proofs::Turns::up_all))]
 pub(crate) fn mark_all(numbers: &mut [u32], text: &Text<'_>)
     requires { OnlyZeros numbers.old }
     ensures { HoldsAll text.now.elf.file.now text.now.elf.layout text.now.loaded numbers }

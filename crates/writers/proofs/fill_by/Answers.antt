@@ -1,35 +1,13 @@
 -- `writers::fill_by` meets its contract: by the text, if there is one, and how many numbers are lent.
 -- Assumes nothing.
-use mathlib.Core.Path.{◌≡◌, refl, sym, ◌∙◌}
+use mathlib.Core.Path.{◌≡◌, sym, ◌∙◌}
 use lib.ListN.{length}
 use Rattle.elf_parser.specs.declared.layout.Layout.{Layout}
-use Rattle.std.specs.Prelude.{Ok, Err}
-use Rattle.std.proofs.lemmas.Result.{err_from_is_err_and}
+use Rattle.std.specs.Prelude.{Ok}
 use Rattle.writers.specs.Asked.{text_of}
-use lib.Dec.{ltb}
-use Rattle.writers.proofs.Marking.{only_zero, zeros_front, joined_long, joined_at}
-use Rattle.writers.proofs.Telling.{short_filled, short_tells, whole_filled, whole_tells}
+use Rattle.writers.proofs.Marking.{joined_long, joined_at}
+use Rattle.writers.proofs.Telling.{whole_filled, whole_tells}
 use Rattle.writers.proofs.fill_by.Goals as goal
-
-pub returns-then-numbers-file : goal.returns-then-numbers-file
-returns-then-numbers-file c =
-    let l : Layout = c.in_ok-layout.layout in
-    let e : text_of c.args.file.now c.args.loaded ≡ Ok l = sym c.layout_of.ensures ∙ c.in_ok-layout.was in
-    record {
-      answers = rw e (short_filled c.args.file.now c.args.loaded (length c.args.numbers.now) l c.if-numbers-file.true);
-      length_as = refl;
-      tells = λ b. rw e (c.requires b ∙ short_tells c.args.file.now c.args.loaded (length c.args.numbers.now) l c.if-numbers-file.true b);
-    }
-
-pub returns-in_err-layout : goal.returns-in_err-layout
-returns-in_err-layout c =
-    let e : text_of c.args.file.now c.args.loaded ≡ Err _ = sym c.layout_of.ensures ∙ c.in_err-layout.was in
-    let p = err_from_is_err_and c.from_residual.result c.from_residual.ensures.1 in
-    record {
-      answers = rw (p.1, p.2, e) refl;
-      length_as = refl;
-      tells = λ b. rw e (c.requires b ∙ only_zero (ltb (length c.args.numbers.now) (length c.args.file.now)));
-    }
 
 pub returns : goal.returns
 returns c =
@@ -40,6 +18,3 @@ returns c =
       length_as = joined_long _ _ _ _ c.if-numbers-file.false c.requires c.mark_all.ensures;
       tells = λ b. rw e (joined_at _ _ _ _ c.if-numbers-file.false c.requires c.mark_all.ensures b ∙ whole_tells c.args.file.now c.args.loaded (length c.args.numbers.now) l c.if-numbers-file.false b);
     }
-
-pub mark_all-requires : goal.mark_all-requires
-mark_all-requires c = zeros_front _ _ c.requires

@@ -2,10 +2,9 @@
 -- Assumes nothing.
 use mathlib.Core.Path.{◌≡◌}
 use Rattle.loader.specs.Relocations.{used_before}
-use Rattle.writers.specs.declared.Writer.TheVariants.{Relocation}
-use Rattle.writers.specs.Named.{names_byte, call_writer, last_of}
+use Rattle.writers.proofs.Turns.{up_to}
 use Rattle.writers.proofs.naming.last_naming.Given as goal
 
 abbrev pub invariant-loop-i : goal.invariant-loop-i
 invariant-loop-i l =
-    (l.header ≡ used_before l.text.elf.file.now l.text.elf.layout l.text.loaded.version2 l.i) × (l.writer ≡ last_of Relocation (λ k. names_byte l.text.elf.file.now l.text.elf.layout l.text.loaded k l.b) l.i (call_writer l.text.elf.file.now l.text.loaded l.b))
+    (l.header ≡ used_before l.text.elf.file.now l.text.elf.layout l.text.loaded.version2 l.i) × (l.writer ≡ up_to l.text.elf.file.now l.text.elf.layout l.text.loaded l.i l.b)

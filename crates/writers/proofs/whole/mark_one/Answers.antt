@@ -1,10 +1,8 @@
--- `writers::whole::mark_one` meets its contract: the place is marked by a store, or is none of them.
--- Assumes nothing.
-use Rattle.writers.proofs.Marking.{marked_one, marked_past}
+-- `writers::whole::mark_one` meets its contract: the place is marked by a store. Assumes nothing.
+use lib.ListN.{length-set}
+use Rattle.writers.proofs.Marking.{one_at}
 use Rattle.writers.proofs.whole.mark_one.Goals as goal
 
 pub returns-then-at-numbers : goal.returns-then-at-numbers
-returns-then-at-numbers c = marked_one c.args.code c.args.numbers.now c.args.at c.if-at-numbers.true
-
-pub returns-else-at-numbers : goal.returns-else-at-numbers
-returns-else-at-numbers c = marked_past c.args.code c.args.numbers.now c.args.at 1 c.if-at-numbers.false
+returns-then-at-numbers c =
+    record { length_as = length-set c.args.numbers.now c.args.at c.args.code; at = λ b. one_at c.args.code c.args.numbers.now c.args.at b c.if-at-numbers.true }
