@@ -8,12 +8,9 @@ use Rattle.loader.specs.Labels.{label_symbols, label_trace}
 use Rattle.loader.specs.InnerContracts.{SettlesTo, held_of}
 use Rattle.loader.proofs.Performing.{refuses}
 use Rattle.loader.proofs.Turns.{label_settles, deed_fits, more_labels, no_more_labels}
-use Rattle.loader.proofs.Going.{keeps_all, keeps_on, over_start, over_begins, over_stop, over_on, over_done}
+use Rattle.loader.proofs.Going.{keeps_on, over_begins, over_stop, over_on, over_done}
 use Rattle.loader.proofs.labelling.register_labels.Goals.{After-perform}
 use Rattle.loader.proofs.labelling.register_labels.Goals as goal
-
-pub loop-i-init : goal.loop-i-init
-loop-i-init c = (keeps_all c.args.out.now, over_start (label_trace c.args.inputs.now.file.now c.args.inputs.now.builtins.now c.args.inputs.now.job) (label_symbols c.args.inputs.now.file.now c.args.inputs.now.job).count c.args.out.now c.requires.1)
 
 pub returns-in_err-deed-clause-settles : goal.returns-in_err-deed-clause-settles
 returns-in_err-deed-clause-settles c =

@@ -15,9 +15,6 @@ loop-i-init c =
     let e : c.args.count - 0 ≡ c.args.count = omega arith in
     (omega arith, rw c.no_survey-v.ensures (omega arith), rw (e, c.no_survey-v.ensures) refl, rw (e, c.no_extent.ensures) (gather_all c.args.elf.now.file.now c.args.elf.now.layout c.args.rules.version2 c.args.rules.config.reject_broken_elfs c.args.count))
 
-pub survey_next-surveyed-requires : goal.survey_next-surveyed-requires
-survey_next-surveyed-requires c = (c.loop-i.invariant.1, omega arith)
-
 pub loop-i-preserved : goal.loop-i-preserved
 unfolding survey_step
 loop-i-preserved c =
