@@ -11,6 +11,8 @@ use Rattle.program.proofs.Tables.{same_refl, same_trans, capacity_same}
 use Rattle.loader.specs.declared.error.ElfError.{ElfError}
 use Rattle.loader.specs.Deeds.{Held}
 use Rattle.std.specs.Prelude.{Result, Ok, Err}
+use Rattle.std.specs.Result.{IsErrAnd}
+use Rattle.std.proofs.lemmas.Result.{err_from_is_err_and}
 use Rattle.loader.specs.Deeds.{holding}
 use Rattle.loader.specs.Trace.{Trace, and_then, each, refused, settle, settle_and_then}
 use Rattle.loader.specs.CallLoop.{Leads}
@@ -201,6 +203,10 @@ GoingOver step n o₀ o i = Going step n o₀.image.now o.image.now (columns_of 
 pub answered : (T : Trace) (n : ℕ) (o o' : Outputs) (a b : Result (Unit {0}) ElfError) → SettlesTo T n o o' a → a ≡ b → SettlesTo T n o o' b
 answered T n o o' a b did is = subst (λ (x : Result (Unit {0}) ElfError). SettlesTo T n o o' x) is did
 
+-- a refusal that `?` hands on
+pub handed_on : (T : Trace) (n : ℕ) (o o' : Outputs) (b : Result (Unit {0}) ElfError) (r : ElfError) → IsErrAnd b (λ x. x ≡ r) → SettlesTo T n o o' (Err r) → SettlesTo T n o o' b
+handed_on T n o o' b r to did = let p = err_from_is_err_and b to in rw (p.1, p.2) did
+
 pub over_start : (step : ℕ → List ℕ → Trace) (n : ℕ) (o : Outputs) → Begins n o → GoingOver step n o o 0
 over_start step n o b = going_start step n o.image.now (columns_of o.registry.now) o.registry.now.used o.moves b
 
@@ -233,8 +239,10 @@ keeps_on o o₁ o' p q = record {
 
 -- two parts over a load's outputs
 module _ (T : Trace) (K : List ℕ → Trace) (o o₁ : Outputs) (n m : ℕ) where
-  pub part_stop : (a : Result (Unit {0}) ElfError) (r : ElfError) → a ≡ Err r → SettlesTo T n o o₁ a → SettlesTo (and_then T K) (n + m) o o₁ (Err r)
-  part_stop a r is did = settles_stop T K o₁.image.now o₁.image.now (columns_of o.registry.now) (columns_of o₁.registry.now) (columns_of o₁.registry.now) n (n + m) o.registry.now.used o.moves r (answered T n o o₁ a (Err r) did is)
+  pub part_stop : (a b : Result (Unit {0}) ElfError) (r : ElfError) → a ≡ Err r → SettlesTo T n o o₁ a → IsErrAnd b (λ x. x ≡ r) → SettlesTo (and_then T K) (n + m) o o₁ b
+  part_stop a b r is did to =
+      handed_on (and_then T K) (n + m) o o₁ b r to
+      (settles_stop T K o₁.image.now o₁.image.now (columns_of o.registry.now) (columns_of o₁.registry.now) (columns_of o₁.registry.now) n (n + m) o.registry.now.used o.moves r (answered T n o o₁ a (Err r) did is))
 
   pub first_begins : Begins (n + m) o → Begins n o
   first_begins b = begins_fewer n m (columns_of o.registry.now) o.registry.now.used o.moves b

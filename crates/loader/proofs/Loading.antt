@@ -118,12 +118,12 @@ all_few file j f =
     let k = few_symbols file j in
     omega (arith, k, f.text, f.short, f.relocations, f.relas)
 
-pub begins_all : (file : List ℕ) (j : Job) (t : Slices) → InFile file j → t ≡ lay t [] → BeginsIn (all_count file j) t 0 0
-begins_all file j t f z =
+pub begins_all : (file : List ℕ) (j : Job) (t : Slices) (used : ℕ) → InFile file j → t ≡ lay t [] → used ≡ 0 → BeginsIn (all_count file j) t used 0
+begins_all file j t used f z e =
     let few = all_few file j f in
     record {
-      ready = ready_none t z;
-      room = record { few = omega (arith, few); moved = omega (arith, few) };
+      ready = rw e (ready_none t z);
+      room = record { few = omega (arith, few, e); moved = omega (arith, few) };
     }
 
 -- ---- the image with everything behind its first n bytes cleared

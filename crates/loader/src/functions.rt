@@ -23,6 +23,7 @@ impl<'a> Inputs<'a> {
 }
 
 // By the lent table of keys, where it is right (`Keyed`).
+#[tactic(auto, using(crate::proofs::Rowing::same_row), unfolding(crate::specs::Functions::row_for))]
 pub(crate) fn row_for(
     inputs: &Inputs<'_>,
     name: FunctionName,
