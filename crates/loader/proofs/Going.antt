@@ -218,8 +218,10 @@ module _ (step : ℕ → List ℕ → Trace) (n : ℕ) (o₀ o : Outputs) (i : �
   over_begins = going_begins step n o₀.image.now o.image.now (columns_of o₀.registry.now) (columns_of o.registry.now) o₀.registry.now.used o₀.moves o.registry.now.used o.moves i begins going
 
   module _ (more : i < n) (o' : Outputs) where
-    pub over_stop : (a : Result (Unit {0}) ElfError) (r : ElfError) → a ≡ Err r → SettlesTo (step i o.image.now) 1 o o' a → SettlesTo (each step n 0 o₀.image.now) n o₀ o' (Err r)
-    over_stop a r is did = going_stop step n o₀.image.now o.image.now (columns_of o₀.registry.now) (columns_of o.registry.now) o₀.registry.now.used o₀.moves o.registry.now.used o.moves i begins going more o'.image.now (columns_of o'.registry.now) r (answered (step i o.image.now) 1 o o' a (Err r) did is)
+    pub over_stop : (a b : Result (Unit {0}) ElfError) (r : ElfError) → a ≡ Err r → SettlesTo (step i o.image.now) 1 o o' a → IsErrAnd b (λ x. x ≡ r) → SettlesTo (each step n 0 o₀.image.now) n o₀ o' b
+    over_stop a b r is did to =
+        handed_on (each step n 0 o₀.image.now) n o₀ o' b r to
+        (going_stop step n o₀.image.now o.image.now (columns_of o₀.registry.now) (columns_of o.registry.now) o₀.registry.now.used o₀.moves o.registry.now.used o.moves i begins going more o'.image.now (columns_of o'.registry.now) r (answered (step i o.image.now) 1 o o' a (Err r) did is))
 
     pub over_on : Keeps o o' → (a : Result (Unit {0}) ElfError) → a ≡ Ok tt → SettlesTo (step i o.image.now) 1 o o' a → GoingOver step n o₀ o' (i + 1)
     over_on keeps a is did = going_on step n o₀.image.now o.image.now (columns_of o₀.registry.now) (columns_of o.registry.now) o₀.registry.now.used o₀.moves o.registry.now.used o.moves i begins going more o'.image.now (columns_of o'.registry.now) o'.registry.now.used o'.moves keeps.table_as keeps.image_as (answered (step i o.image.now) 1 o o' a (Ok tt) did is)

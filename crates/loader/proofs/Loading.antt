@@ -10,6 +10,7 @@ use borrow.Rule.Slice.PartMut.{mid_of, post_of, put_mid, same_len_mid, mid_len, 
 use Rattle.program.specs.Table.{Slices, columns_of, capacity, lay, rows_of}
 use Rattle.program.proofs.Laying.{length_rows}
 use Rattle.std.specs.Prelude.{Result, Ok, Err}
+use Rattle.std.specs.Result.{IsErrAnd}
 use Rattle.program.specs.Table.{SameLens}
 use Rattle.program.proofs.Tables.{capacity_same, lay_same, same_lay, ready_none}
 use Rattle.loader.specs.declared.read_only.Placing.TheVariants.{Borrowed, Owned}
@@ -29,7 +30,7 @@ use Rattle.loader.specs.Load.{all_count, placed_by, after_placing, Cleared, plac
 use Rattle.loader.specs.InnerContracts.{outcome, BeginsIn, Keeps, Settles, SettlesTo, held_of}
 use Rattle.loader.specs.InFile.{InFile}
 use Rattle.loader.specs.declared.deeds.Outputs.{Outputs}
-use Rattle.loader.proofs.Going.{settles_stop, settles_then, answered}
+use Rattle.loader.proofs.Going.{settles_stop, settles_then, answered, handed_on}
 use Rattle.loader.proofs.Readied.{readied, placed_as}
 use Rattle.loader.proofs.Front.{copied_front}
 
@@ -87,9 +88,9 @@ placed_not p r used moves e = rw e refl
 
 -- over a load's outputs
 module _ (file builtins : List ℕ) (j : Job) (im : List ℕ) (o o₁ : Outputs) (n m : ℕ) where
-  pub job_stop : (a : Result (Unit {0}) ElfError) (r : ElfError) → a ≡ Err r → SettlesTo (writing_trace file builtins j im) n o o₁ a → SettlesTo (job_trace file builtins j im) (n + m) o o₁ (Err r)
-  job_stop a r is did =
-      parts_stop file builtins j im o₁.image.now (columns_of o.registry.now) (columns_of o₁.registry.now) n m o.registry.now.used o.moves r (answered (writing_trace file builtins j im) n o o₁ a (Err r) did is)
+  pub job_stop : (a b : Result (Unit {0}) ElfError) (r : ElfError) → a ≡ Err r → SettlesTo (writing_trace file builtins j im) n o o₁ a → IsErrAnd b (λ x. x ≡ r) → SettlesTo (job_trace file builtins j im) (n + m) o o₁ b
+  job_stop a b r is did to =
+      handed_on (job_trace file builtins j im) (n + m) o o₁ b r to (parts_stop file builtins j im o₁.image.now (columns_of o.registry.now) (columns_of o₁.registry.now) n m o.registry.now.used o.moves r (answered (writing_trace file builtins j im) n o o₁ a (Err r) did is))
 
   -- behind a first pair of parts that was held
   module _ (keeps : Keeps o o₁) (a₁ : Result (Unit {0}) ElfError) (is₁ : a₁ ≡ Ok tt) (first : SettlesTo (writing_trace file builtins j im) n o o₁ a₁)
@@ -102,11 +103,11 @@ module _ (file builtins : List ℕ) (j : Job) (im : List ℕ) (o o₁ : Outputs)
         e
 
     -- the second pair of parts is refused; or the placing is; or neither
-    pub job_refused : (r : ElfError) → a₂ ≡ Err r → SettlesTo (job_trace file builtins j im) (n + m) o o₂ (Err r)
-    job_refused r is₂ = job_all (Err r) (Err r) is₂ refl
+    pub job_refused : (b : Result (Unit {0}) ElfError) (r : ElfError) → a₂ ≡ Err r → IsErrAnd b (λ x. x ≡ r) → SettlesTo (job_trace file builtins j im) (n + m) o o₂ b
+    job_refused b r is₂ to = handed_on (job_trace file builtins j im) (n + m) o o₂ b r to (job_all (Err r) (Err r) is₂ refl)
 
-    pub job_unplaced : (r : ElfError) → a₂ ≡ Ok tt → j.placing ≡ Err r → SettlesTo (job_trace file builtins j im) (n + m) o o₂ (Err r)
-    job_unplaced r is₂ e = job_all (Ok tt) (Err r) is₂ (placed_not j.placing r o₂.registry.now.used o₂.moves e)
+    pub job_unplaced : (b : Result (Unit {0}) ElfError) (r : ElfError) → a₂ ≡ Ok tt → j.placing ≡ Err r → IsErrAnd b (λ x. x ≡ r) → SettlesTo (job_trace file builtins j im) (n + m) o o₂ b
+    job_unplaced b r is₂ e to = handed_on (job_trace file builtins j im) (n + m) o o₂ b r to (job_all (Ok tt) (Err r) is₂ (placed_not j.placing r o₂.registry.now.used o₂.moves e))
 
     pub job_placed : (p : Placing) → a₂ ≡ Ok tt → j.placing ≡ Ok p → SettlesTo (job_trace file builtins j im) (n + m) o o₂ (Ok tt)
     job_placed p is₂ e = job_all (Ok tt) (Ok tt) is₂ (placed_held j.placing p o₂.registry.now.used o₂.moves e)
