@@ -11,6 +11,7 @@ use Rattle.program.specs.Table.{Slices, columns_of, capacity, lay, rows_of}
 use Rattle.program.proofs.Laying.{length_rows}
 use Rattle.std.specs.Prelude.{Result, Ok, Err}
 use Rattle.std.specs.Result.{IsErrAnd}
+use Rattle.std.proofs.lemmas.Result.{err_from_is_err_and}
 use Rattle.program.specs.Table.{SameLens}
 use Rattle.program.proofs.Tables.{capacity_same, lay_same, same_lay, ready_none}
 use Rattle.loader.specs.declared.read_only.Placing.TheVariants.{Borrowed, Owned}
@@ -154,6 +155,13 @@ module _ (n : ℕ) (im z : List ℕ) (fits : n ≤ length im) (clear : z ≡ rep
 
 -- ---- the attempt
 
+module _ (file builtins : List ℕ) (c : Config) (n m : ℕ) (j : Job) (p : Result Job ElfError) (is : p ≡ prepared file builtins c n m) (ready : p ≡ Ok j) where
+  pub file_fits : length file ≤ n
+  file_fits = (readied file builtins c n m j (sym is ∙ ready)).1
+
+  pub file_ready : InFile file j
+  file_ready = (readied file builtins c n m j (sym is ∙ ready)).0
+
 -- cleared columns are as long as they were, and an empty table
 pub cleared_lens : (t t₁ : Slices) → t₁ ≡ lay t [] → SameLens t t₁
 cleared_lens t t₁ laid = rw laid (same_lay t [] zero-le)
@@ -174,18 +182,15 @@ module _ (file builtins : List ℕ) (c : Config) (im ro : List ℕ) (t : Slices)
     unfolding load_of
     prepared_as q e = ap (on_prepared file builtins (length ro) (capacity t)) (sym is ∙ e)
 
-    pub load_stops : (r : ElfError) → p ≡ Err r → whole ≡ refuses r
-    load_stops r e = prepared_as (Err r) e
+    pub load_stops : (r : ElfError) (im' ro' : List ℕ) (t' : Slices) (b : Result Accepted ElfError) → p ≡ Err r → IsErrAnd b (λ x. x ≡ r) → Tried whole im ro t im' ro' t' b
+    load_stops r im' ro' t' b e to = let k = err_from_is_err_and b to in rw (k.1, k.2) (prepared_as (Err r) e)
 
     module _ (j : Job) (ready : p ≡ Ok j) where
-      pub job_in_file : InFile file j
+      job_in_file : InFile file j
       job_in_file = (readied file builtins c (length im) (length ro) j (sym is ∙ ready)).0
 
       ro_fits : length file ≤ length ro
       ro_fits = (readied file builtins c (length im) (length ro) j (sym is ∙ ready)).2
-
-      pub file_fits : length file ≤ length im
-      file_fits = (readied file builtins c (length im) (length ro) j (sym is ∙ ready)).1
 
       -- the slices cleared but for the image's front: ro₁ and t₁, and zeros behind the front; then filled: q the front, ro₂ and t₂
       module _ (ro₁ : List ℕ) (t₁ : Slices) (ro-zeros : ro₁ ≡ replicate (length ro) 0) (lens : SameLens t t₁) (rest : List ℕ) (zeros : rest ≡ replicate (length im - length file) 0) (q ro₂ : List ℕ) (t₂ : Slices) (len : length q ≡ length file) (lens₂ : SameLens t₁ t₂) where
@@ -222,8 +227,21 @@ module _ (file builtins : List ℕ) (c : Config) (im ro : List ℕ) (t : Slices)
         tried_as n (Err r) did b = settled n (Err r) did
         tried_as n (Ok kept) did b = held kept.used kept.moves j.placing did.sound.laid (settled n (holding kept.used kept.moves) did) b refl
 
-        pub tried : (n : ℕ) (b : Result Accepted ElfError) → (a : Result Held ElfError) × (b ≡ answer_for a j) × Settles (job_trace file builtins j file) q t₁ t₂ n 0 0 a × HeldBytes a ro₂ (placed_bytes file j.layout j.placing q ro₁) → Tried whole im ro t (q ++ rest) ro₂ t₂ b
+        tried : (n : ℕ) (b : Result Accepted ElfError) → (a : Result Held ElfError) × (b ≡ answer_for a j) × Settles (job_trace file builtins j file) q t₁ t₂ n 0 0 a × HeldBytes a ro₂ (placed_bytes file j.layout j.placing q ro₁) → Tried whole im ro t (q ++ rest) ro₂ t₂ b
         tried n b did = subst (Tried whole im ro t (q ++ rest) ro₂ t₂) (sym did.1) (tried_as n did.0 did.2 did.3)
+
+      -- everything cleared but for the image's front, where z is what is left of the rest, and then filled
+      pub attempted : (z ro₁ : List ℕ) (t₁ : Slices)
+          → Cleared (mid_of (length file) (length im - length file) im) ro t z ro₁ t₁
+          → (q ro₂ : List ℕ) (t₂ : Slices)
+          → length q ≡ length (take (length file) (put_mid (length file) (length im - length file) im z))
+          → SameLens t₁ t₂
+          → (n : ℕ) (b : Result Accepted ElfError)
+          → (a : Result Held ElfError) × (b ≡ answer_for a j) × Settles (job_trace file builtins j file) q t₁ t₂ n 0 0 a × HeldBytes a ro₂ (placed_bytes file j.layout j.placing q ro₁)
+          → Tried whole im ro t (q ++ drop (length file) (put_mid (length file) (length im - length file) im z)) ro₂ t₂ b
+      attempted z ro₁ t₁ clears q ro₂ t₂ len lens₂ n b did =
+          let fits : length file ≤ length im = file_fits file builtins c (length im) (length ro) j p is ready in
+          tried ro₁ t₁ clears.readonly (cleared_lens t t₁ clears.table) _ (behind_rest (length file) im z fits clears.image) q ro₂ t₂ (len ∙ behind_front (length file) im z fits clears.image) lens₂ n b did
 
 -- ---- the end: an attempt that is refused, and cleared
 
