@@ -28,7 +28,7 @@ pub loop-i-preserved : goal.loop-i-preserved
 loop-i-preserved c = (
   keeps_on _ _ _ c.loop-i.invariant.0 c.perform.ensures.keeps,
   over_on _ _ c.args.out.now c.loop-i.out _ c.requires.1 c.loop-i.invariant.1 (rw c.label_symbols-symbols.ensures at c.loop-i-test.true) c.perform.new.self c.perform.ensures.keeps _ c.in_ok-perform.was
-  (label_settles _ _ _ _ _ c.label_symbols-symbols.ensures c.loop-i.out c.perform.new.self _ (sym c.in_ok-deed.was ∙ c.label_deed.ensures) c.perform.ensures.settles),
+      (label_settles _ _ _ _ _ c.label_symbols-symbols.ensures c.loop-i.out c.perform.new.self _ (sym c.in_ok-deed.was ∙ c.label_deed.ensures) c.perform.ensures.settles),
 )
 
 pub returns-clause-settles : goal.returns-clause-settles

@@ -28,7 +28,7 @@ pub loop-i-preserved : goal.loop-i-preserved
 loop-i-preserved c = (
   keeps_on _ _ _ c.loop-i.invariant.0 c.perform.ensures.keeps,
   over_on _ _ c.args.out.now c.loop-i.out _ c.requires.1 c.loop-i.invariant.1 c.loop-i-test.true c.perform.new.self c.perform.ensures.keeps _ c.in_ok-perform.was
-  (relocation_settles c.args.inputs.now _ _ _ _ c.loop-i.invariant.2 _ c.elf-elf.ensures c.relocation_at-r.ensures c.used_header-header.ensures c.loop-i.out c.perform.new.self _ _ c.image.ensures (sym c.in_ok-deed.was ∙ c.plan_relocation.ensures) c.perform.ensures.settles),
+      (relocation_settles c.args.inputs.now _ _ _ _ c.loop-i.invariant.2 _ c.elf-elf.ensures c.relocation_at-r.ensures c.used_header-header.ensures c.loop-i.out c.perform.new.self _ _ c.image.ensures (sym c.in_ok-deed.was ∙ c.plan_relocation.ensures) c.perform.ensures.settles),
   header_next c.args.inputs.now _ _ _ _ c.loop-i.invariant.2 _ c.elf-elf.ensures c.relocation_at-r.ensures c.used_header-header.ensures,
 )
 
