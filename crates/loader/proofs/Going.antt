@@ -246,12 +246,6 @@ module _ (T : Trace) (K : List ℕ → Trace) (o o₁ : Outputs) (n m : ℕ) whe
       handed_on (and_then T K) (n + m) o o₁ b r to
       (settles_stop T K o₁.image.now o₁.image.now (columns_of o.registry.now) (columns_of o₁.registry.now) (columns_of o₁.registry.now) n (n + m) o.registry.now.used o.moves r (answered T n o o₁ a (Err r) did is))
 
-  pub first_begins : Begins (n + m) o → Begins n o
-  first_begins b = begins_fewer n m (columns_of o.registry.now) o.registry.now.used o.moves b
-
   module _ (keeps : Keeps o o₁) (a : Result (Unit {0}) ElfError) (is : a ≡ Ok tt) (did : SettlesTo T n o o₁ a) where
-    pub part_begins : Begins (n + m) o → Begins m o₁
-    part_begins = begins_then T K o₁.image.now o₁.image.now (columns_of o.registry.now) (columns_of o₁.registry.now) (columns_of o₁.registry.now) n m o.registry.now.used o.moves o₁.registry.now.used o₁.moves keeps.table_as (answered T n o o₁ a (Ok tt) did is)
-
     pub part_then : (o' : Outputs) (b : Result (Unit {0}) ElfError) → SettlesTo (K o₁.image.now) m o₁ o' b → SettlesTo (and_then T K) (n + m) o o' b
     part_then o' b next = settles_then T K o₁.image.now o'.image.now (columns_of o.registry.now) (columns_of o₁.registry.now) (columns_of o'.registry.now) n m o.registry.now.used o.moves o₁.registry.now.used o₁.moves keeps.table_as (answered T n o o₁ a (Ok tt) did is) (held_of b o') next
