@@ -207,9 +207,6 @@ answered T n o o' a b did is = subst (λ (x : Result (Unit {0}) ElfError). Settl
 pub handed_on : (T : Trace) (n : ℕ) (o o' : Outputs) (b : Result (Unit {0}) ElfError) (r : ElfError) → IsErrAnd b (λ x. x ≡ r) → SettlesTo T n o o' (Err r) → SettlesTo T n o o' b
 handed_on T n o o' b r to did = let p = err_from_is_err_and b to in rw (p.1, p.2) did
 
-pub over_start : (step : ℕ → List ℕ → Trace) (n : ℕ) (o : Outputs) → Begins n o → GoingOver step n o o 0
-over_start step n o b = going_start step n o.image.now (columns_of o.registry.now) o.registry.now.used o.moves b
-
 module _ (step : ℕ → List ℕ → Trace) (n : ℕ) (o₀ o : Outputs) (i : ℕ) (begins : Begins n o₀) (going : GoingOver step n o₀ o i) where
   pub over_done : n ≤ i → SettlesTo (each step n 0 o₀.image.now) n o₀ o (Ok tt)
   over_done = going_done step n o₀.image.now o.image.now (columns_of o₀.registry.now) (columns_of o.registry.now) o₀.registry.now.used o₀.moves o.registry.now.used o.moves i begins going

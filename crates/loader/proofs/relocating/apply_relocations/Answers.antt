@@ -2,12 +2,9 @@
 -- moves held now, settle to what all settle to; and the header is the one used last.
 -- Assumes nothing.
 use mathlib.Core.Path.{refl, sym, ◌∙◌}
-use Rattle.loader.proofs.Turns.{none_before, header_next, relocation_settles, relocation_refused, relocation_fits}
-use Rattle.loader.proofs.Going.{keeps_all, keeps_on, over_start, over_begins, over_stop, over_on, over_done}
+use Rattle.loader.proofs.Turns.{header_next, relocation_settles, relocation_refused, relocation_fits}
+use Rattle.loader.proofs.Going.{keeps_on, over_begins, over_stop, over_on, over_done}
 use Rattle.loader.proofs.relocating.apply_relocations.Goals as goal
-
-pub loop-i-init : goal.loop-i-init
-loop-i-init c = (keeps_all _, over_start _ _ c.args.out.now c.requires.1, none_before _ _ _)
 
 pub returns-in_err-deed-clause-settles : goal.returns-in_err-deed-clause-settles
 returns-in_err-deed-clause-settles c =
