@@ -155,6 +155,7 @@ module _ (n : ℕ) (im z : List ℕ) (fits : n ≤ length im) (clear : z ≡ rep
 
 -- ---- the attempt
 
+-- what the checks showed
 module _ (file builtins : List ℕ) (c : Config) (n m : ℕ) (j : Job) (p : Result Job ElfError) (is : p ≡ prepared file builtins c n m) (ready : p ≡ Ok j) where
   pub file_fits : length file ≤ n
   file_fits = (readied file builtins c n m j (sym is ∙ ready)).1
@@ -186,9 +187,6 @@ module _ (file builtins : List ℕ) (c : Config) (im ro : List ℕ) (t : Slices)
     load_stops r im' ro' t' b e to = let k = err_from_is_err_and b to in rw (k.1, k.2) (prepared_as (Err r) e)
 
     module _ (j : Job) (ready : p ≡ Ok j) where
-      job_in_file : InFile file j
-      job_in_file = (readied file builtins c (length im) (length ro) j (sym is ∙ ready)).0
-
       ro_fits : length file ≤ length ro
       ro_fits = (readied file builtins c (length im) (length ro) j (sym is ∙ ready)).2
 
@@ -218,7 +216,7 @@ module _ (file builtins : List ℕ) (c : Config) (im ro : List ℕ) (t : Slices)
           answers = rw (w, length_rows t₂ used) refl;
           demand_1 = record {
             image = rw w (ap (λ (z : List ℕ). q ++ z) (zeros ∙ rw len refl));
-            readonly = rw w (b ∙ rw ro-zeros (copied_front q file j.layout (file_header file).e_shnum (is_version2 (file_header file)) c.reject_broken_elfs c.optimize_rodata offset lowest n job_in_file.short (omega (arith, len)) (sym (at_place ∙ placed_as file builtins c (length im) (length ro) j (sym is ∙ ready))) (length ro) ro_fits));
+            readonly = rw w (b ∙ rw ro-zeros (copied_front q file j.layout (file_header file).e_shnum (is_version2 (file_header file)) c.reject_broken_elfs c.optimize_rodata offset lowest n (file_ready file builtins c (length im) (length ro) j p is ready).short (omega (arith, len)) (sym (at_place ∙ placed_as file builtins c (length im) (length ro) j (sym is ∙ ready))) (length ro) ro_fits));
             table = rw w (l ∙ lay_same t₁ t₂ (rows_of t₂ used) lens₂ ∙ lay_same t t₁ (rows_of t₂ used) lens);
           };
         }
@@ -230,7 +228,7 @@ module _ (file builtins : List ℕ) (c : Config) (im ro : List ℕ) (t : Slices)
         tried : (n : ℕ) (b : Result Accepted ElfError) → (a : Result Held ElfError) × (b ≡ answer_for a j) × Settles (job_trace file builtins j file) q t₁ t₂ n 0 0 a × HeldBytes a ro₂ (placed_bytes file j.layout j.placing q ro₁) → Tried whole im ro t (q ++ rest) ro₂ t₂ b
         tried n b did = subst (Tried whole im ro t (q ++ rest) ro₂ t₂) (sym did.1) (tried_as n did.0 did.2 did.3)
 
-      -- everything cleared but for the image's front, where z is what is left of the rest, and then filled
+      -- everything cleared but for the image's front, z being what is behind it then, and the front and the rest filled
       pub attempted : (z ro₁ : List ℕ) (t₁ : Slices)
           → Cleared (mid_of (length file) (length im - length file) im) ro t z ro₁ t₁
           → (q ro₂ : List ℕ) (t₂ : Slices)
