@@ -9,6 +9,7 @@ use mathlib.Core.List.{List, [], ◌∷◌, ◌++◌, map}
 use lib.ListN.{length}
 use lib.Dec.{eqb}
 use borrow.Author.Tests.{eq-eqb, ne_eqb}
+use Rattle.std.proofs.Math.Bool.{or_comm, or_assoc}
 use Rattle.std.specs.Prelude.{Some, None}
 use Rattle.ebpf.specs.Choice.{◌if◌else◌}
 use Rattle.program.specs.declared.Row.{Row}
@@ -39,10 +40,7 @@ unfolding distinct
 same_cons a xs ys s = record { count = rw (s.has a, s.count) refl; has = λ k. rw (s.has k) refl }
 
 or_swap : (a b c : Bool) → (a || (b || c)) ≡ (b || (a || c))
-or_swap true true c = refl
-or_swap true false c = refl
-or_swap false true c = refl
-or_swap false false c = refl
+or_swap a b c = sym (or_assoc a b c) ∙ ap (λ (x : Bool). x || c) (or_comm a b) ∙ or_assoc b a c
 
 count_swap : (a b : Bool) (n : ℕ)
     → ((n if b else suc n) if a else suc (n if b else suc n)) ≡ ((n if a else suc n) if b else suc (n if a else suc n))

@@ -9,13 +9,13 @@ use Rattle.program.specs.declared.RegisterError.TheVariants.{Collision, Full}
 use Rattle.program.specs.declared.Registered.TheVariants.{Inserted, Repeat}
 use Rattle.std.specs.Prelude.{Ok, Err}
 use Rattle.program.specs.declared.Row.{Row}
-use Rattle.program.specs.Table.{Slices, SameColumns, SameLens, columns_of, capacity, rows_of, Registration, used_after}
+use Rattle.program.specs.Table.{Slices, SameColumns, SameLens, columns_of, capacity, rows_of, Registers, Registration, used_after}
 use Rattle.program.specs.Rows.{register, registered, RegisterResult}
 use Rattle.program.specs.Runs.{moves_of}
 use Rattle.program.proofs.Cases.{zero_one}
 use Rattle.program.proofs.Laying.{length_rows}
 use Rattle.program.proofs.Laws.{kept_rows, more_rows}
-use Rattle.program.proofs.Tables.{ready_after, rows_after_lem, same_after, capacity_same}
+use Rattle.program.proofs.Tables.{registers_ready, ready_after, rows_after_lem, same_after, capacity_same}
 use Rattle.loader.specs.declared.error.ElfError.{ElfError}
 use Rattle.loader.specs.declared.error.ElfError.TheVariants.{SymbolHashCollision, TableFull}
 use Rattle.loader.specs.Deeds.{Held}
@@ -80,12 +80,6 @@ moved_at_most (Err Full) cap r rs is = omega arith
 
 -- the slices after a registration
 module _ (t u : Slices) (used moves : ℕ) (row : Row) (a : RegisterResult) (begins : BeginsIn 1 t used moves) (did : Registration t u used row a) where
-  -- the sums of `entered` do not wrap
-  pub sums_fit : (used < 2 ^ 32) × (moves + moves_of a < 2 ^ 64)
-  sums_fit =
-      let m : moves_of a ≤ used = rw (length_rows t used) at (moved_at_most a (capacity t) row (rows_of t used) did.answers) in
-      (omega (arith, begins.room.few), omega (arith, begins.room.few, begins.room.moved))
-
   entering : (b : Result Held ElfError) → entered_by a used moves row.key (capacity t) ≡ b → EntersIn row t u used moves b
   unfolding settle
   entering (Ok held) e im =
@@ -102,11 +96,20 @@ module _ (t u : Slices) (used moves : ℕ) (row : Row) (a : RegisterResult) (beg
   pub enters : (b : Result Held ElfError) → b ≡ entered_by a used moves row.key (capacity t) → EntersIn row t u used moves b
   enters b e = entering b (sym e)
 
+-- the sum of `entered` does not wrap
+pub moves_fit : (t u : Slices) (used moves : ℕ) (row : Row) (a : RegisterResult) → BeginsIn 1 t used moves → Registers t u used row a → moves + moves_of a < 2 ^ 64
+moves_fit t u used moves row a begins did =
+    let m : moves_of a ≤ used = rw (length_rows t used) at (moved_at_most a (capacity t) row (rows_of t used) (registers_ready t used begins.ready u row a did).answers) in
+    omega (arith, begins.room.few, begins.room.moved)
+
 -- the outputs after a registration in their table
 module _ (o : Outputs) (r : MutBor FunctionRegistry) (o' : Outputs) (row : Row) (a : RegisterResult) (res : Result (Unit {0}) ElfError)
-    (begins : Begins 1 o) (did : Registration (columns_of o.registry.now) (columns_of r.now) o.registry.now.used row a) (used : r.now.used ≡ used_after o.registry.now.used a)
+    (begins : Begins 1 o) (registers : Registers (columns_of o.registry.now) (columns_of r.now) o.registry.now.used row a) (used : r.now.used ≡ used_after o.registry.now.used a)
     (moved : o' ≡ moved_by (moves_of a) (record { image = o.image; registry = r; moves = o.moves }))
     (answers : res ≡ entered_as a row.key (capacity (columns_of r.now))) where
+  did : Registration (columns_of o.registry.now) (columns_of r.now) o.registry.now.used row a
+  did = registers_ready (columns_of o.registry.now) o.registry.now.used begins.ready (columns_of r.now) row a registers
+
   lens : SameLens (columns_of o.registry.now) (columns_of r.now)
   lens = same_after (columns_of o.registry.now) (columns_of r.now) o.registry.now.used row a begins.ready did
 

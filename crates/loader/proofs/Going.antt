@@ -11,6 +11,8 @@ use Rattle.program.proofs.Tables.{same_refl, same_trans, capacity_same}
 use Rattle.loader.specs.declared.error.ElfError.{ElfError}
 use Rattle.loader.specs.Deeds.{Held}
 use Rattle.std.specs.Prelude.{Result, Ok, Err}
+use Rattle.std.specs.Result.{IsErrAnd}
+use Rattle.std.proofs.lemmas.Result.{err_from_is_err_and}
 use Rattle.loader.specs.Deeds.{holding}
 use Rattle.loader.specs.Trace.{Trace, and_then, each, refused, settle, settle_and_then}
 use Rattle.loader.specs.CallLoop.{Leads}
@@ -201,8 +203,9 @@ GoingOver step n o₀ o i = Going step n o₀.image.now o.image.now (columns_of 
 pub answered : (T : Trace) (n : ℕ) (o o' : Outputs) (a b : Result (Unit {0}) ElfError) → SettlesTo T n o o' a → a ≡ b → SettlesTo T n o o' b
 answered T n o o' a b did is = subst (λ (x : Result (Unit {0}) ElfError). SettlesTo T n o o' x) is did
 
-pub over_start : (step : ℕ → List ℕ → Trace) (n : ℕ) (o : Outputs) → Begins n o → GoingOver step n o o 0
-over_start step n o b = going_start step n o.image.now (columns_of o.registry.now) o.registry.now.used o.moves b
+-- a refusal that `?` hands on
+pub handed_on : (T : Trace) (n : ℕ) (o o' : Outputs) (b : Result (Unit {0}) ElfError) (r : ElfError) → IsErrAnd b (λ x. x ≡ r) → SettlesTo T n o o' (Err r) → SettlesTo T n o o' b
+handed_on T n o o' b r to did = let p = err_from_is_err_and b to in rw (p.1, p.2) did
 
 module _ (step : ℕ → List ℕ → Trace) (n : ℕ) (o₀ o : Outputs) (i : ℕ) (begins : Begins n o₀) (going : GoingOver step n o₀ o i) where
   pub over_done : n ≤ i → SettlesTo (each step n 0 o₀.image.now) n o₀ o (Ok tt)
@@ -212,8 +215,10 @@ module _ (step : ℕ → List ℕ → Trace) (n : ℕ) (o₀ o : Outputs) (i : �
   over_begins = going_begins step n o₀.image.now o.image.now (columns_of o₀.registry.now) (columns_of o.registry.now) o₀.registry.now.used o₀.moves o.registry.now.used o.moves i begins going
 
   module _ (more : i < n) (o' : Outputs) where
-    pub over_stop : (a : Result (Unit {0}) ElfError) (r : ElfError) → a ≡ Err r → SettlesTo (step i o.image.now) 1 o o' a → SettlesTo (each step n 0 o₀.image.now) n o₀ o' (Err r)
-    over_stop a r is did = going_stop step n o₀.image.now o.image.now (columns_of o₀.registry.now) (columns_of o.registry.now) o₀.registry.now.used o₀.moves o.registry.now.used o.moves i begins going more o'.image.now (columns_of o'.registry.now) r (answered (step i o.image.now) 1 o o' a (Err r) did is)
+    pub over_stop : (a b : Result (Unit {0}) ElfError) (r : ElfError) → a ≡ Err r → SettlesTo (step i o.image.now) 1 o o' a → IsErrAnd b (λ x. x ≡ r) → SettlesTo (each step n 0 o₀.image.now) n o₀ o' b
+    over_stop a b r is did to =
+        handed_on (each step n 0 o₀.image.now) n o₀ o' b r to
+        (going_stop step n o₀.image.now o.image.now (columns_of o₀.registry.now) (columns_of o.registry.now) o₀.registry.now.used o₀.moves o.registry.now.used o.moves i begins going more o'.image.now (columns_of o'.registry.now) r (answered (step i o.image.now) 1 o o' a (Err r) did is))
 
     pub over_on : Keeps o o' → (a : Result (Unit {0}) ElfError) → a ≡ Ok tt → SettlesTo (step i o.image.now) 1 o o' a → GoingOver step n o₀ o' (i + 1)
     over_on keeps a is did = going_on step n o₀.image.now o.image.now (columns_of o₀.registry.now) (columns_of o.registry.now) o₀.registry.now.used o₀.moves o.registry.now.used o.moves i begins going more o'.image.now (columns_of o'.registry.now) o'.registry.now.used o'.moves keeps.table_as keeps.image_as (answered (step i o.image.now) 1 o o' a (Ok tt) did is)
@@ -233,15 +238,11 @@ keeps_on o o₁ o' p q = record {
 
 -- two parts over a load's outputs
 module _ (T : Trace) (K : List ℕ → Trace) (o o₁ : Outputs) (n m : ℕ) where
-  pub part_stop : (a : Result (Unit {0}) ElfError) (r : ElfError) → a ≡ Err r → SettlesTo T n o o₁ a → SettlesTo (and_then T K) (n + m) o o₁ (Err r)
-  part_stop a r is did = settles_stop T K o₁.image.now o₁.image.now (columns_of o.registry.now) (columns_of o₁.registry.now) (columns_of o₁.registry.now) n (n + m) o.registry.now.used o.moves r (answered T n o o₁ a (Err r) did is)
-
-  pub first_begins : Begins (n + m) o → Begins n o
-  first_begins b = begins_fewer n m (columns_of o.registry.now) o.registry.now.used o.moves b
+  pub part_stop : (a b : Result (Unit {0}) ElfError) (r : ElfError) → a ≡ Err r → SettlesTo T n o o₁ a → IsErrAnd b (λ x. x ≡ r) → SettlesTo (and_then T K) (n + m) o o₁ b
+  part_stop a b r is did to =
+      handed_on (and_then T K) (n + m) o o₁ b r to
+      (settles_stop T K o₁.image.now o₁.image.now (columns_of o.registry.now) (columns_of o₁.registry.now) (columns_of o₁.registry.now) n (n + m) o.registry.now.used o.moves r (answered T n o o₁ a (Err r) did is))
 
   module _ (keeps : Keeps o o₁) (a : Result (Unit {0}) ElfError) (is : a ≡ Ok tt) (did : SettlesTo T n o o₁ a) where
-    pub part_begins : Begins (n + m) o → Begins m o₁
-    part_begins = begins_then T K o₁.image.now o₁.image.now (columns_of o.registry.now) (columns_of o₁.registry.now) (columns_of o₁.registry.now) n m o.registry.now.used o.moves o₁.registry.now.used o₁.moves keeps.table_as (answered T n o o₁ a (Ok tt) did is)
-
     pub part_then : (o' : Outputs) (b : Result (Unit {0}) ElfError) → SettlesTo (K o₁.image.now) m o₁ o' b → SettlesTo (and_then T K) (n + m) o o' b
     part_then o' b next = settles_then T K o₁.image.now o'.image.now (columns_of o.registry.now) (columns_of o₁.registry.now) (columns_of o'.registry.now) n m o.registry.now.used o.moves o₁.registry.now.used o₁.moves keeps.table_as (answered T n o o₁ a (Ok tt) did is) (held_of b o') next

@@ -10,6 +10,8 @@ use borrow.Rule.Slice.PartMut.{mid_of, post_of, put_mid, same_len_mid, mid_len, 
 use Rattle.program.specs.Table.{Slices, columns_of, capacity, lay, rows_of}
 use Rattle.program.proofs.Laying.{length_rows}
 use Rattle.std.specs.Prelude.{Result, Ok, Err}
+use Rattle.std.specs.Result.{IsErrAnd}
+use Rattle.std.proofs.lemmas.Result.{err_from_is_err_and}
 use Rattle.program.specs.Table.{SameLens}
 use Rattle.program.proofs.Tables.{capacity_same, lay_same, same_lay, ready_none}
 use Rattle.loader.specs.declared.read_only.Placing.TheVariants.{Borrowed, Owned}
@@ -29,7 +31,7 @@ use Rattle.loader.specs.Load.{all_count, placed_by, after_placing, Cleared, plac
 use Rattle.loader.specs.InnerContracts.{outcome, BeginsIn, Keeps, Settles, SettlesTo, held_of}
 use Rattle.loader.specs.InFile.{InFile}
 use Rattle.loader.specs.declared.deeds.Outputs.{Outputs}
-use Rattle.loader.proofs.Going.{settles_stop, settles_then, answered}
+use Rattle.loader.proofs.Going.{settles_stop, settles_then, answered, handed_on}
 use Rattle.loader.proofs.Readied.{readied, placed_as}
 use Rattle.loader.proofs.Front.{copied_front}
 
@@ -87,9 +89,9 @@ placed_not p r used moves e = rw e refl
 
 -- over a load's outputs
 module _ (file builtins : List ℕ) (j : Job) (im : List ℕ) (o o₁ : Outputs) (n m : ℕ) where
-  pub job_stop : (a : Result (Unit {0}) ElfError) (r : ElfError) → a ≡ Err r → SettlesTo (writing_trace file builtins j im) n o o₁ a → SettlesTo (job_trace file builtins j im) (n + m) o o₁ (Err r)
-  job_stop a r is did =
-      parts_stop file builtins j im o₁.image.now (columns_of o.registry.now) (columns_of o₁.registry.now) n m o.registry.now.used o.moves r (answered (writing_trace file builtins j im) n o o₁ a (Err r) did is)
+  pub job_stop : (a b : Result (Unit {0}) ElfError) (r : ElfError) → a ≡ Err r → SettlesTo (writing_trace file builtins j im) n o o₁ a → IsErrAnd b (λ x. x ≡ r) → SettlesTo (job_trace file builtins j im) (n + m) o o₁ b
+  job_stop a b r is did to =
+      handed_on (job_trace file builtins j im) (n + m) o o₁ b r to (parts_stop file builtins j im o₁.image.now (columns_of o.registry.now) (columns_of o₁.registry.now) n m o.registry.now.used o.moves r (answered (writing_trace file builtins j im) n o o₁ a (Err r) did is))
 
   -- behind a first pair of parts that was held
   module _ (keeps : Keeps o o₁) (a₁ : Result (Unit {0}) ElfError) (is₁ : a₁ ≡ Ok tt) (first : SettlesTo (writing_trace file builtins j im) n o o₁ a₁)
@@ -102,11 +104,11 @@ module _ (file builtins : List ℕ) (j : Job) (im : List ℕ) (o o₁ : Outputs)
         e
 
     -- the second pair of parts is refused; or the placing is; or neither
-    pub job_refused : (r : ElfError) → a₂ ≡ Err r → SettlesTo (job_trace file builtins j im) (n + m) o o₂ (Err r)
-    job_refused r is₂ = job_all (Err r) (Err r) is₂ refl
+    pub job_refused : (b : Result (Unit {0}) ElfError) (r : ElfError) → a₂ ≡ Err r → IsErrAnd b (λ x. x ≡ r) → SettlesTo (job_trace file builtins j im) (n + m) o o₂ b
+    job_refused b r is₂ to = handed_on (job_trace file builtins j im) (n + m) o o₂ b r to (job_all (Err r) (Err r) is₂ refl)
 
-    pub job_unplaced : (r : ElfError) → a₂ ≡ Ok tt → j.placing ≡ Err r → SettlesTo (job_trace file builtins j im) (n + m) o o₂ (Err r)
-    job_unplaced r is₂ e = job_all (Ok tt) (Err r) is₂ (placed_not j.placing r o₂.registry.now.used o₂.moves e)
+    pub job_unplaced : (b : Result (Unit {0}) ElfError) (r : ElfError) → a₂ ≡ Ok tt → j.placing ≡ Err r → IsErrAnd b (λ x. x ≡ r) → SettlesTo (job_trace file builtins j im) (n + m) o o₂ b
+    job_unplaced b r is₂ e to = handed_on (job_trace file builtins j im) (n + m) o o₂ b r to (job_all (Ok tt) (Err r) is₂ (placed_not j.placing r o₂.registry.now.used o₂.moves e))
 
     pub job_placed : (p : Placing) → a₂ ≡ Ok tt → j.placing ≡ Ok p → SettlesTo (job_trace file builtins j im) (n + m) o o₂ (Ok tt)
     job_placed p is₂ e = job_all (Ok tt) (Ok tt) is₂ (placed_held j.placing p o₂.registry.now.used o₂.moves e)
@@ -118,12 +120,12 @@ all_few file j f =
     let k = few_symbols file j in
     omega (arith, k, f.text, f.short, f.relocations, f.relas)
 
-pub begins_all : (file : List ℕ) (j : Job) (t : Slices) → InFile file j → t ≡ lay t [] → BeginsIn (all_count file j) t 0 0
-begins_all file j t f z =
+pub begins_all : (file : List ℕ) (j : Job) (t : Slices) (used : ℕ) → InFile file j → t ≡ lay t [] → used ≡ 0 → BeginsIn (all_count file j) t used 0
+begins_all file j t used f z e =
     let few = all_few file j f in
     record {
-      ready = ready_none t z;
-      room = record { few = omega (arith, few); moved = omega (arith, few) };
+      ready = rw e (ready_none t z);
+      room = record { few = omega (arith, few, e); moved = omega (arith, few) };
     }
 
 -- ---- the image with everything behind its first n bytes cleared
@@ -153,6 +155,14 @@ module _ (n : ℕ) (im z : List ℕ) (fits : n ≤ length im) (clear : z ≡ rep
 
 -- ---- the attempt
 
+-- what the checks showed
+module _ (file builtins : List ℕ) (c : Config) (n m : ℕ) (j : Job) (p : Result Job ElfError) (is : p ≡ prepared file builtins c n m) (ready : p ≡ Ok j) where
+  pub file_fits : length file ≤ n
+  file_fits = (readied file builtins c n m j (sym is ∙ ready)).1
+
+  pub file_ready : InFile file j
+  file_ready = (readied file builtins c n m j (sym is ∙ ready)).0
+
 -- cleared columns are as long as they were, and an empty table
 pub cleared_lens : (t t₁ : Slices) → t₁ ≡ lay t [] → SameLens t t₁
 cleared_lens t t₁ laid = rw laid (same_lay t [] zero-le)
@@ -173,18 +183,12 @@ module _ (file builtins : List ℕ) (c : Config) (im ro : List ℕ) (t : Slices)
     unfolding load_of
     prepared_as q e = ap (on_prepared file builtins (length ro) (capacity t)) (sym is ∙ e)
 
-    pub load_stops : (r : ElfError) → p ≡ Err r → whole ≡ refuses r
-    load_stops r e = prepared_as (Err r) e
+    pub load_stops : (r : ElfError) (im' ro' : List ℕ) (t' : Slices) (b : Result Accepted ElfError) → p ≡ Err r → IsErrAnd b (λ x. x ≡ r) → Tried whole im ro t im' ro' t' b
+    load_stops r im' ro' t' b e to = let k = err_from_is_err_and b to in rw (k.1, k.2) (prepared_as (Err r) e)
 
     module _ (j : Job) (ready : p ≡ Ok j) where
-      pub job_in_file : InFile file j
-      job_in_file = (readied file builtins c (length im) (length ro) j (sym is ∙ ready)).0
-
       ro_fits : length file ≤ length ro
       ro_fits = (readied file builtins c (length im) (length ro) j (sym is ∙ ready)).2
-
-      pub file_fits : length file ≤ length im
-      file_fits = (readied file builtins c (length im) (length ro) j (sym is ∙ ready)).1
 
       -- the slices cleared but for the image's front: ro₁ and t₁, and zeros behind the front; then filled: q the front, ro₂ and t₂
       module _ (ro₁ : List ℕ) (t₁ : Slices) (ro-zeros : ro₁ ≡ replicate (length ro) 0) (lens : SameLens t t₁) (rest : List ℕ) (zeros : rest ≡ replicate (length im - length file) 0) (q ro₂ : List ℕ) (t₂ : Slices) (len : length q ≡ length file) (lens₂ : SameLens t₁ t₂) where
@@ -212,7 +216,7 @@ module _ (file builtins : List ℕ) (c : Config) (im ro : List ℕ) (t : Slices)
           answers = rw (w, length_rows t₂ used) refl;
           demand_1 = record {
             image = rw w (ap (λ (z : List ℕ). q ++ z) (zeros ∙ rw len refl));
-            readonly = rw w (b ∙ rw ro-zeros (copied_front q file j.layout (file_header file).e_shnum (is_version2 (file_header file)) c.reject_broken_elfs c.optimize_rodata offset lowest n job_in_file.short (omega (arith, len)) (sym (at_place ∙ placed_as file builtins c (length im) (length ro) j (sym is ∙ ready))) (length ro) ro_fits));
+            readonly = rw w (b ∙ rw ro-zeros (copied_front q file j.layout (file_header file).e_shnum (is_version2 (file_header file)) c.reject_broken_elfs c.optimize_rodata offset lowest n (file_ready file builtins c (length im) (length ro) j p is ready).short (omega (arith, len)) (sym (at_place ∙ placed_as file builtins c (length im) (length ro) j (sym is ∙ ready))) (length ro) ro_fits));
             table = rw w (l ∙ lay_same t₁ t₂ (rows_of t₂ used) lens₂ ∙ lay_same t t₁ (rows_of t₂ used) lens);
           };
         }
@@ -221,8 +225,21 @@ module _ (file builtins : List ℕ) (c : Config) (im ro : List ℕ) (t : Slices)
         tried_as n (Err r) did b = settled n (Err r) did
         tried_as n (Ok kept) did b = held kept.used kept.moves j.placing did.sound.laid (settled n (holding kept.used kept.moves) did) b refl
 
-        pub tried : (n : ℕ) (b : Result Accepted ElfError) → (a : Result Held ElfError) × (b ≡ answer_for a j) × Settles (job_trace file builtins j file) q t₁ t₂ n 0 0 a × HeldBytes a ro₂ (placed_bytes file j.layout j.placing q ro₁) → Tried whole im ro t (q ++ rest) ro₂ t₂ b
+        tried : (n : ℕ) (b : Result Accepted ElfError) → (a : Result Held ElfError) × (b ≡ answer_for a j) × Settles (job_trace file builtins j file) q t₁ t₂ n 0 0 a × HeldBytes a ro₂ (placed_bytes file j.layout j.placing q ro₁) → Tried whole im ro t (q ++ rest) ro₂ t₂ b
         tried n b did = subst (Tried whole im ro t (q ++ rest) ro₂ t₂) (sym did.1) (tried_as n did.0 did.2 did.3)
+
+      -- everything cleared but for the image's front, z being what is behind it then, and the front and the rest filled
+      pub attempted : (z ro₁ : List ℕ) (t₁ : Slices)
+          → Cleared (mid_of (length file) (length im - length file) im) ro t z ro₁ t₁
+          → (q ro₂ : List ℕ) (t₂ : Slices)
+          → length q ≡ length (take (length file) (put_mid (length file) (length im - length file) im z))
+          → SameLens t₁ t₂
+          → (n : ℕ) (b : Result Accepted ElfError)
+          → (a : Result Held ElfError) × (b ≡ answer_for a j) × Settles (job_trace file builtins j file) q t₁ t₂ n 0 0 a × HeldBytes a ro₂ (placed_bytes file j.layout j.placing q ro₁)
+          → Tried whole im ro t (q ++ drop (length file) (put_mid (length file) (length im - length file) im z)) ro₂ t₂ b
+      attempted z ro₁ t₁ clears q ro₂ t₂ len lens₂ n b did =
+          let fits : length file ≤ length im = file_fits file builtins c (length im) (length ro) j p is ready in
+          tried ro₁ t₁ clears.readonly (cleared_lens t t₁ clears.table) _ (behind_rest (length file) im z fits clears.image) q ro₂ t₂ (len ∙ behind_front (length file) im z fits clears.image) lens₂ n b did
 
 -- ---- the end: an attempt that is refused, and cleared
 

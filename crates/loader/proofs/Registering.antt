@@ -11,6 +11,7 @@ use lib.Bits.{bit_and}
 use native.Mathlib.Omega.{arith}
 use borrow.Author.Tests.{eqb-true}
 use Rattle.program.specs.HashedLegacy.{LegacyResult}
+use Rattle.std.proofs.lemmas.Bool.{not-false}
 use Rattle.std.specs.Prelude.{Ok, Err, Option, Some, None, Result}
 use Rattle.ebpf.specs.Choice.{◌if◌else◌, eq_not}
 use Rattle.elf_parser.specs.declared.types.Elf64Sym.{Elf64Sym}
@@ -209,13 +210,6 @@ module _ (file builtins : List ℕ) (j : Job) (i : ℕ) (l : i < relocation_coun
 
 -- ---- labels
 
-told : (a b : ℕ) → not (eqb a b) ≡ false → a ≡ b
-told a b e = go (eqb a b) refl e
-  where
-    go : (t : Bool) → eqb a b ≡ t → not t ≡ false → a ≡ b
-    go true h e = eqb-true a b h
-    go false h e = absurd (zero_one (cc))
-
 -- a row that is only registered
 label_row_asks : (P : Row → Type 0) (x : LegacyResult) → ((row : Row) → P row ↔ (x ≡ Ok row)) → AsksFor (entry_of (label_row x)) P
 label_row_asks P (Err taken) h = tt
@@ -246,7 +240,7 @@ module _ (file builtins : List ℕ) (j : Job) (i : ℕ) (l : i < (label_symbols 
     label_of_asks =
         either _ _ _ OfSymbol
         (λ e row h. let s : h.1 ≡ y = same_label row h in let two : bit_and y.st_info 0xef ≡ 2 = rw s at h.3 in let f = eq_not (bit_and y.st_info 0xef) 2 two in zero_one (cc))
-        (λ e. either _ _ _ OfSymbol (λ _. tt) (λ _. named_label_lem (told (bit_and y.st_info 0xef) 2 e) (symbol_name file j.layout y.st_name) refl))
+        (λ e. either _ _ _ OfSymbol (λ _. tt) (λ _. named_label_lem (eqb-true _ _ (not-false _ e)) (symbol_name file j.layout y.st_name) refl))
 
   label_by_asks : (y : Result Elf64Sym ElfParserError) → nth_of 24 sym_at file (label_symbols file j) i ≡ y → AsksFor (entry_of (label_by file builtins j y)) OfSymbol
   label_by_asks (Ok y) e = label_of_asks y e

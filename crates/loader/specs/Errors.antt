@@ -1,5 +1,4 @@
 -- The refusals of a load, in the scope's numbers.
-use Rattle.std.specs.Prelude.{ℕ}
 use Rattle.elf_parser.specs.declared.error.ElfParserError.{ElfParserError}
 use Rattle.elf_parser.specs.declared.error.ElfParserError.TheVariants.{InvalidFileHeader, InvalidProgramHeader, InvalidSectionHeader, StringTooLong, OutOfBounds, InvalidSize, Overlap, SectionNotInOrder, NoSectionNameStringTable, InvalidDynamicSectionTable, InvalidAlignment, NoStringTable, NoDynamicStringTable, NoSuchIndex, NotASection, StringUnterminated}
 use Rattle.elf_parser.specs.declared.error.Report.{Report}

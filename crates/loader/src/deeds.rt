@@ -37,6 +37,7 @@ pub struct Outputs<'o, 't> {
 }
 
 // Four bytes, the lowest first.
+#[tactic(auto, using(crate::proofs::Stored::stored))]
 pub(crate) fn store_u32(image: &mut [u8], at: usize, v: u32)
     requires { at + 4 ≤ length image.old }
     ensures { image.new ≡ put 4 image.old at v }

@@ -58,6 +58,7 @@ fn all_parts(out: &mut Outputs<'_, '_>, inputs: &Inputs<'_>) -> Result<(), ElfEr
 // own key.
 // Kept: file, built-ins and job beside each other here and in `fill_all`. They are `Inputs` but for the table
 // of keys, which is made here, so that version 2 has no kibibyte of it on its stack.
+#[tactic(auto, using(crate::proofs::Rowing::none_keyed, crate::proofs::Rowing::first_keyed))]
 fn keyed_parts(
     out: &mut Outputs<'_, '_>,
     file: &[u8],

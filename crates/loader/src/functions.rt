@@ -37,6 +37,7 @@ impl Inputs<'_> {
 }
 
 // By the lent table of keys, where it is right (`Keyed`).
+#[tactic(auto, using(crate::proofs::Rowing::same_row), unfolding(crate::specs::Functions::row_for))]
 pub(crate) fn row_for(
     inputs: &Inputs<'_>,
     name: FunctionName,

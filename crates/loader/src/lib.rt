@@ -43,6 +43,7 @@ pub use validate::{BuiltinProgram, Config, MAX_FILE_LENGTH, MAX_PROGRAM_HEADERS}
 
 // A load that leaves anything where it refuses. The image's front is not cleared, since the file is
 // copied over it.
+#[tactic(auto, using(crate::proofs::Loading::file_fits, crate::proofs::Loading::behind_fits, crate::proofs::Loading::behind_front))]
 fn attempt(
     image: &mut [u8],
     ro_section: &mut [u8],

@@ -16,6 +16,7 @@ pub struct Overview {
 }
 
 // It does not stop where the gathering refuses, since the checks count first and ask for all sections.
+#[tactic(auto, using(crate::specs::Sections::survey_next, crate::specs::Sections::survey_end, crate::proofs::Onward::gather_all, crate::proofs::Onward::gather_next_lem, crate::proofs::Onward::gather_end, crate::proofs::Ascents::texts_step), unfolding(crate::specs::Sections::survey_step))]
 pub(crate) fn look_over(elf: &Elf64<'_>, rules: Rules, count: u32) -> Overview
     requires { count ≤ 65536 }
     ensures { (result.survey ≡ survey elf.now.file.now elf.now.layout count) × (result.gathering ≡ gathered elf.now.file.now elf.now.layout count rules.version2 rules.config.reject_broken_elfs) }

@@ -297,6 +297,7 @@ fn copy_section(ro: &mut [u8], image: &[u8], elf: &Elf64<'_>, lowest: u64, index
 
 // The read-only sections' bytes in the image, one section after another, so that a later one
 // overwrites.
+#[tactic(auto, using(crate::specs::ReadOnly::copied_next, crate::specs::ReadOnly::copied_end))]
 pub(crate) fn copy_sections(ro: &mut [u8], image: &[u8], elf: &Elf64<'_>, count: u32, lowest: u64)
     ensures { ro.new ≡ copied_from image.now elf.now.file.now elf.now.layout lowest count 0 ro.old }
 {

@@ -8,6 +8,7 @@ use crate::inputs::Inputs;
 use crate::relocations::{plan_relocation, relocation_at, used_header};
 
 // Every relocation in turn, up to the first refusal. `header` is the program header used last.
+#[tactic(auto, using(crate::proofs::Turns::none_before))]
 pub(crate) fn apply_relocations(
     out: &mut Outputs<'_, '_>,
     inputs: &Inputs<'_>,

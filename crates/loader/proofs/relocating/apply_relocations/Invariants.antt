@@ -2,14 +2,13 @@
 -- moves held now, settle to what all settle to; and the header is the one used last.
 -- Assumes nothing.
 use mathlib.Core.Path.{◌≡◌}
-use Rattle.program.specs.Table.{columns_of}
 use Rattle.loader.specs.Relocations.{relocation_trace, relocation_count, used_before}
 use Rattle.loader.specs.InnerContracts.{Keeps}
-use Rattle.loader.proofs.Going.{Going}
+use Rattle.loader.proofs.Going.{GoingOver}
 use Rattle.loader.proofs.relocating.apply_relocations.Given as goal
 
 abbrev pub invariant-loop-i : goal.invariant-loop-i
 invariant-loop-i l =
     Keeps l.initial.out l.out
-    × Going (relocation_trace l.inputs.file.now l.inputs.builtins.now l.inputs.job) (relocation_count l.inputs.job) l.initial.out.image.now l.out.image.now (columns_of l.initial.out.registry.now) (columns_of l.out.registry.now) l.initial.out.registry.now.used l.initial.out.moves l.out.registry.now.used l.out.moves l.i
+    × GoingOver (relocation_trace l.inputs.file.now l.inputs.builtins.now l.inputs.job) (relocation_count l.inputs.job) l.initial.out l.out l.i
     × (l.header ≡ used_before l.inputs.file.now l.inputs.job.layout l.inputs.job.version2 l.i)

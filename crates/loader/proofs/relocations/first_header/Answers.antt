@@ -3,7 +3,7 @@
 use Prim.Native.Nat.{ℕ, zero, suc, ◌+◌}
 use mathlib.Core.Path.{◌≡◌, refl, sym, ◌∙◌}
 use Rattle.std.proofs.Common.{rules, tests, arith}
-use Rattle.std.specs.Prelude.{Bool, true, false, List, Option, Some, None, cond}
+use Rattle.std.specs.Prelude.{List, Option, Some, None}
 use Rattle.std.specs.List.{find, filter_map, cons_option, range_with_len}
 use Rattle.std.proofs.lemmas.Iterator.{YieldsList-from_range}
 use Rattle.std.proofs.lemmas.Iterator.Consumers.{YieldsList-from_filter_map}
@@ -16,18 +16,14 @@ use Rattle.loader.proofs.relocations.first_header.Goals as goal
 
 -- the first of the headers that are there is the first that the search comes to
 module _ (s : List ℕ) (l : Layout) (a : ℕ) where
+  found_by : (o : Option UsedHeader) (n i : ℕ) (hs : List UsedHeader) → header_at s l i ≡ o → find (λ h. contains (Some h) a) hs ≡ first_from s l a n (i + 1)
+      → find (λ h. contains (Some h) a) (cons_option o hs) ≡ first_from s l a (suc n) i
+  found_by None n i hs e k = k ∙ sym (first_later s l a i (suc n) n refl (rw e refl))
+  found_by (Some h) n i hs e k = grind (arith, first_here, first_later, tests)
+
   found : (n i : ℕ) → find (λ h. contains (Some h) a) (filter_map (header_at s l) (range_with_len i n)) ≡ first_from s l a n i
   found zero i = sym (first_none s l a i zero (omega arith))
-  found (suc n) i = go (header_at s l i) refl (filter_map (header_at s l) (range_with_len (i + 1) n)) (found n (i + 1))
-    where
-      go : (o : Option UsedHeader) → header_at s l i ≡ o → (hs : List UsedHeader) → find (λ h. contains (Some h) a) hs ≡ first_from s l a n (i + 1)
-          → find (λ h. contains (Some h) a) (cons_option o hs) ≡ first_from s l a (suc n) i
-      go None e hs k = k ∙ sym (first_later s l a i (suc n) n refl (rw e refl))
-      go (Some h) e hs k = pick (contains (Some h) a) refl
-        where
-          pick : (b : Bool) → contains (Some h) a ≡ b → cond b (Some h) (find (λ h. contains (Some h) a) hs) ≡ first_from s l a (suc n) i
-          pick true f = sym (first_here s l a i (suc n) (omega arith) (rw e f) ∙ e)
-          pick false f = k ∙ sym (first_later s l a i (suc n) n refl (rw e f))
+  found (suc n) i = found_by (header_at s l i) n i (filter_map (header_at s l) (range_with_len (i + 1) n)) refl (found n (i + 1))
 
 pub returns : goal.returns
 returns c =
