@@ -15,7 +15,7 @@ pub struct Elf64<'a> {
 
 impl<'a> Elf64<'a> {
     // Of a file with a layout: `parse`'s, or any.
-    // Kept: it takes the two that the struct holds.
+    // Kept: file and layout by themselves, which this joins.
     pub fn new(file: &'a [u8], layout: Layout) -> Elf64<'a>
         ensures { (result.file ≡ file.entry) × (result.layout ≡ layout) }
     {

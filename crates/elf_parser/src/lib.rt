@@ -21,6 +21,6 @@ pub use elf64::Elf64;
 pub use error::{ElfParserError, Report};
 pub use layout::{Layout, parse};
 pub use parts::{Place, bytes_at, part_of, past};
-pub use records::{Entries, NO_ENTRIES, entry};
+pub use records::{Entries, entry};
 pub use strings::get_string_in_section;
 pub use types::file_header;

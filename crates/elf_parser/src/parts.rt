@@ -5,7 +5,7 @@ ghost use Rattle.elf_parser.specs.Parts.{bytes_at, part_of};
 use crate::error::ElfParserError;
 
 // Where a name or a section's contents stand in the file.
-#[derive(Clone, Copy, PartialEq, Eq, Debug)]
+#[derive(Clone, Copy, PartialEq, Eq, Debug, Default)]
 pub struct Place {
     pub start: usize,
     pub length: usize,

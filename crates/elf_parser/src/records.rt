@@ -18,12 +18,6 @@ pub struct Entries {
     pub count: u64,
 }
 
-// None at all.
-pub const NO_ENTRIES: Entries = Entries {
-    offset: 0,
-    count: 0,
-};
-
 // Where the entry number `index` of a table of `T` starts.
 #[tactic(auto, using(ebpf::specs::Choice::choices), unfolding(crate::specs::Records::entry_at))]
 fn entry_at<T: Record>(len: u64, table: Entries, index: u32) -> Result<usize, ElfParserError>
@@ -102,10 +96,7 @@ fn range_in_file(len: u64, header: Elf64Shdr) -> Result<Place, ElfParserError>
     ensures { result ≡ file_range len header }
 {
     if header.sh_type == SHT_NOBITS {
-        return Ok(Place {
-            start: 0,
-            length: 0,
-        });
+        return Ok(Place::default());
     }
     if past(len, header.sh_offset, header.sh_size) {
         return Err(ElfParserError::OutOfBounds);

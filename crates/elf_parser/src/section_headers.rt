@@ -10,7 +10,8 @@ use crate::table::Table;
 use crate::types::Elf64Shdr;
 
 // Where the two header tables stand.
-// Kept: four numbers and no two ranges, since a `Range` is not Copy; and the definitions take the numbers.
+// Kept: four numbers and no two ranges. Each is compared by itself with a section's ends, and a `Range` is not Copy
+// and would be taken apart for that.
 #[derive(Clone, Copy, PartialEq, Eq, Debug)]
 pub struct Ranges {
     pub phoff: u64,

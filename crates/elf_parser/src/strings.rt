@@ -9,7 +9,7 @@ use crate::parts::Place;
 use crate::types::Elf64Shdr;
 
 // Why a name has no end: the section ends before the limit does, or the name is too long.
-// Kept: `cut` says which of two refusals it is and chooses no step; the refusal itself is what is handed on.
+// Kept: `cut` says which of two refusals it is and chooses no step. As an `if` in its caller the proof did not close.
 #[tactic(auto, using(ebpf::specs::Choice::choices), unfolding(crate::specs::Strings::no_zero))]
 fn no_zero(cut: bool, place: Place) -> ElfParserError
     ensures { result ≡ no_zero cut place }

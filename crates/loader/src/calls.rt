@@ -14,6 +14,8 @@ use ebpf::{CALL_IMM, Insn, get_insn};
 use program::FunctionName;
 
 // The target `to` of the call in slot number `i`.
+// Kept: `count` and `i` by themselves in three functions. Both fit, which their clauses say; a struct of two numbers
+// with that as a ghost field would be longer than the three clauses.
 #[tactic(auto, using(ebpf::specs::Choice::choices), unfolding(crate::specs::Calls::inside))]
 fn inside_text(count: u64, i: u64, to: u64) -> Result<u32, ElfError>
     requires { count ≤ 2 ^ 24 }

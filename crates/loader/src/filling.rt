@@ -56,8 +56,8 @@ fn all_parts(out: &mut Outputs<'_, '_>, inputs: &Inputs<'_>) -> Result<(), ElfEr
 
 // The same, with the table of keys made here. Only version 1 asks for it: in version 2 an index is its
 // own key.
-// Kept: file, built-ins and job beside each other here and in `fill_all`. They are `Inputs` but for the table
-// of keys, which is made here, so that version 2 has no kibibyte of it on its stack.
+// Kept: file, built-ins and job beside each other here and in `fill_all` alone. They are `Inputs` but for the table
+// of keys, which is made here, since version 2 asks for none; a struct of the three would be one more for two functions.
 #[tactic(auto, using(crate::proofs::Rowing::none_keyed, crate::proofs::Rowing::first_keyed))]
 fn keyed_parts(
     out: &mut Outputs<'_, '_>,

@@ -18,6 +18,7 @@ pub struct ReadOnly {
 }
 
 // The bytes at a place that lies among the lent ones; none where it is refused.
+// Kept: beside elf_parser's `part_of`, which tests the place again and takes the reader's refusal.
 fn part_of(lent: &[u8], place: Result<Place, ElfError>) -> &[u8]
     requires { LiesIn (length lent.now) place }
     ensures { result.now ≡ part_of lent.now place }

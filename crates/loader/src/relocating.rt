@@ -23,7 +23,7 @@ pub(crate) fn apply_relocations(
     let count = (layout.dynamic_relocations.count + layout.dynamic_relas.count) as u32;
     let mut header = None;
     // Kept: `writers` goes through both tables in the same way, twice. What the turns share is two calls; an
-    // iterator would be a struct of five words that carries the header from turn to turn, more than it saves.
+    // iterator would be a struct of five fields that carries the header from turn to turn, more than it saves.
     for i in 0..count {
         let r = relocation_at(&elf, i);
         header = used_header(&elf, version2, header, r.r_offset);

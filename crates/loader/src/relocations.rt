@@ -17,6 +17,7 @@ use elf_parser::{Elf64, Place, bytes_at, past};
 use program::{FunctionName, Row, SymbolHashCollision, is_builtin};
 
 // The types of relocations.
+// Kept: numbers and no enum: a file holds any, and the refusal names it; they are matched as they stand.
 pub const R_BPF_64_64: u32 = 1;
 
 pub const R_BPF_64_RELATIVE: u32 = 8;
@@ -284,6 +285,8 @@ impl PlacedRelocation<'_> {
     }
 
     // Type 8 in the text: an instruction's two halves.
+    // Kept: with the tests of `halves_deed`, ahead of its own. By `halves_deed(..)?` the refusal's way out did not
+    // close alone, and a law for it is no plainer.
     #[tactic(auto, using(ebpf::specs::Choice::choices), unfolding(crate::specs::Relocations::relative_text))]
     fn relative_text(&self, low: u64, high: u64, address: u64) -> Result<Deed, ElfError>
         ensures { result ≡ relative_text (length self.now.image.now) low high address }

@@ -63,6 +63,8 @@ pub struct Rules {
 
 // What a load needs of a file that passed the checks. `text` is the text's place in the file, at 0 for one
 // without bytes; `addr` is its address in the machine.
+// Kept: the version and three settings under names of their own, and no `Rules`: the other settings count no more
+// behind the checks.
 #[derive(Clone, Copy, PartialEq, Eq, Debug)]
 pub struct Job {
     pub version2: bool,
@@ -137,12 +139,8 @@ fn check_header(h: Elf64Ehdr, rules: Rules) -> Result<(), ElfError>
 fn writable_error(elf: &Elf64<'_>, sh_name: u32) -> ElfError
     ensures { result ≡ writable_error elf.now.file.now elf.now.layout sh_name }
 {
-    let none = Place {
-        start: 0,
-        length: 0,
-    };
     ElfError::WritableSectionNotSupported {
-        name: elf.section_name(sh_name).unwrap_or(none),
+        name: elf.section_name(sh_name).unwrap_or_default(),
     }
 }
 

@@ -12,7 +12,7 @@ pub use table::{index_ascending, row_ascending};
 
 // What a row says of its name: it is empty or not kept, a part of the file, the text entrypoint, or
 // made from the index. Only a part of the file has a start.
-// Kept: numbers and no enum, since the column of kinds is C's to read.
+// Kept: numbers and no enum, since the column of kinds is C's to read; `KeptName` has what goes into it.
 pub const NAME_EMPTY: u32 = 0;
 
 pub const NAME_IN_FILE: u32 = 1;
@@ -34,6 +34,8 @@ pub struct Row {
 }
 
 // The table: a column for each field of a row, of which the first `used` rows are used.
+// Kept: five columns and no slice of rows, since C lends each as a slice of numbers; and two types, since a field
+// is lent either for writing or for reading.
 #[derive(Drop)]
 pub struct FunctionRegistry<'a> {
     pub keys: &'a mut [u32],

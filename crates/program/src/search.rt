@@ -29,6 +29,8 @@ fn halve(ranks: &[u32], base: usize, half: usize, key: u32) -> usize
 
 // Halves at most sixteen numbers, from `base` on, until one is left: four turns, of which some may find
 // one number already.
+// Kept: one behind another, where a test costs no branch; in a loop each turn has one more, which is guessed wrong,
+// and a lookup takes longer (docs/DECISIONS.md).
 #[tactic(auto, using(crate::proofs::Searches::stays, crate::proofs::Searches::four_turns))]
 fn narrow_few(ranks: &[u32], base: usize, size: usize, key: u32) -> usize
     requires { (0 < size) × (size ≤ 16) × (base + size ≤ length ranks.now) }
@@ -66,8 +68,8 @@ fn narrow(ranks: &[u32], key: u32) -> usize
 
 // The binary search, which answers as std's: the place of `key`, or how many of the numbers are below it where
 // they ascend; on any others it is at most their count.
-// Kept: what std's answers on numbers that do not ascend is left open, and a registration and a lookup promise
-// an equation there too.
+// Kept: std's binary search says nothing of numbers that do not ascend, so that by its contract no proof can
+// close: a registration and a lookup promise an equation there too.
 #[tactic(auto, using(crate::proofs::Searches::search_none, crate::proofs::Searches::search_next, crate::proofs::Searches::search_here, crate::proofs::Searches::search_before))]
 pub(crate) fn binary_search(ranks: &[u32], key: u32) -> Result<usize, usize>
     ensures is { result ≡ search_result key ranks.now }

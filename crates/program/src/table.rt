@@ -85,7 +85,7 @@ impl FunctionTable<'_> {
 // caller reads what it needs of that row in its own columns. As many rows count as the column has
 // numbers.
 // Kept: the column and no table, since a caller has one or two columns at hand; and `used` beside it, which a
-// C caller gives and which may pass the column's length.
+// C caller gives and which may pass the column's length: the promise speaks of that case.
 #[tactic(auto, using(crate::proofs::Steps::row_found))]
 pub fn row_ascending(keys: &[u32], used: usize, key: u32) -> Option<usize>
     ensures { result ≡ row_ascending_in keys.now used key }

@@ -100,6 +100,8 @@ pub(crate) fn last_naming(text: &Text<'_>, b: u64) -> Writer
     let count = relocation_count(text.elf.layout);
     let mut writer = call_writer(text, b);
     let mut header = None;
+    // Kept: `mark_all` goes through them too. `named_next` is what they share; a closure for the rest would write
+    // what it captures, and std's contracts say nothing of that.
     for i in 0..count {
         let next = named_next(text, header, i);
         header = next.header;
