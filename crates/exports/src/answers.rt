@@ -118,14 +118,14 @@ pub(crate) fn table_answer(table: Result<Entries, ElfParserError>) -> Answer
     answered(table, |t| answer_with(0, &[0, 0, 0, t.offset, t.count]))
 }
 
+#[tactic(auto, unfolding(crate::specs::Answers::written))]
 pub(crate) fn symbol_answer(found: Result<Option<u32>, BadHashTable>) -> Answer
     ensures { result ≡ symbol_answer found }
 {
-    match found {
-        Ok(Some(index)) => answer_with(0, &[0, 0, 0, 1, index as u64]),
-        Ok(None) => answer_with(0, &[0, 0, 0, 0]),
-        Err(_) => answer_with(48, &[0]),
-    }
+    answered(found, |symbol| match symbol {
+        Some(index) => answer_with(0, &[0, 0, 0, 1, index as u64]),
+        None => answer_with(0, &[0, 0, 0, 0]),
+    })
 }
 
 // The word that says that there is none.

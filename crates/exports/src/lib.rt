@@ -3,7 +3,9 @@
 // hash, a name, an index and a row's number is 24 words, the number first, as `specs/Answers.antt` says; the
 // number is the result too.
 // A lent slice of fewer words takes the first of them, one of more has zeros behind them.
-ghost use Rattle.std.specs.Prelude.{◌≡◌};
+ghost use Rattle.std.specs.Prelude.{MatchResult, Result, ◌≡◌};
+ghost use Rattle.elf_parser.specs.declared.error.ElfParserError.{ElfParserError};
+ghost use Rattle.elf_parser.specs.declared.parts.Place.{Place};
 ghost use Rattle.ebpf.specs.Murmur3.{murmur3};
 ghost use Rattle.elf_parser.specs.Names.{section_name, symbol_name, dynamic_symbol_name};
 ghost use Rattle.elf_parser.specs.Parse.{parsed};
@@ -11,7 +13,7 @@ ghost use Rattle.elf_parser.specs.Records.{section_place_of, symbol_table_of};
 ghost use Rattle.hash_table.specs.Find.{find_symbol};
 ghost use Rattle.program.specs.Table.{lookup_in, lookup_ascending_in, row_ascending_in, index_ascending_in, slices};
 ghost use Rattle.loader.specs.GetBytes.{text_place};
-ghost use Rattle.exports.specs.Answers.{Gives, GivesAsked, GivesLoad, text_answer, parse_answer, place_answer, table_answer, symbol_answer, row_answer, word_or_none};
+ghost use Rattle.exports.specs.Answers.{Gives, GivesAsked, refused, GivesLoad, text_answer, parse_answer, place_answer, table_answer, symbol_answer, row_answer, word_or_none};
 ghost use Rattle.exports.specs.Wrote.{who_wrote_answer, GivesNumbers, GivesLoadWrote};
 ghost use Rattle.exports.specs.Names.{Named, refusal_name};
 
@@ -19,7 +21,7 @@ use answers::{
     answered, give, give_row, parse_answer, place_answer, symbol_answer, table_answer, word_or_none,
 };
 use ebpf::hash_symbol_name;
-use elf_parser::{Elf64, parse};
+use elf_parser::{Elf64, ElfParserError, Place, parse};
 use hash_table::find_symbol;
 use loader::{BuiltinProgram, Config, ReadOnly, load};
 use loading::{load_answer, text_answer};
@@ -55,37 +57,48 @@ pub fn sbpf_parse(file: &[u8], answer: &mut [u64]) -> u32
     give(answer, parse_answer(parse(file)))
 }
 
+// Fills the lent slice with the place that a parsed file is asked for, or the refusal.
+fn give_place<F: FnOnce(Elf64<'_>) -> Result<Place, ElfParserError>>(
+    file: &[u8],
+    answer: &mut [u64],
+    ask: F,
+) -> u32
+    requires { F.IsAlwaysCallable ask }
+    ensures { MatchResult (parsed file.now) (λ l. (place : Result Place ElfParserError) × F.post ask (record { file = file.entry; layout = l }) place × Gives (place_answer place) answer result) (λ e. Gives (refused e) answer result) }
+{
+    give(
+        answer,
+        place_answer(parse(file).and_then(|layout| ask(Elf64 { file, layout }))),
+    )
+}
+
 // Where the contents of a section stand.
-// Kept: the four questions for a place are alike, and stand each under its name for C.
+// Kept: the four questions for a place stand each under its name for C.
 pub fn sbpf_section_place(file: &[u8], index: u32, answer: &mut [u64]) -> u32
     ensures { GivesAsked file (λ f l. place_answer (section_place_of f l index)) answer result }
 {
-    let place = parse(file).and_then(|layout| Elf64 { file, layout }.section_place(index));
-    give(answer, place_answer(place))
+    give_place(file, answer, |elf| elf.section_place(index))
 }
 
 // Where the section name at a string offset stands.
 pub fn sbpf_section_name(file: &[u8], sh_name: u32, answer: &mut [u64]) -> u32
     ensures { GivesAsked file (λ f l. place_answer (section_name f l sh_name)) answer result }
 {
-    let place = parse(file).and_then(|layout| Elf64 { file, layout }.section_name(sh_name));
-    give(answer, place_answer(place))
+    give_place(file, answer, |elf| elf.section_name(sh_name))
 }
 
 // Where the symbol name at a string offset stands.
 pub fn sbpf_symbol_name(file: &[u8], st_name: u32, answer: &mut [u64]) -> u32
     ensures { GivesAsked file (λ f l. place_answer (symbol_name f l st_name)) answer result }
 {
-    let place = parse(file).and_then(|layout| Elf64 { file, layout }.symbol_name(st_name));
-    give(answer, place_answer(place))
+    give_place(file, answer, |elf| elf.symbol_name(st_name))
 }
 
 // Where the dynamic symbol name at a string offset stands.
 pub fn sbpf_dynamic_symbol_name(file: &[u8], st_name: u32, answer: &mut [u64]) -> u32
     ensures { GivesAsked file (λ f l. place_answer (dynamic_symbol_name f l st_name)) answer result }
 {
-    let place = parse(file).and_then(|layout| Elf64 { file, layout }.dynamic_symbol_name(st_name));
-    give(answer, place_answer(place))
+    give_place(file, answer, |elf| elf.dynamic_symbol_name(st_name))
 }
 
 // Where the symbols of .symtab stand: none where there is no such section.
@@ -233,7 +246,8 @@ pub fn sbpf_who_wrote_all(
 
 // A load, as `sbpf_load`, and who wrote a byte of its image: the words of the load's answer, and behind
 // them the writer's two.
-// Kept: the columns one by one, as C lends them.
+// Kept: the columns one by one, as C lends them; and the registry and the settings written out in both loads,
+// since a function that makes them would take the same seven parameters.
 #[tactic(auto, using(crate::proofs::Giving::one_by_one, crate::proofs::GivingBoth::given))]
 pub fn sbpf_load_who_wrote(
     file: &[u8],

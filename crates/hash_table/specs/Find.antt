@@ -9,8 +9,9 @@ use Rattle.ebpf.specs.LittleEndian.{le}
 use Rattle.elf_parser.specs.declared.layout.Layout.{Layout}
 use Rattle.elf_parser.specs.declared.parts.Place.{Place}
 use Rattle.elf_parser.specs.declared.error.ElfParserError.{ElfParserError}
+use Rattle.elf_parser.specs.declared.error.Report.{Report}
 use Rattle.elf_parser.specs.Dynamic.{file_offset}
-use Rattle.elf_parser.specs.Errors.{and_then as then_read}
+use Rattle.elf_parser.specs.Errors.{and_then as then_read, valued}
 use Rattle.elf_parser.specs.Names.{dynamic_symbol_name}
 use Rattle.elf_parser.specs.Parts.{bytes_at}
 use Rattle.elf_parser.specs.Records.{dynamic_symbol_of}
@@ -22,6 +23,10 @@ use Rattle.hash_table.specs.Hash.{elf_hash}
 -- the table cannot be used
 abbrev pub bad_table : BadHashTable
 bad_table = record {}
+
+-- its number
+abbrev pub report_of : BadHashTable → Report
+report_of bad = valued 48 0
 
 -- ---- the table
 

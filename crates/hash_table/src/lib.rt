@@ -3,10 +3,10 @@
 // chains, numbers of 32 bits each. Every function takes the file with its layout, also one that no parse made.
 ghost use Rattle.std.specs.Prelude.{◌≡◌, ◌+◌, ◌%◌, ◌<◌, length};
 ghost use Rattle.hash_table.specs.Hash.{sum_with, high_bits, without_high, hash_with, elf_hash};
-ghost use Rattle.hash_table.specs.Find.{bad_table, table_at, hash_table_of, Usable, number_at, bucket_at, chain_at, carries, link_at, walked, find_symbol};
+ghost use Rattle.hash_table.specs.Find.{bad_table, report_of, table_at, hash_table_of, Usable, number_at, bucket_at, chain_at, carries, link_at, walked, find_symbol};
 
 use ebpf::little_endian::read;
-use elf_parser::{Elf64, ElfParserError, bytes_at, past};
+use elf_parser::{Elf64, ElfParserError, Report, bytes_at, past};
 use std::ops::ControlFlow;
 
 // (h << 4) + byte, modulo 2^32.
@@ -58,9 +58,17 @@ struct HashTable {
     nchain: u32,
 }
 
-// The hash table cannot be used: 48.
+// The hash table cannot be used.
 #[derive(Clone, Copy, PartialEq, Eq, Debug)]
 pub struct BadHashTable;
+
+impl From<BadHashTable> for Report {
+    ghost from_gives = { λ e r. r ≡ report_of e };
+
+    fn from(_: BadHashTable) -> Report {
+        Report::with_value(48, 0)
+    }
+}
 
 // A place that the reader refuses leaves nothing to use.
 impl From<ElfParserError> for BadHashTable {

@@ -1,8 +1,9 @@
 #![tactic(auto)]
 // Reading until a buffer is full, and record by record.
-ghost use Rattle.std.specs.Prelude.{◌≡◌, ◌<◌, ◌≤◌, length, take, IfOk};
+ghost use Rattle.std.specs.Prelude.{◌≡◌, ◌<◌, ◌≤◌, length, take, IfOk, Err, false};
 ghost use Rattle.std.specs.Io.KnownBytes.{Consumes, IsAtEnd};
-ghost use Rattle.input.specs.declared.RecordError.TheVariants.{Io};
+ghost use Rattle.std.specs.declared.io.Error.{Error};
+ghost use Rattle.input.specs.declared.RecordError.TheVariants.{Io, Bad};
 
 use std::io;
 use std::io::Read;
@@ -19,6 +20,23 @@ impl From<io::Error> for RecordError {
 
     fn from(e: io::Error) -> RecordError {
         RecordError::Io(e)
+    }
+}
+
+impl RecordError {
+    // Ends the lines: prints the words where the record was no right one, and answers that there is no more; or
+    // hands the failure on.
+    pub fn tell(self, rt: &impl Print, words: &str) -> io::Result<bool>
+        ensures failed { (e : Error) → self ≡ Io e → result ≡ Err e }
+        ensures bad { IfOk result (λ more. (more ≡ false) × (self ≡ Bad)) }
+    {
+        match self {
+            RecordError::Io(failure) => Err(failure),
+            RecordError::Bad => {
+                println!(rt; "{words}")?;
+                Ok(false)
+            }
+        }
     }
 }
 

@@ -73,15 +73,10 @@ fn put_column(bytes: &mut [u8], at: usize, column: &[u32]) -> usize
     requires { at ≤ length bytes.old }
     ensures { result ≤ length bytes.old }
 {
-    let mut to = at;
-    for number in column {
-        if bytes.len() - to < 4 {
-            break;
-        }
-        bytes[to..to + 4].copy_from_slice(&number.to_le_bytes());
-        to += 4;
+    for (four, number) in bytes[at..].chunks_exact_mut(4).zip(column) {
+        four.copy_from_slice(&number.to_le_bytes());
     }
-    to
+    at + 4 * column.len().min((bytes.len() - at) / 4)
 }
 
 // The hash of the columns one after the other, over bytes that hold them.

@@ -162,26 +162,13 @@ fn next_case(rt: &impl Print, input: &mut impl Read) -> Result<bool, RecordError
     Ok(true)
 }
 
-// One case, and whether there was a whole one.
-// Kept: `worked` has one of this shape; one function of both would take the words and a closure, and be no
-// shorter.
-fn next_line(rt: &impl Print, input: &mut impl Read) -> io::Result<bool> {
-    match next_case(rt, input) {
-        Ok(more) => Ok(more),
-        Err(RecordError::Io(e)) => Err(e),
-        Err(RecordError::Bad) => {
-            println!(rt; "bad case")?;
-            Ok(false)
-        }
-    }
-}
-
 // Kept: each program has a loop of its own, with its bound and its record: a public function that takes a closure
 // would have to ask that the closure can be called, and public functions here ask nothing.
 fn main(rt: HostRuntime) -> io::Result<()> {
     let mut input = rt.stdin();
     for _ in 0..MOST_CASES {
-        if !next_line(&rt, &mut input)? {
+        let more = next_case(&rt, &mut input).or_else(|e| e.tell(&rt, "bad case"))?;
+        if !more {
             break;
         }
     }

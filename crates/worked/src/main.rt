@@ -7,6 +7,8 @@
 // the rows, what is asked, 0 for a load, and the number that a question has; and the file. Question 5, for
 // a symbol by its name, has the name behind the file, and its length as the number; question 6 asks who wrote
 // the byte with that number. What is lent holds anything but zeros before.
+ghost use Rattle.std.specs.Prelude.{◌≤◌, IfOk};
+
 use ebpf::little_endian::read;
 use exports::{
     sbpf_dynamic_symbol_name, sbpf_find_symbol, sbpf_load, sbpf_load_who_wrote, sbpf_section_name,
@@ -52,42 +54,64 @@ fn record_of(bytes: &[u8; NUMBERS]) -> Record {
     }
 }
 
-// Loads, and prints what was answered. The shortest column says how many rows there are.
-fn load_and_print(rt: &impl Print, file: &[u8], record: Record) -> Result<(), RecordError> {
+// What is lent for a load.
+#[derive(Drop)]
+struct Lent {
+    image: [u8; FILE],
+    ro: [u8; FILE],
+    keys: [u32; ROWS],
+    indices: [u32; ROWS],
+    kinds: [u32; ROWS],
+    starts: [u32; ROWS],
+    lengths: [u32; ROWS],
+    answer: [u64; 24],
+}
+
+// What a record's load is lent, where it asks for no more than there is.
+fn lent_for(record: Record) -> Result<Lent, RecordError>
+    ensures { IfOk result (λ lent. «record».builtins ≤ 1 × «record».rows ≤ 8) }
+{
     if 1 < record.builtins || ROWS < record.rows {
         return Err(RecordError::Bad);
     }
-    let mut image = [0xa1u8; FILE];
-    let mut ro = [0xa2u8; FILE];
-    let mut keys = [0xa3a3_a3a3u32; ROWS];
-    let mut indices = [0xa4a4_a4a4u32; ROWS];
-    let mut kinds = [0xa5a5_a5a5u32; ROWS];
-    let mut starts = [0xa6a6_a6a6u32; ROWS];
-    let mut lengths = [0xa7a7_a7a7u32; ROWS];
-    let mut answer = [0xa8a8_a8a8u64; 24];
+    Ok(Lent {
+        image: [0xa1; FILE],
+        ro: [0xa2; FILE],
+        keys: [0xa3a3_a3a3; ROWS],
+        indices: [0xa4a4_a4a4; ROWS],
+        kinds: [0xa5a5_a5a5; ROWS],
+        starts: [0xa6a6_a6a6; ROWS],
+        lengths: [0xa7a7_a7a7; ROWS],
+        answer: [0xa8a8_a8a8; 24],
+    })
+}
+
+// Loads, and prints what was answered. The shortest column says how many rows there are.
+fn load_and_print(rt: &impl Print, file: &[u8], record: Record) -> Result<(), RecordError> {
+    let mut lent = lent_for(record)?;
     let builtin = [record.builtin];
     let number = sbpf_load(
         file,
         &builtin[..record.builtins],
         record.settings,
-        &mut image,
-        &mut ro,
-        &mut keys,
-        &mut indices,
-        &mut kinds,
-        &mut starts,
-        &mut lengths[..record.rows],
-        &mut answer,
+        &mut lent.image,
+        &mut lent.ro,
+        &mut lent.keys,
+        &mut lent.indices,
+        &mut lent.kinds,
+        &mut lent.starts,
+        &mut lent.lengths[..record.rows],
+        &mut lent.answer,
     );
     let table = FunctionTable {
-        keys: &keys,
-        indices: &indices,
-        kinds: &kinds,
-        starts: &starts,
-        lengths: &lengths,
-        used: answer[6] as usize,
+        keys: &lent.keys,
+        indices: &lent.indices,
+        kinds: &lent.kinds,
+        starts: &lent.starts,
+        lengths: &lent.lengths,
+        used: lent.answer[6] as usize,
     };
-    print_load(rt, number, &answer, file, &image, table)?;
+    print_load(rt, number, &lent.answer, file, &lent.image, table)?;
     Ok(())
 }
 
@@ -105,33 +129,23 @@ fn print_wrote(rt: &impl Print, file: &[u8], loaded: &[u64; 24], offset: u64) ->
 
 // Loads, with the question who wrote a byte.
 fn load_and_print_wrote(rt: &impl Print, file: &[u8], record: Record) -> Result<(), RecordError> {
-    if 1 < record.builtins || ROWS < record.rows {
-        return Err(RecordError::Bad);
-    }
-    let mut image = [0xa1u8; FILE];
-    let mut ro = [0xa2u8; FILE];
-    let mut keys = [0xa3a3_a3a3u32; ROWS];
-    let mut indices = [0xa4a4_a4a4u32; ROWS];
-    let mut kinds = [0xa5a5_a5a5u32; ROWS];
-    let mut starts = [0xa6a6_a6a6u32; ROWS];
-    let mut lengths = [0xa7a7_a7a7u32; ROWS];
-    let mut answer = [0xa8a8_a8a8u64; 24];
+    let mut lent = lent_for(record)?;
     let builtin = [record.builtin];
     sbpf_load_who_wrote(
         file,
         &builtin[..record.builtins],
         record.settings,
-        &mut image,
-        &mut ro,
-        &mut keys,
-        &mut indices,
-        &mut kinds,
-        &mut starts,
-        &mut lengths[..record.rows],
+        &mut lent.image,
+        &mut lent.ro,
+        &mut lent.keys,
+        &mut lent.indices,
+        &mut lent.kinds,
+        &mut lent.starts,
+        &mut lent.lengths[..record.rows],
         record.number as u64,
-        &mut answer,
+        &mut lent.answer,
     );
-    print_wrote(rt, file, &answer, record.number as u64)?;
+    print_wrote(rt, file, &lent.answer, record.number as u64)?;
     Ok(())
 }
 
@@ -214,26 +228,13 @@ fn next_record(rt: &impl Print, input: &mut impl Read) -> Result<bool, RecordErr
     Ok(true)
 }
 
-// One record, and whether there was a right one.
-// Kept: `load_vectors` has one of this shape; one function of both would take the words and a closure, and be no
-// shorter.
-fn next_line(rt: &impl Print, input: &mut impl Read) -> io::Result<bool> {
-    match next_record(rt, input) {
-        Ok(more) => Ok(more),
-        Err(RecordError::Io(e)) => Err(e),
-        Err(RecordError::Bad) => {
-            println!(rt; "bad record")?;
-            Ok(false)
-        }
-    }
-}
-
 // Kept: each program has a loop of its own, with its bound and its record: a public function that takes a closure
 // would have to ask that the closure can be called, and public functions here ask nothing.
 fn main(rt: HostRuntime) -> io::Result<()> {
     let mut input = rt.stdin();
     for _ in 0..MOST {
-        if !next_line(&rt, &mut input)? {
+        let more = next_record(&rt, &mut input).or_else(|e| e.tell(&rt, "bad record"))?;
+        if !more {
             break;
         }
     }
