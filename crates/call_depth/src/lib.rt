@@ -13,7 +13,7 @@ ghost use Rattle.call_depth.specs.Loads.{LoadsAndMeasures};
 
 use call_graph::Recursive;
 use elf_parser::past;
-use loader::{Accepted, BuiltinProgram, ElfError, LoadAnd, load};
+use loader::{Accepted, BuiltinProgram, ElfError, LoadAnd, MAX_FILE_LENGTH, load};
 use profile::Profile;
 use program::{FunctionRegistry, FunctionTable};
 use slots::FLAG;
@@ -83,7 +83,8 @@ fn fits_in(rows: usize, len: usize, a: Accepted) -> bool
     ensures { result ≡ fits_in rows len a.used a.text.start a.text.length }
 {
     let outside = past(len as u64, a.text.start as u64, a.text.length as u64);
-    ((a.used <= rows) & (a.used < 0x4000_0000)) & ((a.text.length <= 0x100_0000) & !outside)
+    ((a.used <= rows) & (a.used < 0x4000_0000))
+        & ((a.text.length as u64 <= MAX_FILE_LENGTH) & !outside)
 }
 
 // By an accepted load's answer.

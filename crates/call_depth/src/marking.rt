@@ -62,7 +62,8 @@ impl Profile<'_> {
         requires { Begun (profile_now self) (slots_in self.text.now) b work.old }
         ensures { Spread (profile_of self) b work.old work.new }
     {
-        // Kept: it goes on until a pass marks nothing new, and counts nothing.
+        // Kept: the contract needs the pass that marks nothing new; for a `for` that it is reached within so many
+        // passes would have to be proved besides.
         loop {
             let more = self.mark_pass(work, b);
             if more == 0 {

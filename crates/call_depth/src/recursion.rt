@@ -55,7 +55,8 @@ fn keep_marked(work: &mut [u32], entry: usize)
 
 // Row `r`, or `best`, whichever is left and has the smaller index.
 // Kept: `indices.len()` is no row. An Option is no plainer: `smallest`, where a row is always left, would
-// have an arm for none, and here `best` would still have to be tested before its index is read.
+// have an arm for none, and here `best` would still have to be tested before its index is read. By
+// `filter(..).min_by_key(..)` which of two rows of one index comes is not what the contract says of a prefix.
 #[tactic(auto, using(call_graph::proofs::Least::lowest_settled, call_graph::proofs::Least::lowest_kept, call_graph::proofs::Least::lowest_new))]
 fn lower(work: &[u32], indices: &[u32], best: usize, r: usize) -> usize
     requires { (length work.now ≡ length indices.now) × (r < length indices.now) }
@@ -108,7 +109,8 @@ impl Profile<'_> {
         requires { Kept (profile_now self) (slots_in self.text.now) entry work.old }
         ensures { Smallest (CallsFunction (profile_of self)) (get_or self.entry.indices.now entry 0) result }
     {
-        // Kept: it goes on until a row reaches itself, and counts nothing.
+        // Kept: the contract needs a row that reaches itself; for a `for` that one comes within so many turns would
+        // have to be proved besides.
         loop {
             let r = lowest(work, self.indices);
             let seen = self.marks_itself(work, r);

@@ -9,6 +9,8 @@ ghost use Rattle.call_depth.specs.Called.{profile_now, profile_of, slots_in, Wor
 use crate::profile::Profile;
 use crate::slots::FLAG;
 
+// Kept: a test of both. By `filter` and `min` over the indices `end_of` would need a law of its own for a definition
+// that takes them in this order.
 #[tactic(auto, using(ebpf::specs::Choice::choices))]
 fn nearer(i: u32, x: u32, best: u32) -> u32
     ensures { result ≡ (x if ltb i x && ltb x best else best) }
@@ -79,7 +81,8 @@ impl Profile<'_> {
         requires { WordsReady (profile_now self) (slots_in self.text.now) work.old × (entry < length self.indices.now) }
         ensures { Stopped (profile_of self) entry work.new }
     {
-        // Kept: it goes on until a pass settles nothing new, or the row, and counts nothing.
+        // Kept: the contract needs the pass that settles nothing new, or the row; for a `for` that it is reached within
+        // so many passes would have to be proved besides.
         loop {
             let more = self.settle_pass(work);
             if more == 0 {
