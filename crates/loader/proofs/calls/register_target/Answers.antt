@@ -1,6 +1,7 @@
 -- `loader::calls::register_target` meets its contract: the key is a built-in's, or the row goes to the table.
 -- Assumes nothing.
 use mathlib.Core.Path.{◌≡◌, sym, ◌∙◌}
+use Rattle.std.proofs.lemmas.Result.{err_from_is_err_and}
 use Rattle.program.specs.declared.FunctionName.TheVariants.{OfIndex}
 use Rattle.program.specs.HashedLegacy.{row_under}
 use Rattle.program.specs.Table.{columns_of}
@@ -15,16 +16,17 @@ under p = sym (rw p.hashed_legacy-legacy.ensures at p.row_under.ensures)
 
 pub enter_alike-requires : goal.enter_alike-requires
 enter_alike-requires c =
-    (c.requires.1, target_alike c.args.inputs.now.builtins.now c.args.inputs.now.job c.args.key c.args.index _ (under (goal.at.enter_alike-requires c).After-row_under ∙ c.in-Ok.is) (columns_of c.args.out.now.registry.now) c.args.out.now.registry.now.used c.requires.2)
+    (c.requires.1, target_alike c.args.inputs.now.builtins.now c.args.inputs.now.job c.args.key c.args.index _ (under (goal.at.enter_alike-requires c).After-row_under ∙ c.in_ok-row.was) (columns_of c.args.out.now.registry.now) c.args.out.now.registry.now.used c.requires.2)
 
-pub returns-in-Ok-clause-targets : goal.returns-in-Ok-clause-targets
-returns-in-Ok-clause-targets c =
-    targets_free c.args.inputs.now.builtins.now c.args.inputs.now.job c.args.key c.args.index c.requires.0 _ (columns_of c.args.out.now.registry.now) (columns_of c.enter_alike.new.self.registry.now) c.args.out.now.registry.now.used c.args.out.now.moves (held_of c.enter_alike.result c.enter_alike.new.self) (under (goal.at.returns-in-Ok-clause-targets c).After-row_under ∙ c.in-Ok.is) c.enter_alike.ensures.enters
+pub returns-clause-targets : goal.returns-clause-targets
+returns-clause-targets c =
+    targets_free c.args.inputs.now.builtins.now c.args.inputs.now.job c.args.key c.args.index c.requires.0 _ (columns_of c.args.out.now.registry.now) (columns_of c.enter_alike.new.self.registry.now) c.args.out.now.registry.now.used c.args.out.now.moves (held_of c.enter_alike.result c.enter_alike.new.self) (under (goal.at.returns-clause-targets c).After-row_under ∙ c.in_ok-row.was) c.enter_alike.ensures.enters
 
-pub returns-in-Ok-clause-alike : goal.returns-in-Ok-clause-alike
-returns-in-Ok-clause-alike c =
-    still_target c.args.inputs.now.builtins.now c.args.inputs.now.job c.args.key c.args.index _ (under (goal.at.returns-in-Ok-clause-alike c).After-row_under ∙ c.in-Ok.is) (columns_of c.enter_alike.new.self.registry.now) (held_of c.enter_alike.result c.enter_alike.new.self) c.enter_alike.ensures.alike
+pub returns-clause-alike : goal.returns-clause-alike
+returns-clause-alike c =
+    still_target c.args.inputs.now.builtins.now c.args.inputs.now.job c.args.key c.args.index _ (under (goal.at.returns-clause-alike c).After-row_under ∙ c.in_ok-row.was) (columns_of c.enter_alike.new.self.registry.now) (held_of c.enter_alike.result c.enter_alike.new.self) c.enter_alike.ensures.alike
 
-pub returns-in-Err-clause-targets : goal.returns-in-Err-clause-targets
-returns-in-Err-clause-targets c =
-    targets_taken c.args.inputs.now.builtins.now c.args.inputs.now.job c.args.key c.args.index c.requires.0 _ (columns_of c.args.out.now.registry.now) c.args.out.now.registry.now.used c.args.out.now.moves (under (goal.at.returns-in-Err-clause-targets c).After-row_under ∙ c.in-Err.is)
+pub returns-in_err-row-clause-targets : goal.returns-in_err-row-clause-targets
+returns-in_err-row-clause-targets c =
+    let p = err_from_is_err_and c.from_residual.result c.from_residual.ensures.1 in
+    rw (p.1, p.2) (targets_taken c.args.inputs.now.builtins.now c.args.inputs.now.job c.args.key c.args.index c.requires.0 _ (columns_of c.args.out.now.registry.now) c.args.out.now.registry.now.used c.args.out.now.moves (under (goal.at.returns-in_err-row-clause-targets c).After-row_under ∙ c.in_err-row.was))
