@@ -98,6 +98,11 @@ unfoldable pub next_call : List ℕ → ℕ → ℕ → ℕ
 next_call text zero i = i
 next_call text (suc n) i = i if eqb (get_or text (8 * i) 0) 0x85 else next_call text n (i + 1)
 
+-- what a search among these n slots answers: the number of that one, or that there is none
+abbrev pub Among : List ℕ → ℕ → ℕ → Option ℕ → Type 0
+Among text n i None = next_call text n i ≡ i + n
+Among text n i (Some at) = (at < i + n) × (next_call text n i ≡ at)
+
 -- in the form that the loop's proof needs
 module _ (text : List ℕ) (i : ℕ) where
   pub call_here : (n : ℕ) → 0 < n → get_or text (8 * i) 0 ≡ 0x85 → next_call text n i ≡ i
@@ -105,9 +110,9 @@ module _ (text : List ℕ) (i : ℕ) where
   call_here zero h e = absurd (omega arith)
   call_here (suc n) h e = let b : eqb (get_or text (8 * i) 0) 0x85 ≡ true = eq-eqb _ _ e in rw b
 
-  pub call_later : (n m : ℕ) → n ≡ suc m → (get_or text (8 * i) 0 ≡ 0x85 → ⊥) → next_call text n i ≡ next_call text m (i + 1)
+  pub call_later : (n m k : ℕ) → n ≡ suc m → k ≡ i + 1 → (get_or text (8 * i) 0 ≡ 0x85 → ⊥) → next_call text n i ≡ next_call text m k
   unfolding next_call ◌if◌else◌
-  call_later n m h e = let b : eqb (get_or text (8 * i) 0) 0x85 ≡ false = ne_eqb _ _ e in rw (h, b)
+  call_later n m k h q e = let b : eqb (get_or text (8 * i) 0) 0x85 ≡ false = ne_eqb _ _ e in rw (h, q, b)
 
   pub call_none : (n : ℕ) → n ≤ 0 → next_call text n i ≡ i
   unfolding next_call

@@ -2,7 +2,7 @@
 ghost use Rattle.std.specs.Prelude.{◌≡◌, ◌+◌, ◌-◌, ◌*◌, ◌%◌, ◌≤◌, ◌<◌, ◌^◌, min, eqb, length, get_or, set};
 ghost use Rattle.program.specs.declared.FunctionName.TheVariants.{OfIndex};
 ghost use Rattle.loader.specs.Functions.{row_for};
-ghost use Rattle.loader.specs.Calls.{inside, target, calls_key, is_local_call, call_of, call_at, text_of, slot_count, slot_trace, calls_trace, next_call};
+ghost use Rattle.loader.specs.Calls.{inside, target, calls_key, is_local_call, call_of, call_at, text_of, slot_count, slot_trace, calls_trace, next_call, Among};
 ghost use Rattle.loader.specs.CallLoop.{TargetAsks, Targets, StillAlike, target_row, SlotAsks, StillHeld, SlotsAsk, SlotsLead};
 ghost use Rattle.loader.specs.InnerContracts.{Keeps, SettlesTo, FirstAsks};
 
@@ -13,34 +13,16 @@ use crate::read_only::copy_bytes;
 use ebpf::{CALL_IMM, Insn, get_insn};
 use program::FunctionName;
 
-// The target `to` of the call in slot number `i`.
-// Kept: `count` and `i` by themselves in three functions. Both fit, which their clauses say; a struct of two numbers
-// with that as a ghost field would be longer than the three clauses.
-#[tactic(auto, using(ebpf::specs::Choice::choices), unfolding(crate::specs::Calls::inside))]
-fn inside_text(count: u64, i: u64, to: u64) -> Result<u32, ElfError>
-    requires { count ≤ 2 ^ 24 }
-    ensures { result ≡ inside count i to }
-{
-    if to < count {
-        return Ok(to as u32);
-    }
-    Err(ElfError::RelativeJumpOutOfBounds { slot: i })
-}
-
-// The slot number `i` plus 1 plus the signed immediate: bits from 2^31 on count from 2^32 down.
-#[tactic(auto, using(ebpf::specs::Choice::choices), unfolding(crate::specs::Calls::target))]
-fn target_of(count: u64, i: u64, imm: u32) -> Result<u32, ElfError>
+// The slot number `i` plus 1 plus the signed immediate, where there is such a slot.
+#[tactic(auto, using(ebpf::specs::Choice::choices), unfolding(crate::specs::Calls::target, crate::specs::Calls::inside))]
+fn target_of(count: usize, i: usize, imm: u32) -> Result<u32, ElfError>
     requires { (i < 2 ^ 24) × (count ≤ 2 ^ 24) }
     ensures { result ≡ target count i imm }
 {
-    let to = i + 1 + imm as u64;
-    if imm < 0x8000_0000 {
-        return inside_text(count, i, to);
+    match (i + 1).checked_add_signed(imm.cast_signed() as isize) {
+        Some(to) if to < count => Ok(to as u32),
+        _ => Err(ElfError::RelativeJumpOutOfBounds { slot: i as u64 }),
     }
-    if to < 0x1_0000_0000 {
-        return Err(ElfError::RelativeJumpOutOfBounds { slot: i });
-    }
-    inside_text(count, i, to - 0x1_0000_0000)
 }
 
 // Whether an instruction of the image calls by a key, which is its immediate.
@@ -60,19 +42,6 @@ pub fn is_local_call(version2: bool, insn: Insn) -> bool
     calls_key(version2, insn) & (insn.imm != 0xffff_ffff)
 }
 
-// Inlined, as what it answers would go through memory otherwise.
-#[inline(always)]
-#[tactic(auto, using(ebpf::specs::Choice::choices), unfolding(crate::specs::Calls::call_of))]
-fn call_of(count: u64, version2: bool, i: u64, insn: Insn) -> Result<Option<u32>, ElfError>
-    requires { (i < 2 ^ 24) × (count ≤ 2 ^ 24) }
-    ensures { result ≡ call_of count version2 i insn }
-{
-    if is_local_call(version2, insn) {
-        return Ok(Some(target_of(count, i, insn.imm)?));
-    }
-    Ok(None)
-}
-
 impl<'a> Inputs<'a> {
     // The text in the file.
     #[inline(always)]
@@ -84,52 +53,53 @@ impl<'a> Inputs<'a> {
     }
 }
 
-// What slot number `i` of a text calls, if it calls another slot. Inlined for the same reason.
+// What slot number `i` of a text calls, if it calls another slot. Inlined, as what it answers would go through
+// memory otherwise.
 #[inline(always)]
-#[tactic(auto, using(crate::proofs::Slots::whole_slot), unfolding(crate::specs::Calls::call_at))]
+#[tactic(auto, using(ebpf::specs::Choice::choices, crate::proofs::Slots::whole_slot), unfolding(crate::specs::Calls::call_at, crate::specs::Calls::call_of))]
 fn call_at(text: &[u8], version2: bool, i: usize) -> Result<Option<u32>, ElfError>
     requires { length text.now ≤ 2 ^ 24 }
     ensures { result ≡ call_at text.now version2 i }
 {
     match get_insn(text, i) {
-        None => Ok(None),
-        Some(insn) => call_of((text.len() / 8) as u64, version2, i as u64, insn),
+        Some(insn) if is_local_call(version2, insn) => {
+            target_of(text.len() / 8, i, insn.imm).map(Some)
+        }
+        _ => Ok(None),
     }
 }
 
-// The first of a text's slots from number `from` up to `to` with a call's opcode; `to` where none has it. Most
-// slots call nothing, and this looks at one byte of each. Inlined, so that eight slots take no loop.
-// Kept: by `find` over the range, a load of 64 KiB with 800 calls takes a quarter longer.
+// The first with a call's opcode of so many slots of a text, from number `from` on. Most slots call nothing, and
+// this looks at one byte of each. Inlined, so that eight slots take no loop.
+// Kept: by `find` over the range, proved as well, a load of 1 MiB without calls takes a third longer.
 #[inline(always)]
 #[tactic(auto, using(crate::specs::Calls::call_here, crate::specs::Calls::call_later, crate::specs::Calls::call_none))]
-fn call_among(text: &[u8], from: usize, to: usize) -> usize
-    requires { (from ≤ to) × (8 * to ≤ length text.now) }
-    ensures { result ≡ next_call text.now (to - from) from }
+fn call_among(text: &[u8], from: usize, slots: usize) -> Option<usize>
+    requires { 8 * (from + slots) ≤ length text.now }
+    ensures { Among text.now slots from result }
 {
-    for at in from..to {
-        if text[8 * at] == CALL_IMM {
-            return at;
+    for i in 0..slots {
+        if text[8 * (from + i)] == CALL_IMM {
+            return Some(from + i);
         }
     }
-    to
+    None
 }
 
-// The same by eights, so that the loop tests its own end once for eight slots: a load with few calls takes a
-// twentieth less.
-#[tactic(auto, using(crate::proofs::Eights::eight_here, crate::proofs::Eights::eight_none))]
+// The same of the slots from number `from` up to `to`, or `to` where none has it. By eights, so that the loop
+// tests its own end once for eight slots: a load with few calls takes a twentieth less.
+#[tactic(auto, using(crate::proofs::Eights::eight_here, crate::proofs::Eights::eight_none, crate::proofs::Eights::among_or))]
 fn next_call(text: &[u8], from: usize, to: usize) -> usize
     requires { (from ≤ to) × (8 * to ≤ length text.now) }
     ensures { result ≡ next_call text.now (to - from) from }
 {
-    let eights = (to - from) / 8;
-    for eight in 0..eights {
-        let at = from + 8 * eight;
-        let first = call_among(text, at, at + 8);
-        if first < at + 8 {
+    let slots = to - from;
+    for eight in 0..slots / 8 {
+        if let Some(first) = call_among(text, from + 8 * eight, 8) {
             return first;
         }
     }
-    call_among(text, from + 8 * eights, to)
+    call_among(text, to - slots % 8, slots % 8).unwrap_or(to)
 }
 
 // How many targets of calls are remembered, and how many slots are copied at a time.
@@ -224,14 +194,6 @@ fn register_slots(
     Ok(())
 }
 
-// Where the run of slots from number `i` on ends.
-fn run_end(i: usize, count: usize) -> usize
-    requires { i < count }
-    ensures { result ≡ i + min 512 (count - i) }
-{
-    i + COPIED.min(count - i)
-}
-
 // The file's bytes go into the image, and the calls of all slots are registered in turn, up to the
 // first refusal: a run of slots is copied and then looked at, while its bytes are in the cache.
 pub(crate) fn register_calls(out: &mut Outputs<'_, '_>, inputs: &Inputs<'_>) -> Result<(), ElfError>
@@ -245,15 +207,12 @@ pub(crate) fn register_calls(out: &mut Outputs<'_, '_>, inputs: &Inputs<'_>) -> 
     let end = start + 8 * count;
     let mut seen = [0u32; SEEN];
     copy_bytes(out.image, file, 0, 0, start);
-    let mut i = 0;
-    // Kept: a `for` over `(0..count).step_by(COPIED)` was tried. It is left behind its last turn, without a
-    // step, and the proof of what holds there did not close.
-    while i < count {
-        let to = run_end(i, count);
-        let at = start + 8 * i;
-        copy_bytes(out.image, file, at, at, 8 * (to - i));
-        register_slots(out, &mut seen, inputs, i, to)?;
-        i = to;
+    for run in 0..count.div_ceil(COPIED) {
+        let from = COPIED * run;
+        let to = count.min(from + COPIED);
+        let at = start + 8 * from;
+        copy_bytes(out.image, file, at, at, 8 * (to - from));
+        register_slots(out, &mut seen, inputs, from, to)?;
     }
     copy_bytes(out.image, file, end, end, file.len() - end);
     Ok(())

@@ -1,9 +1,9 @@
--- `loader::calls::register_calls` meets its contract. The loop's invariant: the slots from number i on are still to be copied; with the
--- rows and moves held now they settle to what all settle to.
+-- `loader::calls::register_calls` meets its contract. The loop's invariant: the slots from the run's first on are still to be copied; with
+-- the rows and moves held now they settle to what all settle to.
 -- Assumes nothing.
 use mathlib.Core.Path.{◌≡◌, sym, subst, ◌∙◌}
 use mathlib.Core.List.{List}
-use Prim.Native.Nat.{ℕ, ◌+◌, ◌-◌, ◌*◌, ◌<◌, ◌≤◌, min}
+use Prim.Native.Nat.{ℕ, ◌+◌, ◌-◌, ◌*◌, ◌/◌, ◌%◌, ◌<◌, ◌≤◌, min}
 use native.Mathlib.Omega.{arith}
 use lib.ListN.{length, drop}
 use lib.Seq.{paste}
@@ -17,9 +17,9 @@ use Rattle.loader.specs.CallLoop.{ahead, StillHeld, Leads}
 use Rattle.loader.specs.InnerContracts.{Keeps, Settles, held_of}
 use Rattle.loader.proofs.Ahead.{ahead_more, ahead_all, ahead_length}
 use Rattle.loader.proofs.Targeting.{none_held}
-use Rattle.loader.proofs.Going.{keeps_all, keeps_on, going_start, going_done, all_begin, all_lead, in_begins_run, in_run, in_run_stop}
+use Rattle.loader.proofs.Going.{keeps_all, keeps_on, Going, going_start, going_done, all_begin, all_lead, in_begins_run, in_run, in_run_stop}
 use Rattle.loader.proofs.Slots.{text_in}
-use Rattle.loader.proofs.calls.register_calls.Goals.{After-run_end-to, After-register_slots}
+use Rattle.loader.proofs.calls.register_calls.Goals.{After-min-to, After-register_slots}
 use Rattle.loader.proofs.calls.register_calls.Goals as goal
 
 -- a run of slots copied
@@ -29,103 +29,108 @@ copied file im im' start i to l len h e =
     let q : start + 8 * to ≡ start + 8 * i + 8 * (to - i) = omega arith in
     rw (e, q) (ahead_more im file (start + 8 * i) (8 * (to - i)) len (omega (arith, q)))
 
--- what is left copied
-rest : (file im im' : List ℕ) (start i n : ℕ) → i ≡ n → length im ≡ length file → start + 8 * n ≤ length file → im' ≡ paste im (start + 8 * n) (drop (start + 8 * n) file) (length file - (start + 8 * n)) → im' ≡ ahead (start + 8 * i) im file
-rest file im im' start i n e len h is = rw e (is ∙ ahead_all im file (start + 8 * n) len h)
+-- where a run starts and ends
+starts : (run count n : ℕ) → n ≡ count / 512 + min 1 (count % 512) → run < n → min (512 * run) count ≡ 512 * run
+starts run count n e l = omega (arith, l, e)
 
--- where the run ends
-runs : (i count to : ℕ) → i < count → to ≡ i + min 512 (count - i) → (i < to) × (to ≤ count)
-runs i count to l e = (omega arith, omega arith)
+ends : (run count n to : ℕ) → n ≡ count / 512 + min 1 (count % 512) → run < n → to ≡ min count (512 * run + 512) → (512 * run < to) × (to ≤ count) × (min (512 * (run + 1)) count ≡ to)
+ends run count n to e l q = (omega (arith, l, e, q), omega (arith, q), omega (arith, l, e, q))
 
-ran : (r : After-run_end-to) → (r.loop-i.i < r.run_end-to.result) × (r.run_end-to.result ≤ slot_count r.args.inputs.now.job)
-ran r = runs _ _ _ r.loop-i-test.true r.run_end-to.ensures
+all_run : (run count n : ℕ) → n ≡ count / 512 + min 1 (count % 512) → n ≤ run → min (512 * run) count ≡ count
+all_run run count n e l = omega (arith, l, e)
 
-pub loop-i-init : goal.loop-i-init
-loop-i-init c =
+ran : (r : After-min-to) → (512 * r.loop-run.run < r.min-to.result) × (r.min-to.result ≤ slot_count r.args.inputs.now.job) × (min (512 * (r.loop-run.run + 1)) (slot_count r.args.inputs.now.job) ≡ r.min-to.result)
+ran r = ends _ _ _ _ r.div_ceil-run-end.ensures r.loop-run-test.true r.min-to.ensures
+
+-- the invariant at the run's first slot
+going : (r : After-min-to) → Going (slot_trace r.args.inputs.now.file.now r.args.inputs.now.builtins.now r.args.inputs.now.job) (slot_count r.args.inputs.now.job) r.args.inputs.now.file.now (ahead (r.args.inputs.now.job.text.start + 8 * (512 * r.loop-run.run)) r.loop-run.out.image.now r.args.inputs.now.file.now) (columns_of r.args.out.now.registry.now) (columns_of r.loop-run.out.registry.now) r.args.out.now.registry.now.used r.args.out.now.moves r.loop-run.out.registry.now.used r.loop-run.out.moves (512 * r.loop-run.run)
+going r = rw (starts _ _ _ r.div_ceil-run-end.ensures r.loop-run-test.true) at r.loop-run.invariant.1
+
+pub loop-run-init : goal.loop-run-init
+loop-run-init c =
     let i = c.args.inputs.now in
     let o = c.args.out.now in
     let e : i.job.text.start + 0 ≡ 0 + i.job.text.start = omega arith in
-    let front : ahead (i.job.text.start + 0) c.copy_bytes.new.to i.file.now ≡ i.file.now = rw (e, c.copy_bytes.ensures) (ahead_more o.image.now i.file.now 0 i.job.text.start c.requires.0 (omega (arith, c.args.inputs.now.in_file.text))) in (
+    let front : ahead (i.job.text.start + 0) c.copy_bytes.new.to i.file.now ≡ i.file.now = rw (e, c.copy_bytes.ensures) (ahead_more o.image.now i.file.now 0 i.job.text.start c.requires.0 (omega (arith, c.args.inputs.now.in_file.text))) in
+    let z : min 0 (slot_count i.job) ≡ 0 = omega arith in (
       keeps_all _,
-      rw front (going_start (slot_trace i.file.now i.builtins.now i.job) (slot_count i.job) i.file.now (columns_of o.registry.now) o.registry.now.used o.moves c.requires.1.0),
+      rw (z, front) (going_start (slot_trace i.file.now i.builtins.now i.job) (slot_count i.job) i.file.now (columns_of o.registry.now) o.registry.now.used o.moves c.requires.1.0),
       rw c.requires.1.1 (none_held i.builtins.now i.job (columns_of o.registry.now) 1024),
     )
 
-pub copy_bytes-requires-in-loop-i : goal.copy_bytes-requires-in-loop-i
-copy_bytes-requires-in-loop-i c =
+pub copy_bytes-requires-in-loop-run : goal.copy_bytes-requires-in-loop-run
+copy_bytes-requires-in-loop-run c =
     let j = c.args.inputs.now.job in
-    let bounds = ran (goal.at.copy_bytes-requires-in-loop-i c).After-run_end-to in
-    let h = text_in j.text.start j.text.length c.run_end-to.result _ c.args.inputs.now.in_file.text bounds.1 in
-    (omega (arith, bounds.0, h, c.loop-i.invariant.0.image_as, c.copy_bytes.auto.to, c.requires.0), omega (arith, bounds.0, h))
+    let bounds = ran (goal.at.copy_bytes-requires-in-loop-run c).After-min-to in
+    let h = text_in j.text.start j.text.length c.min-to.result _ c.args.inputs.now.in_file.text bounds.1 in
+    (omega (arith, bounds.0, h, c.loop-run.invariant.0.image_as, c.copy_bytes.auto.to, c.requires.0), omega (arith, bounds.0, h))
 
 -- the slots up to the run's end, once their bytes are copied, whatever their answer
 ran_all : (r : After-register_slots) (a : Result (Unit {0}) ElfError) → r.register_slots.result ≡ a
-    → Leads (slot_trace r.args.inputs.now.file.now r.args.inputs.now.builtins.now r.args.inputs.now.job) (slot_count r.args.inputs.now.job) r.loop-i.i r.run_end-to.result
-    (ahead (r.args.inputs.now.job.text.start + 8 * r.loop-i.i) r.loop-i.out.image.now r.args.inputs.now.file.now)
-    (ahead (r.args.inputs.now.job.text.start + 8 * r.run_end-to.result) r.register_slots.new.out.image.now r.args.inputs.now.file.now)
-    (columns_of r.loop-i.out.registry.now) (columns_of r.register_slots.new.out.registry.now) r.loop-i.out.registry.now.used r.loop-i.out.moves (held_of a r.register_slots.new.out)
+    → Leads (slot_trace r.args.inputs.now.file.now r.args.inputs.now.builtins.now r.args.inputs.now.job) (slot_count r.args.inputs.now.job) (512 * r.loop-run.run) r.min-to.result
+    (ahead (r.args.inputs.now.job.text.start + 8 * (512 * r.loop-run.run)) r.loop-run.out.image.now r.args.inputs.now.file.now)
+    (ahead (r.args.inputs.now.job.text.start + 8 * r.min-to.result) r.register_slots.new.out.image.now r.args.inputs.now.file.now)
+    (columns_of r.loop-run.out.registry.now) (columns_of r.register_slots.new.out.registry.now) r.loop-run.out.registry.now.used r.loop-run.out.moves (held_of a r.register_slots.new.out)
 ran_all r a e =
     let i = r.args.inputs.now in
-    let o = r.loop-i.out in
+    let o = r.loop-run.out in
     let o' = r.register_slots.new.out in
-    let bounds = runs _ _ _ r.loop-i-test.true r.run_end-to.ensures in
-    let was : length o.image.now ≡ length i.file.now = r.loop-i.invariant.0.image_as ∙ r.copy_bytes.auto.to ∙ r.requires.0 in
-    let same = copied i.file.now o.image.now r.copy_bytes-in-loop-i.new.to i.job.text.start r.loop-i.i r.run_end-to.result (omega (arith, bounds.0)) was (text_in i.job.text.start i.job.text.length r.run_end-to.result _ r.args.inputs.now.in_file.text bounds.1) r.copy_bytes-in-loop-i.ensures in
-    subst (λ (b : Result (Unit {0}) ElfError). Leads (slot_trace i.file.now i.builtins.now i.job) (slot_count i.job) r.loop-i.i r.run_end-to.result (ahead (i.job.text.start + 8 * r.loop-i.i) o.image.now i.file.now) (ahead (i.job.text.start + 8 * r.run_end-to.result) o'.image.now i.file.now) (columns_of o.registry.now) (columns_of o'.registry.now) o.registry.now.used o.moves (held_of b o')) e
-    (subst (λ (im : List ℕ). Leads (slot_trace i.file.now i.builtins.now i.job) (slot_count i.job) r.loop-i.i r.run_end-to.result im (ahead (i.job.text.start + 8 * r.run_end-to.result) o'.image.now i.file.now) (columns_of o.registry.now) (columns_of o'.registry.now) o.registry.now.used o.moves (held_of r.register_slots.result o')) same r.register_slots.ensures.leads)
+    let bounds = ends _ _ _ _ r.div_ceil-run-end.ensures r.loop-run-test.true r.min-to.ensures in
+    let was : length o.image.now ≡ length i.file.now = r.loop-run.invariant.0.image_as ∙ r.copy_bytes.auto.to ∙ r.requires.0 in
+    let same = copied i.file.now o.image.now r.copy_bytes-in-loop-run.new.to i.job.text.start (512 * r.loop-run.run) r.min-to.result (omega (arith, bounds.0)) was (text_in i.job.text.start i.job.text.length r.min-to.result _ r.args.inputs.now.in_file.text bounds.1) r.copy_bytes-in-loop-run.ensures in
+    subst (λ (b : Result (Unit {0}) ElfError). Leads (slot_trace i.file.now i.builtins.now i.job) (slot_count i.job) (512 * r.loop-run.run) r.min-to.result (ahead (i.job.text.start + 8 * (512 * r.loop-run.run)) o.image.now i.file.now) (ahead (i.job.text.start + 8 * r.min-to.result) o'.image.now i.file.now) (columns_of o.registry.now) (columns_of o'.registry.now) o.registry.now.used o.moves (held_of b o')) e
+    (subst (λ (im : List ℕ). Leads (slot_trace i.file.now i.builtins.now i.job) (slot_count i.job) (512 * r.loop-run.run) r.min-to.result im (ahead (i.job.text.start + 8 * r.min-to.result) o'.image.now i.file.now) (columns_of o.registry.now) (columns_of o'.registry.now) o.registry.now.used o.moves (held_of r.register_slots.result o')) same r.register_slots.ensures.leads)
 
 pub register_slots-requires : goal.register_slots-requires
 register_slots-requires c =
     let i = c.args.inputs.now in
     let o₀ = c.args.out.now in
-    let o = c.loop-i.out in
-    let bounds = ran (goal.at.register_slots-requires c).After-run_end-to in (
+    let o = c.loop-run.out in
+    let bounds = ran (goal.at.register_slots-requires c).After-min-to in
+    let here = going (goal.at.register_slots-requires c).After-min-to in (
       (
-        c.copy_bytes-in-loop-i.auto.to ∙ c.loop-i.invariant.0.image_as ∙ c.copy_bytes.auto.to ∙ c.requires.0,
-        in_begins_run (slot_trace i.file.now i.builtins.now i.job) (slot_count i.job) 0 (slot_count i.job) (omega arith) i.file.now (ahead (i.job.text.start + 8 * c.loop-i.i) o.image.now i.file.now) (columns_of o₀.registry.now) (columns_of o.registry.now) o₀.registry.now.used o₀.moves o.registry.now.used o.moves c.loop-i.i (all_begin (slot_count i.job) (columns_of o₀.registry.now) o₀.registry.now.used o₀.moves c.requires.1.0) c.loop-i.invariant.1 c.run_end-to.result (omega (arith, bounds.0)) bounds.1 i.file.now (columns_of o.registry.now),
+        c.copy_bytes-in-loop-run.auto.to ∙ c.loop-run.invariant.0.image_as ∙ c.copy_bytes.auto.to ∙ c.requires.0,
+        in_begins_run (slot_trace i.file.now i.builtins.now i.job) (slot_count i.job) 0 (slot_count i.job) (omega arith) i.file.now (ahead (i.job.text.start + 8 * (512 * c.loop-run.run)) o.image.now i.file.now) (columns_of o₀.registry.now) (columns_of o.registry.now) o₀.registry.now.used o₀.moves o.registry.now.used o.moves (512 * c.loop-run.run) (all_begin (slot_count i.job) (columns_of o₀.registry.now) o₀.registry.now.used o₀.moves c.requires.1.0) here c.min-to.result (omega (arith, bounds.0)) bounds.1 i.file.now (columns_of o.registry.now),
       ),
       omega (arith, bounds.0),
       bounds.1,
-      c.loop-i.invariant.2,
+      c.loop-run.invariant.2,
     )
 
 pub returns-in_err-register_slots-clause-settles : goal.returns-in_err-register_slots-clause-settles
 returns-in_err-register_slots-clause-settles c =
     let i = c.args.inputs.now in
     let o₀ = c.args.out.now in
-    let o = c.loop-i.out in
+    let o = c.loop-run.out in
     let o' = c.register_slots.new.out in
-    let bounds = ran (goal.at.returns-in_err-register_slots-clause-settles c).After-run_end-to in
+    let bounds = ran (goal.at.returns-in_err-register_slots-clause-settles c).After-min-to in
+    let here = going (goal.at.returns-in_err-register_slots-clause-settles c).After-min-to in
     let p = err_from_is_err_and c.from_residual.result c.from_residual.ensures.1 in
     rw (p.1, p.2) (all_lead (slot_trace i.file.now i.builtins.now i.job) (slot_count i.job) i.file.now _ (columns_of o₀.registry.now) (columns_of o'.registry.now) o₀.registry.now.used o₀.moves _
-    (in_run_stop (slot_trace i.file.now i.builtins.now i.job) (slot_count i.job) 0 (slot_count i.job) (omega arith) i.file.now (ahead (i.job.text.start + 8 * c.loop-i.i) o.image.now i.file.now) (columns_of o₀.registry.now) (columns_of o.registry.now) o₀.registry.now.used o₀.moves o.registry.now.used o.moves c.loop-i.i (all_begin (slot_count i.job) (columns_of o₀.registry.now) o₀.registry.now.used o₀.moves c.requires.1.0) c.loop-i.invariant.1 c.run_end-to.result (omega (arith, bounds.0)) bounds.1 _ (columns_of o'.registry.now) _ _
+    (in_run_stop (slot_trace i.file.now i.builtins.now i.job) (slot_count i.job) 0 (slot_count i.job) (omega arith) i.file.now (ahead (i.job.text.start + 8 * (512 * c.loop-run.run)) o.image.now i.file.now) (columns_of o₀.registry.now) (columns_of o.registry.now) o₀.registry.now.used o₀.moves o.registry.now.used o.moves (512 * c.loop-run.run) (all_begin (slot_count i.job) (columns_of o₀.registry.now) o₀.registry.now.used o₀.moves c.requires.1.0) here c.min-to.result (omega (arith, bounds.0)) bounds.1 _ (columns_of o'.registry.now) _ _
     (ran_all (goal.at.returns-in_err-register_slots-clause-settles c).After-register_slots _ c.in_err-register_slots.was)))
 
-pub loop-i-smaller : goal.loop-i-smaller
-loop-i-smaller c =
-    let bounds = ran (goal.at.loop-i-smaller c).After-run_end-to in
-    omega (arith, bounds.0, bounds.1)
-
-pub loop-i-preserved : goal.loop-i-preserved
-loop-i-preserved c =
+pub loop-run-preserved : goal.loop-run-preserved
+loop-run-preserved c =
     let i = c.args.inputs.now in
     let o₀ = c.args.out.now in
-    let o = c.loop-i.out in
+    let o = c.loop-run.out in
     let o' = c.register_slots.new.out in
-    let bounds = ran (goal.at.loop-i-preserved c).After-run_end-to in
+    let bounds = ran (goal.at.loop-run-preserved c).After-min-to in
+    let here = going (goal.at.loop-run-preserved c).After-min-to in
     let kept : Keeps o o' = record {
       image_is = c.register_slots.ensures.keeps.image_is;
-      image_as = c.register_slots.ensures.keeps.image_as ∙ c.copy_bytes-in-loop-i.auto.to;
+      image_as = c.register_slots.ensures.keeps.image_as ∙ c.copy_bytes-in-loop-run.auto.to;
       registry_is = c.register_slots.ensures.keeps.registry_is;
       table_is = c.register_slots.ensures.keeps.table_is;
       table_as = c.register_slots.ensures.keeps.table_as;
     } in
-    let was : length o.image.now ≡ length i.file.now = c.loop-i.invariant.0.image_as ∙ c.copy_bytes.auto.to ∙ c.requires.0 in
-    let len : length o'.image.now ≡ length i.file.now = c.register_slots.ensures.keeps.image_as ∙ c.copy_bytes-in-loop-i.auto.to ∙ was in
-    let same : length (ahead (i.job.text.start + 8 * c.run_end-to.result) o'.image.now i.file.now) ≡ length (ahead (i.job.text.start + 8 * c.loop-i.i) o.image.now i.file.now) = ahead_length o'.image.now i.file.now (i.job.text.start + 8 * c.run_end-to.result) len ∙ len ∙ sym (ahead_length o.image.now i.file.now (i.job.text.start + 8 * c.loop-i.i) was ∙ was) in (
-      keeps_on _ o o' c.loop-i.invariant.0 kept,
-      in_run (slot_trace i.file.now i.builtins.now i.job) (slot_count i.job) 0 (slot_count i.job) (omega arith) i.file.now (ahead (i.job.text.start + 8 * c.loop-i.i) o.image.now i.file.now) (columns_of o₀.registry.now) (columns_of o.registry.now) o₀.registry.now.used o₀.moves o.registry.now.used o.moves c.loop-i.i (all_begin (slot_count i.job) (columns_of o₀.registry.now) o₀.registry.now.used o₀.moves c.requires.1.0) c.loop-i.invariant.1 c.run_end-to.result (omega (arith, bounds.0)) bounds.1 (ahead (i.job.text.start + 8 * c.run_end-to.result) o'.image.now i.file.now) (columns_of o'.registry.now) o'.registry.now.used o'.moves c.register_slots.ensures.keeps.table_as same
-          (ran_all (goal.at.loop-i-preserved c).After-register_slots (Ok tt) c.in_ok-register_slots.was),
+    let was : length o.image.now ≡ length i.file.now = c.loop-run.invariant.0.image_as ∙ c.copy_bytes.auto.to ∙ c.requires.0 in
+    let len : length o'.image.now ≡ length i.file.now = c.register_slots.ensures.keeps.image_as ∙ c.copy_bytes-in-loop-run.auto.to ∙ was in
+    let same : length (ahead (i.job.text.start + 8 * c.min-to.result) o'.image.now i.file.now) ≡ length (ahead (i.job.text.start + 8 * (512 * c.loop-run.run)) o.image.now i.file.now) = ahead_length o'.image.now i.file.now (i.job.text.start + 8 * c.min-to.result) len ∙ len ∙ sym (ahead_length o.image.now i.file.now (i.job.text.start + 8 * (512 * c.loop-run.run)) was ∙ was) in (
+      keeps_on _ o o' c.loop-run.invariant.0 kept,
+      rw bounds.2 (in_run (slot_trace i.file.now i.builtins.now i.job) (slot_count i.job) 0 (slot_count i.job) (omega arith) i.file.now (ahead (i.job.text.start + 8 * (512 * c.loop-run.run)) o.image.now i.file.now) (columns_of o₀.registry.now) (columns_of o.registry.now) o₀.registry.now.used o₀.moves o.registry.now.used o.moves (512 * c.loop-run.run) (all_begin (slot_count i.job) (columns_of o₀.registry.now) o₀.registry.now.used o₀.moves c.requires.1.0) here c.min-to.result (omega (arith, bounds.0)) bounds.1 (ahead (i.job.text.start + 8 * c.min-to.result) o'.image.now i.file.now) (columns_of o'.registry.now) o'.registry.now.used o'.moves c.register_slots.ensures.keeps.table_as same
+          (ran_all (goal.at.loop-run-preserved c).After-register_slots (Ok tt) c.in_ok-register_slots.was)),
       subst (StillHeld i c.register_slots.new.seen o') c.in_ok-register_slots.was c.register_slots.ensures.held,
     )
 
@@ -133,15 +138,16 @@ pub copy_bytes-requires-2 : goal.copy_bytes-requires-2
 copy_bytes-requires-2 c =
     let j = c.args.inputs.now.job in
     let h = text_in j.text.start j.text.length (slot_count j) _ c.args.inputs.now.in_file.text (omega arith) in
-    (omega (arith, h, c.loop-i.invariant.0.image_as, c.copy_bytes.auto.to, c.requires.0), omega (arith, h))
+    (omega (arith, h, c.loop-run.invariant.0.image_as, c.copy_bytes.auto.to, c.requires.0), omega (arith, h))
 
 pub returns-clause-settles : goal.returns-clause-settles
 returns-clause-settles c =
     let i = c.args.inputs.now in
     let o₀ = c.args.out.now in
-    let o = c.loop-i.out in
-    let end : c.loop-i.i ≡ slot_count i.job = omega (arith, c.loop-i.invariant.1.passed, c.loop-i-test.false) in
-    let was : length o.image.now ≡ length i.file.now = c.loop-i.invariant.0.image_as ∙ c.copy_bytes.auto.to ∙ c.requires.0 in
-    let im : c.copy_bytes-2.new.to ≡ ahead (i.job.text.start + 8 * c.loop-i.i) o.image.now i.file.now = rest i.file.now o.image.now c.copy_bytes-2.new.to i.job.text.start c.loop-i.i (slot_count i.job) end was (text_in i.job.text.start i.job.text.length (slot_count i.job) _ c.args.inputs.now.in_file.text (omega arith)) c.copy_bytes-2.ensures in
-    subst (λ (x : List ℕ). Settles (calls_trace i.file.now i.builtins.now i.job i.file.now) x (columns_of o₀.registry.now) (columns_of o.registry.now) (slot_count i.job) o₀.registry.now.used o₀.moves (holding o.registry.now.used o.moves)) (sym im)
-    (going_done (slot_trace i.file.now i.builtins.now i.job) (slot_count i.job) i.file.now (ahead (i.job.text.start + 8 * c.loop-i.i) o.image.now i.file.now) (columns_of o₀.registry.now) (columns_of o.registry.now) o₀.registry.now.used o₀.moves o.registry.now.used o.moves c.loop-i.i c.requires.1.0 c.loop-i.invariant.1 c.loop-i-test.false)
+    let o = c.loop-run.out in
+    let n = slot_count i.job in
+    let here = rw (all_run _ _ _ c.div_ceil-run-end.ensures c.loop-run-test.false) at c.loop-run.invariant.1 in
+    let was : length o.image.now ≡ length i.file.now = c.loop-run.invariant.0.image_as ∙ c.copy_bytes.auto.to ∙ c.requires.0 in
+    let im : c.copy_bytes-2.new.to ≡ ahead (i.job.text.start + 8 * n) o.image.now i.file.now = c.copy_bytes-2.ensures ∙ ahead_all o.image.now i.file.now (i.job.text.start + 8 * n) was (text_in i.job.text.start i.job.text.length n _ i.in_file.text (omega arith)) in
+    subst (λ (x : List ℕ). Settles (calls_trace i.file.now i.builtins.now i.job i.file.now) x (columns_of o₀.registry.now) (columns_of o.registry.now) n o₀.registry.now.used o₀.moves (holding o.registry.now.used o.moves)) (sym im)
+    (going_done (slot_trace i.file.now i.builtins.now i.job) n i.file.now (ahead (i.job.text.start + 8 * n) o.image.now i.file.now) (columns_of o₀.registry.now) (columns_of o.registry.now) o₀.registry.now.used o₀.moves o.registry.now.used o.moves n c.requires.1.0 here (omega arith))
