@@ -55,6 +55,7 @@ fn record_of(bytes: &[u8; NUMBERS]) -> Record {
 }
 
 // What is lent for a load.
+// Kept: arrays in a struct, with their lengths by constants: memory is fixed, and there is no heap.
 #[derive(Drop)]
 struct Lent {
     image: [u8; FILE],
