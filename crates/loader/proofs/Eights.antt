@@ -1,11 +1,9 @@
 -- The search for the next call, eight slots at a time. Assumes nothing.
-use mathlib.Core.Path.{◌≡◌, sym, ◌∙◌}
+use mathlib.Core.Path.{◌≡◌}
 use mathlib.Core.List.{List}
 use Prim.Native.Nat.{ℕ, ◌+◌, ◌-◌, ◌≤◌, ◌<◌}
 use native.Mathlib.Omega.{arith}
-use Rattle.std.specs.Prelude.{Option, Some, None}
-use Rattle.std.specs.Option.{unwrap_or}
-use Rattle.loader.specs.Calls.{next_call, Among, next_first, next_behind}
+use Rattle.loader.specs.Calls.{next_call, next_first, next_behind}
 use Rattle.loader.proofs.Slots.{next_bounds}
 
 -- what the search finds from number `at` on, up to `to`, by what it finds among eight slots
@@ -18,7 +16,3 @@ module _ (text : List ℕ) (to at : ℕ) (fit : at + 8 ≤ to) where
 
   pub eight_none : (next : ℕ) → at + 8 ≤ next_call text 8 at → next ≡ at + 8 → next_call text (to - at) at ≡ next_call text (to - next) next
   eight_none next l q = rw (q, ← split) (next_behind text 8 (to - (at + 8)) at (omega (arith, l, (next_bounds text 8 at).1)))
-
-pub among_or : (text : List ℕ) (n i to : ℕ) (r : Option ℕ) → Among text n i r → to ≡ i + n → unwrap_or r to ≡ next_call text n i
-among_or text n i to None h e = e ∙ sym h
-among_or text n i to (Some at) h e = sym h.1

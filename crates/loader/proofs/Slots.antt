@@ -110,7 +110,7 @@ pub calls_ahead : (file builtins : List ℕ) (j : Job) → InFile file j
     → (im₀ im : List ℕ) (t₀ t : Slices) (used₀ moves₀ used moves i k : ℕ)
     → BeginsIn (to - o) t₀ used₀ moves₀
     → GoingIn (slot_trace file builtins j) (slot_count j) o to im₀ im t₀ t used₀ moves₀ used moves i
-    → k ≡ next_call (text_of file j) (to - i) i
+    → next_call (text_of file j) (to - i) i ≡ k
     → GoingIn (slot_trace file builtins j) (slot_count j) o to im₀ im t₀ t used₀ moves₀ used moves k
 calls_ahead file builtins j inside o to l im₀ im t₀ t used₀ moves₀ used moves i k b g e =
     let h : i ≤ to = g.passed in
@@ -119,7 +119,7 @@ calls_ahead file builtins j inside o to l im₀ im t₀ t used₀ moves₀ used 
     let up : i + (to - i) + (n - to) ≡ n = omega (arith, h) in
     let bounds = next_bounds (text_of file j) (to - i) i in
     let on = skipped file builtins j inside im (to - i) (n - to) i (omega (arith, up)) in
-    in_ahead (slot_trace file builtins j) n o to l im₀ im t₀ t used₀ moves₀ used moves i b g k (omega (arith, bounds.0, e)) (omega (arith, bounds.1, e, h)) (rw (at, up, ← e) at on)
+    in_ahead (slot_trace file builtins j) n o to l im₀ im t₀ t used₀ moves₀ used moves i b g k (omega (arith, bounds.0, e)) (omega (arith, bounds.1, e, h)) (rw (at, up, e) at on)
 
 -- slot number i of a text that lies in the file starts in it, or the text ends there
 pub text_in : (start n i file : ℕ) → start + n ≤ file → i ≤ n / 8 → start + 8 * i ≤ file

@@ -86,20 +86,20 @@ fn call_among(text: &[u8], from: usize, slots: usize) -> Option<usize>
     None
 }
 
-// The same of the slots from number `from` up to `to`, or `to` where none has it. By eights, so that the loop
-// tests its own end once for eight slots: a load with few calls takes a twentieth less.
-#[tactic(auto, using(crate::proofs::Eights::eight_here, crate::proofs::Eights::eight_none, crate::proofs::Eights::among_or))]
-fn next_call(text: &[u8], from: usize, to: usize) -> usize
+// The same of the slots from number `from` up to `to`. By eights, so that the loop tests its own end once for
+// eight slots: a load with few calls takes a twentieth less.
+#[tactic(auto, using(crate::proofs::Eights::eight_here, crate::proofs::Eights::eight_none))]
+fn next_call(text: &[u8], from: usize, to: usize) -> Option<usize>
     requires { (from ≤ to) × (8 * to ≤ length text.now) }
-    ensures { result ≡ next_call text.now (to - from) from }
+    ensures { Among text.now (to - from) from result }
 {
     let slots = to - from;
     for eight in 0..slots / 8 {
         if let Some(first) = call_among(text, from + 8 * eight, 8) {
-            return first;
+            return Some(first);
         }
     }
-    call_among(text, to - slots % 8, slots % 8).unwrap_or(to)
+    call_among(text, to - slots % 8, slots % 8)
 }
 
 // How many targets of calls are remembered, and how many slots are copied at a time.
@@ -184,12 +184,12 @@ fn register_slots(
     ensures held { StillHeld inputs.now seen.new out.new result }
 {
     let text = inputs.text();
-    let mut i = next_call(text, from, to);
+    let mut next = from;
     // Kept: a turn goes on at the next call, and not at the next slot. An iterator over the calls would be
     // a struct of these three words whose `next` finds the next call: more lines, and no plainer.
-    while i < to {
+    while let Some(i) = next_call(text, next, to) {
         call_step(out, seen, inputs, i)?;
-        i = next_call(text, i + 1, to);
+        next = i + 1;
     }
     Ok(())
 }
