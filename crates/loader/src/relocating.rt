@@ -7,9 +7,7 @@ use crate::error::ElfError;
 use crate::inputs::Inputs;
 use crate::relocations::{plan_relocation, relocation_at, used_header};
 
-// Every relocation in turn, up to the first refusal. `header` is the program header used last. Not inlined, so that
-// what a turn goes by keeps its registers.
-#[inline(never)]
+// Every relocation in turn, up to the first refusal. `header` is the program header used last.
 #[tactic(auto, using(crate::proofs::Turns::none_before))]
 pub(crate) fn apply_relocations(
     out: &mut Outputs<'_, '_>,
