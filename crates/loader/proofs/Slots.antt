@@ -54,10 +54,6 @@ whole_slot text i insn e = leb-false _ _ (not_first _ _ _ _ (λ p. zero_one (cc)
 whole : (file : List ℕ) (j : Job) → InFile file j → length (text_of file j) ≡ j.text.length
 whole file j inside = length-take-le j.text.length (drop j.text.start file) (simp length-drop (omega (arith, inside.text)))
 
--- the slots up to number n lie in the text
-pub slots_in_text : (file : List ℕ) (j : Job) → InFile file j → (n : ℕ) → n ≤ slot_count j → 8 * n ≤ length (text_of file j)
-slots_in_text file j inside n l = omega (arith, whole file j inside, l)
-
 -- by its slot, which is there
 none_by : (text : List ℕ) (version2 : Bool) (i : ℕ) → i < length text / 8 → (le 1 text (8 * i) ≡ 0x85 → ⊥) → call_at text version2 i ≡ Ok None
 unfolding call_at insn_at slot_at call_of is_local_call ◌if◌else◌

@@ -17,7 +17,7 @@ use Rattle.loader.specs.CallLoop.{ahead, StillHeld, Leads}
 use Rattle.loader.specs.InnerContracts.{Keeps, Settles, held_of}
 use Rattle.loader.proofs.Ahead.{ahead_more, ahead_all, ahead_length}
 use Rattle.loader.proofs.Targeting.{none_held}
-use Rattle.loader.proofs.Going.{keeps_all, keeps_on, Going, going_start, going_done, all_begin, all_lead, in_begins_run, in_run, in_run_stop}
+use Rattle.loader.proofs.Going.{keeps_all, keeps_on, Going, going_start, going_done, all_begin, all_lead, in_run, in_run_stop}
 use Rattle.loader.proofs.Slots.{text_in}
 use Rattle.loader.proofs.calls.register_calls.Goals.{After-min-to, After-register_slots}
 use Rattle.loader.proofs.calls.register_calls.Goals as goal
@@ -58,13 +58,6 @@ loop-run-init c =
       rw c.requires.1.1 (none_held i.builtins.now i.job (columns_of o.registry.now) 1024),
     )
 
-pub copy_bytes-requires-in-loop-run : goal.copy_bytes-requires-in-loop-run
-copy_bytes-requires-in-loop-run c =
-    let j = c.args.inputs.now.job in
-    let bounds = ran (goal.at.copy_bytes-requires-in-loop-run c).After-min-to in
-    let h = text_in j.text.start j.text.length c.min-to.result _ c.args.inputs.now.in_file.text bounds.1 in
-    (omega (arith, bounds.0, h, c.loop-run.invariant.0.image_as, c.copy_bytes.auto.to, c.requires.0), omega (arith, bounds.0, h))
-
 -- the slots up to the run's end, once their bytes are copied, whatever their answer
 ran_all : (r : After-register_slots) (a : Result (Unit {0}) ElfError) → r.register_slots.result ≡ a
     → Leads (slot_trace r.args.inputs.now.file.now r.args.inputs.now.builtins.now r.args.inputs.now.job) (slot_count r.args.inputs.now.job) (512 * r.loop-run.run) r.min-to.result
@@ -80,22 +73,6 @@ ran_all r a e =
     let same = copied i.file.now o.image.now r.copy_bytes-in-loop-run.new.to i.job.text.start (512 * r.loop-run.run) r.min-to.result (omega (arith, bounds.0)) was (text_in i.job.text.start i.job.text.length r.min-to.result _ r.args.inputs.now.in_file.text bounds.1) r.copy_bytes-in-loop-run.ensures in
     subst (λ (b : Result (Unit {0}) ElfError). Leads (slot_trace i.file.now i.builtins.now i.job) (slot_count i.job) (512 * r.loop-run.run) r.min-to.result (ahead (i.job.text.start + 8 * (512 * r.loop-run.run)) o.image.now i.file.now) (ahead (i.job.text.start + 8 * r.min-to.result) o'.image.now i.file.now) (columns_of o.registry.now) (columns_of o'.registry.now) o.registry.now.used o.moves (held_of b o')) e
     (subst (λ (im : List ℕ). Leads (slot_trace i.file.now i.builtins.now i.job) (slot_count i.job) (512 * r.loop-run.run) r.min-to.result im (ahead (i.job.text.start + 8 * r.min-to.result) o'.image.now i.file.now) (columns_of o.registry.now) (columns_of o'.registry.now) o.registry.now.used o.moves (held_of r.register_slots.result o')) same r.register_slots.ensures.leads)
-
-pub register_slots-requires : goal.register_slots-requires
-register_slots-requires c =
-    let i = c.args.inputs.now in
-    let o₀ = c.args.out.now in
-    let o = c.loop-run.out in
-    let bounds = ran (goal.at.register_slots-requires c).After-min-to in
-    let here = going (goal.at.register_slots-requires c).After-min-to in (
-      (
-        c.copy_bytes-in-loop-run.auto.to ∙ c.loop-run.invariant.0.image_as ∙ c.copy_bytes.auto.to ∙ c.requires.0,
-        in_begins_run (slot_trace i.file.now i.builtins.now i.job) (slot_count i.job) 0 (slot_count i.job) (omega arith) i.file.now (ahead (i.job.text.start + 8 * (512 * c.loop-run.run)) o.image.now i.file.now) (columns_of o₀.registry.now) (columns_of o.registry.now) o₀.registry.now.used o₀.moves o.registry.now.used o.moves (512 * c.loop-run.run) (all_begin (slot_count i.job) (columns_of o₀.registry.now) o₀.registry.now.used o₀.moves c.requires.1.0) here c.min-to.result (omega (arith, bounds.0)) bounds.1 i.file.now (columns_of o.registry.now),
-      ),
-      omega (arith, bounds.0),
-      bounds.1,
-      c.loop-run.invariant.2,
-    )
 
 pub returns-in_err-register_slots-clause-settles : goal.returns-in_err-register_slots-clause-settles
 returns-in_err-register_slots-clause-settles c =
@@ -133,12 +110,6 @@ loop-run-preserved c =
           (ran_all (goal.at.loop-run-preserved c).After-register_slots (Ok tt) c.in_ok-register_slots.was)),
       subst (StillHeld i c.register_slots.new.seen o') c.in_ok-register_slots.was c.register_slots.ensures.held,
     )
-
-pub copy_bytes-requires-2 : goal.copy_bytes-requires-2
-copy_bytes-requires-2 c =
-    let j = c.args.inputs.now.job in
-    let h = text_in j.text.start j.text.length (slot_count j) _ c.args.inputs.now.in_file.text (omega arith) in
-    (omega (arith, h, c.loop-run.invariant.0.image_as, c.copy_bytes.auto.to, c.requires.0), omega (arith, h))
 
 pub returns-clause-settles : goal.returns-clause-settles
 returns-clause-settles c =

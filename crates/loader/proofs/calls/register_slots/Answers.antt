@@ -13,25 +13,10 @@ use Rattle.loader.specs.Calls.{slot_count, slot_trace, next_call, Among}
 use Rattle.loader.specs.CallLoop.{ahead, StillHeld}
 use Rattle.loader.specs.InnerContracts.{SettlesAs, held_of}
 use Rattle.loader.proofs.Ahead.{ahead_length, slot_ahead}
-use Rattle.loader.proofs.Slots.{next_bounds, calls_ahead, slots_in_text, text_in}
-use Rattle.loader.proofs.Going.{GoingIn, keeps_all, keeps_on, in_start, in_begins, in_stop, in_on, in_done}
+use Rattle.loader.proofs.Slots.{next_bounds, calls_ahead, text_in}
+use Rattle.loader.proofs.Going.{GoingIn, keeps_on, in_begins, in_stop, in_on, in_done}
 use Rattle.loader.proofs.calls.register_slots.Goals.{After-next_call, In-Some, After-call_step}
 use Rattle.loader.proofs.calls.register_slots.Goals as goal
-
-pub loop-i-init : goal.loop-i-init
-loop-i-init c =
-    let i = c.args.inputs.now in
-    let o = c.args.out.now in
-    let im = ahead (i.job.text.start + 8 * c.args.to) o.image.now i.file.now in (
-      keeps_all o,
-      in_start (slot_trace i.file.now i.builtins.now i.job) (slot_count i.job) c.args.from c.args.to c.requires.2 im (columns_of o.registry.now) o.registry.now.used o.moves c.requires.1 c.requires.0.1,
-      c.requires.3,
-    )
-
-pub next_call-requires : goal.next_call-requires
-next_call-requires c =
-    let i = c.args.inputs.now in
-    (c.loop-i.invariant.1.passed, rw c.text-text.ensures (slots_in_text i.file.now i.job i.in_file c.args.to c.requires.2))
 
 -- the slots from the next call on are left, wherever it is
 going : (r : After-next_call) (k : ℕ) → next_call r.text-text.result.now (r.args.to - r.loop-i.next) r.loop-i.next ≡ k

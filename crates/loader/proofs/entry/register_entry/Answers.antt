@@ -25,9 +25,6 @@ returns-in_err-deed-clause-settles c =
     let p = err_from_is_err_and c.from_residual.result c.from_residual.ensures.1 in
     rw (p.1, p.2) (entry_refused c.args.inputs.now.builtins.now c.args.inputs.now.job c.args.out.now.image.now (columns_of c.args.out.now.registry.now) c.args.out.now.registry.now.used c.args.out.now.moves _ (sym c.entry_deed.ensures ∙ c.in_err-deed.was))
 
-pub forget_entrypoint-requires : goal.forget_entrypoint-requires
-forget_entrypoint-requires c = begins_fewer 1 1 (columns_of c.args.out.now.registry.now) c.args.out.now.registry.now.used c.args.out.now.moves c.requires
-
 -- the image as it was, and the table without that row in version 1
 abbrev Left : Bool → Outputs → Outputs → Type 0
 Left version2 o o' = SameLens (columns_of o.registry.now) (columns_of o'.registry.now) × (o'.image.now ≡ o.image.now) × ((im : List ℕ) → SettlesAs (forget_trace version2 im) im 1 o o' (Ok tt))
