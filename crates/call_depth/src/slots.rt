@@ -19,6 +19,7 @@ pub(crate) const MARK: u32 = 0x4000_0000;
 pub(crate) const BOTH: u32 = 0xc000_0000;
 
 // Marks a row that is neither settled nor marked: 1 where it is newly marked, else 0.
+// Kept: a number and no bool, since a pass answers how many.
 #[tactic(auto, using(call_graph::proofs::Marking::row_kept))]
 fn mark_row(work: &mut [u32], r: usize) -> usize
     requires { r < length work.old }

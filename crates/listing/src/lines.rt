@@ -62,6 +62,8 @@ impl Lines<'_> {
     }
 
     // The used rows.
+    // Kept: each field read by itself. The table's own `row_at` asks that there is such a row, and a public function
+    // here asks nothing, so that a row would come as an Option, to be taken apart again.
     #[tactic(auto, using(crate::proofs::Stores::parts, crate::proofs::Listed::lines_from, crate::proofs::Listed::lines_end))]
     fn put_rows(&mut self, table: FunctionTable)
         requires { (self.old.at + 16128 ≤ 2 ^ 32) × (table.used ≤ 256) × Within table.used (columns_in table) }

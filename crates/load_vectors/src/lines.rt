@@ -10,6 +10,8 @@ use std::io;
 // The bytes of five columns of 256 numbers.
 const COLUMNS_SIZE: usize = 5120;
 
+// Kept: printed field by field, here and below. The line is this program's own; a `Display` would be the type's for
+// everyone.
 fn print_refused(rt: &impl Print, r: Report) -> io::Result<()> {
     print!(rt; "refused {} {} {} {}", r.number, r.value, r.start, r.length)
 }
