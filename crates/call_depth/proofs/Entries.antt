@@ -1,7 +1,7 @@
 -- The first row with an index; a slot that is no call.
 -- Assumes nothing.
 use Prim.Native.Nat.{ℕ, zero, suc, ◌+◌, ◌*◌, ◌/◌, ◌≤◌, ◌<◌}
-use mathlib.Core.Path.{◌≡◌, refl}
+use mathlib.Core.Path.{◌≡◌, refl, sym}
 use mathlib.Core.Bool.{Bool, true, false}
 use mathlib.Core.List.{List, [], ◌∷◌}
 use native.Mathlib.Omega.{arith}
@@ -21,34 +21,31 @@ use Rattle.ebpf.specs.LittleEndian.{le_byte}
 use Rattle.program.specs.Search.{index_of}
 use Rattle.program.proofs.Cases.{by_eq, by_test, zero_one}
 use Rattle.loader.specs.Calls.{calls_key}
-use Rattle.call_depth.specs.Called.{callee_by, callee_in}
+use Rattle.call_depth.specs.Called.{row_or, callee_by, callee_in, Calls}
 
--- another opcode
-pub no_call : (text keys : List ℕ) (version2 : Bool) (s : ℕ) → (get_or text (8 * s) 0 ≡ 0x85 → ⊥) → None ≡ callee_by keys version2 (insn_at text s)
-unfolding calls_key insn_at slot_at ◌if◌else◌
-no_call text keys version2 s n = go (leb (length text / 8) s)
-  where
-    go : (b : Bool) → None ≡ callee_by keys version2 (None if b else Some (slot_at text (8 * s)))
-    go true = refl
-    go false = rw (le_byte text (8 * s), ne_eqb (get_or text (8 * s) 0) 0x85 n) refl
-
--- a slot that calls a row, and one that calls none
+-- what a slot calls
 module _ (text keys : List ℕ) (version2 : Bool) (s : ℕ) where
-  pub callee_some : (r : ℕ) → callee_by keys version2 (insn_at text s) ≡ Some r → r ≡ callee_in text keys version2 s
-  unfolding callee_in
-  callee_some r e = rw e refl
+  -- another opcode
+  pub no_call : (get_or text (8 * s) 0 ≡ 0x85 → ⊥) → length keys ≡ callee_in text keys version2 s
+  unfolding callee_in calls_key insn_at slot_at ◌if◌else◌
+  no_call n = go (leb (length text / 8) s)
+    where
+      go : (b : Bool) → length keys ≡ row_or (length keys) (callee_by keys version2 (None if b else Some (slot_at text (8 * s))))
+      go true = refl
+      go false = rw (le_byte text (8 * s), ne_eqb (get_or text (8 * s) 0) 0x85 n) refl
 
-  pub callee_none : callee_by keys version2 (insn_at text s) ≡ None → length keys ≡ callee_in text keys version2 s
-  unfolding callee_in
-  callee_none e = rw e refl
-
-  pub callee_below : (r : ℕ) → callee_by keys version2 (insn_at text s) ≡ Some r → r < length keys
+  callee_below : (r : ℕ) → callee_by keys version2 (insn_at text s) ≡ Some r → r < length keys
   unfolding ◌if◌else◌
   callee_below r e = by_slot (insn_at text s) e
     where
       by_slot : (x : Option Insn) → callee_by keys version2 x ≡ Some r → r < length keys
       by_slot None q = absurd (zero_one (cc))
       by_slot (Some insn) q = by_test (calls_key version2 insn) (λ b. (row_ascending_in keys (length keys) insn.imm if b else None) ≡ Some r → r < length keys) (λ _ h. omega (arith, row_below keys (length keys) insn.imm r h)) (λ _ h. absurd (zero_one (cc))) q
+
+  pub calls_row : (x : Option ℕ) → x ≡ callee_by keys version2 (insn_at text s) → Calls (callee_in text keys version2) (length keys) s x
+  unfolding callee_in
+  calls_row None e = rw (← e) refl
+  calls_row (Some r) e = (rw (← e) refl, callee_below r (sym e))
 
 -- the first row with an index
 first_is : (k : ℕ) (xs : List ℕ) → index_of k xs ≡ position_or_len (λ x. eqb x k) xs

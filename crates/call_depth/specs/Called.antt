@@ -24,6 +24,11 @@ callee_by keys version2 (Some insn) = row_ascending_in keys (length keys) insn.i
 unfoldable pub callee_in : List ℕ → List ℕ → Bool → ℕ → ℕ
 callee_in text keys version2 s = row_or (length keys) (callee_by keys version2 (insn_at text s))
 
+-- the row that slot number s calls, of so many: none where it is as many as there are
+abbrev pub Calls : (ℕ → ℕ) → ℕ → ℕ → Option ℕ → Type 0
+Calls callee rows s None = rows ≡ callee s
+Calls callee rows s (Some r) = (r ≡ callee s) × (r < rows)
+
 -- whole slots
 abbrev pub slots_in : List ℕ → ℕ
 slots_in text = length text / 8

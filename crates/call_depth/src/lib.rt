@@ -88,7 +88,7 @@ fn fits_in(rows: usize, len: usize, a: Accepted) -> bool
 }
 
 // By an accepted load's answer.
-#[tactic(auto, using(ebpf::specs::Choice::choices, crate::proofs::Fits::fits, crate::proofs::Fits::used_long), unfolding(crate::specs::Asked::depth_by))]
+#[tactic(auto, using(ebpf::specs::Choice::choices, crate::proofs::Fits::fits, crate::proofs::Fits::used_long, crate::proofs::Fits::lent_parts), unfolding(crate::specs::Asked::depth_by))]
 fn depth_by(
     work: &mut [u32],
     image: &[u8],

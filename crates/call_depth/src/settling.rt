@@ -45,7 +45,7 @@ impl Profile<'_> {
 
     // Tries row `r`: 1 where it is newly settled, else 0.
     // Kept: a number and no bool, since a pass answers how many.
-    #[tactic(auto, using(call_graph::proofs::Settling::tried_kept, call_graph::proofs::Settling::tried_zero, call_graph::proofs::Settling::end_within))]
+    #[tactic(auto, using(call_graph::proofs::Settling::tried_kept, call_graph::proofs::Settling::tried_zero, call_graph::proofs::Settling::tried_some, call_graph::proofs::Settling::end_within))]
     fn settle_one(self, work: &mut [u32], r: usize) -> usize
         requires { WordsReady (profile_now self) (slots_in self.text.now) work.old × (r < length self.indices.now) }
         ensures { RowTried (profile_of self) work.old work.new r result }

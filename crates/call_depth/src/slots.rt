@@ -2,7 +2,7 @@
 ghost use Rattle.std.specs.Prelude.{◌≡◌, ◌≤◌, ◌<◌, length};
 ghost use Rattle.ebpf.specs.Instructions.{insn_at};
 ghost use Rattle.call_graph.specs.Marks.{Slots, always};
-ghost use Rattle.call_depth.specs.Called.{callee_by, callee_in, slots_in, Scanned};
+ghost use Rattle.call_depth.specs.Called.{callee_by, callee_in, Calls, slots_in, Scanned};
 
 use crate::profile::Profile;
 use ebpf::{CALL_IMM, Insn, get_insn};
@@ -52,10 +52,10 @@ impl Profile<'_> {
     }
 
     // The row that a slot calls, if it calls one. Most slots are no call, which the opcode says.
-    #[tactic(auto, using(crate::proofs::Entries::no_call))]
+    #[tactic(auto, using(crate::proofs::Entries::no_call, crate::proofs::Entries::calls_row))]
     fn callee_of(self, s: usize) -> Option<usize>
         requires { s < slots_in self.text.now }
-        ensures { result ≡ callee_by self.entry.keys.now self.entry.version2 (insn_at self.entry.text.now s) }
+        ensures { Calls (callee_in self.entry.text.now self.entry.keys.now self.entry.version2) (length self.entry.keys.now) s result }
     {
         if self.text[8 * s] != CALL_IMM {
             return None;
@@ -64,7 +64,7 @@ impl Profile<'_> {
     }
 
     // None where a slot calls a row that is not settled, else 1 and the largest depth of those called.
-    #[tactic(auto, using(call_graph::proofs::Scans::over_start, call_graph::proofs::Scans::over_next, call_graph::proofs::Scans::scan_stop, call_graph::proofs::Scans::scan_end))]
+    #[tactic(auto, using(call_graph::proofs::Scans::over_start, call_graph::proofs::Scans::over_next, call_graph::proofs::Scans::over_past, call_graph::proofs::Scans::scan_stop, call_graph::proofs::Scans::scan_end))]
     pub(crate) fn depth_over(self, work: &[u32], from: usize, end: usize) -> Option<u32>
         requires { (end ≤ slots_in self.text.now) × (length work.now ≡ length self.indices.now) }
         ensures { Scanned (callee_in self.entry.text.now self.entry.keys.now self.entry.version2) work.now from end result }
@@ -84,16 +84,17 @@ impl Profile<'_> {
     }
 
     // Marks what some slots call: how many rows are newly marked.
-    #[tactic(auto, using(call_graph::proofs::Marking::slots_start, call_graph::proofs::Marking::slots_next, call_graph::proofs::Marking::slots_end))]
+    #[tactic(auto, using(call_graph::proofs::Marking::slots_start, call_graph::proofs::Marking::slots_next, call_graph::proofs::Marking::slots_past, call_graph::proofs::Marking::slots_end))]
     pub(crate) fn mark_slots(self, work: &mut [u32], from: usize, end: usize) -> usize
         requires { (end ≤ slots_in self.text.now) × (length work.old ≡ length self.indices.now) }
         ensures { Slots (callee_in self.entry.text.now self.entry.keys.now self.entry.version2) from end end work.old work.new result }
     {
         let mut more = 0;
         for s in from..end {
-            if let Some(r) = self.callee_of(s) {
-                more += mark_row(work, r);
-            }
+            let Some(r) = self.callee_of(s) else {
+                continue;
+            };
+            more += mark_row(work, r);
         }
         more
     }

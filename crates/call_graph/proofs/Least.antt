@@ -13,7 +13,7 @@ use Rattle.ebpf.specs.Choice.{◌if◌else◌}
 use borrow.Author.Tests.{ltb-true, ltb-false, le-leb, lt-leb}
 use Rattle.call_graph.specs.Ways.{Way, Reaches, Calling, Smallest}
 use Rattle.call_graph.specs.Profile.{Profile, CallsFunction}
-use Rattle.call_graph.specs.Words.{FLAG, settled_in, unsettled, Sized, Good, WordsReady}
+use Rattle.call_graph.specs.Words.{FLAG, settled_in, unsettled, Sized, Good, WordsReady, Stopped}
 use Rattle.call_graph.specs.Marks.{MARK, BOTH, RowCalls, Looping, Harmless, Idle, Shaped, Grown, Spread, Plain, Each, bare, keep, Open, Lowest, Kept, Begun, Tested, Short, Spotted}
 use Rattle.program.proofs.Cases.{by_lt, by_le, by_eq}
 use Rattle.call_graph.proofs.Scans.{below_or}
@@ -171,6 +171,9 @@ tested P slots r w v u z l s y = record {
 -- the parts joined
 pub ready_of : (P : Profile) (slots : ℕ) (w u : List ℕ) → Sized P slots → length w ≡ P.rows → Each (unsettled P) P.rows w u → WordsReady P slots u
 ready_of P slots w u z l y = record { sized = z; good = good_start P w u l y }
+
+pub stopped_short : (P : Profile) (slots e : ℕ) (w : List ℕ) → Sized P slots → Stopped P e w → e < P.rows → FLAG ≤ get_or w e 0 → Short P slots e w
+stopped_short P slots e w z s l f = record { sized = z; settled = record { good = s.good; still = s.still f }; below = l; unsettled = f }
 
 module _ (P : Profile) (slots e : ℕ) (w : List ℕ) (z : Short P slots e w) where
   pub short_begun : Begun P slots e w

@@ -65,9 +65,6 @@ pub marking_less : (Src : ℕ → Type 0) (w u : List ℕ) (n k : ℕ) → lengt
 marking_less Src w u n k e m h = omega (arith, m.more, m.grown.long, count_le (λ x. leb BOTH x) u)
 
 -- one row
-pub row_past : (w : List ℕ) (q : ℕ) → length w ≤ q → Slots (always q) 0 1 1 w w 0
-row_past w q l = record { marks = marking_same _ w; closed = λ t a b f. absurd (omega (arith, inside w q f)) }
-
 pub row_kept : (w : List ℕ) (q : ℕ) → (get_or w q 0 < FLAG) ⊎ (BOTH ≤ get_or w q 0) → Slots (always q) 0 1 1 w w 0
 row_kept w q o = record { marks = marking_same _ w; closed = λ t a b f. ⊎_elim (λ x. absurd (omega arith)) (λ x. x) o }
 
@@ -102,6 +99,16 @@ slots_next callee from end s g w u v k d e a b x y = record {
   closed = λ t c l. below_or (λ t. from ≤ t → FLAG ≤ get_or v (callee t) 0 → BOTH ≤ get_or v (callee t) 0) s t l
       (λ h c. closed_kept _ u v (callee t) y.marks.grown (x.closed t c h))
       (λ c. rw e at (y.closed 0 (omega arith) (omega arith)))
+      c;
+}
+
+-- a slot that calls no row
+pub slots_past : (callee : ℕ → ℕ) (from end s : ℕ) (w u : List ℕ) (k : ℕ) → length u ≤ callee s → Slots callee from end s w u k → Slots callee from end (s + 1) w u k
+slots_past callee from end s w u k l x = record {
+  marks = x.marks;
+  closed = λ t c q. below_or (λ t. from ≤ t → FLAG ≤ get_or u (callee t) 0 → BOTH ≤ get_or u (callee t) 0) s t q
+      (λ h c. x.closed t c h)
+      (λ c f. absurd (omega (arith, l, inside u (callee s) f)))
       c;
 }
 
@@ -182,14 +189,14 @@ round_next P slots b r w u v k d z l x y = record {
       (y.closed (omega arith));
 }
 
-pub round_last : (P : Profile) (slots b : ℕ) (w u v : List ℕ) (k d : ℕ) → Begun P slots b w → Round P b P.rows w u k
+pub round_last : (P : Profile) (slots b n : ℕ) (w u v : List ℕ) (k d : ℕ) → Begun P slots b w → P.rows ≤ n → Round P b n w u k
     → CallsMarked P b u v d → Circled P b w v (k + d)
-round_last P slots b w u v k d z x y = record {
+round_last P slots b n w u v k d z l x y = record {
   round = record {
     marks = marking_then _ _ _ w u v k d (λ q _ c. c)
         (λ q f c. calling_one (RowCalls P) b q (called_row P slots w z.shaped b q f c))
         x.marks y.marks;
-    closed = λ e. rw (y.marks.same (omega arith)) (x.closed (omega arith));
+    closed = λ e q h. rw (y.marks.same (omega arith)) (x.closed (omega arith) q (omega (arith, l, h)));
   };
   first = λ e. y.closed;
 }

@@ -1,13 +1,13 @@
 -- A scan of slots.
 -- Assumes nothing.
 use Prim.Native.Nat.{ℕ, ◌+◌, ◌≤◌, ◌<◌, max}
-use mathlib.Core.Path.{◌≡◌, refl}
+use mathlib.Core.Path.{◌≡◌, refl, sym}
 use mathlib.Core.Bool.{Bool, true, false}
 use mathlib.Core.List.{List}
 use mathlib.Core.Logic.{◌⊎◌, inl, inr, ⊎_elim}
 use native.Mathlib.Omega.{arith}
 use native.Mathlib.Numerals.{add-one}
-use lib.ListN.{get_or}
+use lib.ListN.{length, get_or, get_or-eq_default}
 use lib.Dec.{ltb}
 use borrow.Author.Tests.{ltb-true, ltb-false}
 use Rattle.call_graph.specs.Words.{FLAG, OverSlots, Scan}
@@ -41,6 +41,12 @@ module _ (callee : ℕ → ℕ) (w : List ℕ) (from end : ℕ) where
         (λ h. inr (s, a, b, omega arith))
         (max_or m d);
   }
+
+  -- a slot that calls no row
+  pub over_past : (s m : ℕ) → length w ≤ callee s → from ≤ s → s < end → OverSlots callee w from end s m → OverSlots callee w from end (s + 1) m
+  over_past s m l a b o =
+      let none : 0 ≡ get_or w (callee s) 0 = sym (get_or-eq_default w 0 l) in
+      over_next s m 0 m a b none (omega arith) (omega arith) o
 
   pub scan_stop : (s d : ℕ) → from ≤ s → s < end → d ≡ get_or w (callee s) 0 → FLAG ≤ d → Scan callee w from end 0
   scan_stop s d a b e f = (s, a, b, omega arith)

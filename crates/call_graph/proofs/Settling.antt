@@ -151,8 +151,8 @@ module _ (P : Profile) (slots : ℕ) (w : List ℕ) (y : WordsReady P slots w) (
   pub tried_zero : (d : ℕ) → Scan P.callee w (P.index r) (get_or w r 0 - FLAG) d → d ≡ 0 → RowTried P w w r 0
   tried_zero d s e = tried_stuck P w y.good r (rw (e, end_is) at s)
 
-  pub tried_some : (d : ℕ) → Scan P.callee w (P.index r) (get_or w r 0 - FLAG) d → (d ≡ 0 → ⊥) → RowTried P w (set w r d) r 1
-  tried_some zero s n = absurd (n refl)
+  pub tried_some : (d : ℕ) → Scan P.callee w (P.index r) (get_or w r 0 - FLAG) d → 0 < d → RowTried P w (set w r d) r 1
+  tried_some zero s n = absurd (omega arith)
   tried_some (suc m) s n = tried_settled P w y.good slots r m y.sized l f (rw end_is at s)
 
 -- room for one more: passes count rows
@@ -167,5 +167,5 @@ pub stopped_settled : (P : Profile) (w u : List ℕ) (r k e : ℕ) → Passing P
 stopped_settled P w u r k e p l = record { good = p.good; still = λ f. absurd (omega arith) }
 
 -- a pass that settles something leaves fewer
-pub passing_less : (P : Profile) (w u : List ℕ) (r k : ℕ) → Passing P w u r k → (k ≡ 0 → ⊥) → P.rows - settled_in u < P.rows - settled_in w
-passing_less P w u r k p n = omega (arith, p.more, settled_le u, p.good.long)
+pub passing_less : (P : Profile) (w u : List ℕ) (n r k : ℕ) → n ≡ P.rows → Passing P w u r k → (k ≡ 0 → ⊥) → n - settled_in u < n - settled_in w
+passing_less P w u n r k e p z = omega (arith, e, p.more, settled_le u, p.good.long)
