@@ -49,7 +49,8 @@ pub fn read_full<R: Read>(input: &mut R, bytes: &mut [u8]) -> io::Result<usize>
     ensures end { IfOk result (λ n. n < length bytes.new → IsAtEnd (R.remaining input.new)) }
 {
     let mut filled = 0;
-    // Kept: each read gives its own length, so that no range counts the turns.
+    // Kept: each read gives its own length, so that no range counts the turns; one over the bytes would end most
+    // times before its end, by a test of its own.
     while filled < bytes.len() {
         let n = input.read(&mut bytes[filled..])?;
         if n == 0 {

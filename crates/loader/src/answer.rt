@@ -45,6 +45,8 @@ pub struct LoadAnd<T> {
 }
 
 // The answer of an accepted load, with the place of the read-only bytes.
+// Kept: the entry's index is worked out as in `entry_deed`, which tests first that its offset is whole; a method for
+// one difference would be no plainer.
 #[tactic(auto, using(ebpf::specs::Choice::choices))]
 fn accepted_as(job: Job, offset: u64, start: Option<u64>, n: u64, out: &Outputs<'_, '_>) -> Accepted
     requires { job.e_entry - job.sh_addr ≤ 2 ^ 24 }

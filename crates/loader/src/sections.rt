@@ -43,6 +43,7 @@ pub struct Survey {
 }
 
 // Before the first section.
+// Kept: written out, beside the definition of the same fields; `Default` would hide them and promise no more.
 pub(crate) fn no_survey() -> Survey
     ensures { result ≡ no_survey }
 {
