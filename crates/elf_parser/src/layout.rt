@@ -72,6 +72,8 @@ fn check_file(file: &[u8]) -> Result<(), ElfParserError>
 }
 
 // With the named sections found, the dynamic part.
+// Kept: it makes the tables again. The definition takes the header, so that a contract over the tables would have to
+// say besides whose they are.
 fn linked_layout(file: &[u8], h: Elf64Ehdr, names: u64, n: Named) -> Result<Layout, ElfParserError>
     requires { Room (length file.now) h }
     ensures { result ≡ linked_layout file.now h names n }

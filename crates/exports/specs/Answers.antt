@@ -102,6 +102,11 @@ asked (Err e) question = refused e
 abbrev pub GivesAsked : Shared → (List ℕ → Layout → Answer) → Lent → ℕ → Type 0
 GivesAsked file question answer r = Gives (asked (parsed file.entry.now) (question file.entry.now)) answer r
 
+-- WHAT A QUESTION FOR A PLACE GIVES, by what the question may answer of a layout
+abbrev pub GivesPlaceBy : Result Layout ElfParserError → (Layout → Result Place ElfParserError → Type 0) → Lent → ℕ → Type 0
+GivesPlaceBy (Ok l) Says answer r = (place : Result Place ElfParserError) × Says l place × Gives (place_answer place) answer r
+GivesPlaceBy (Err e) Says answer r = Gives (refused e) answer r
+
 -- a row: 1, its index, and its name's kind, start and length; 0 where there is none
 abbrev pub row_answer : Option Row → Answer
 row_answer (Some r) = accepted (1 ∷ r.index ∷ r.kind ∷ r.start ∷ r.length ∷ [])

@@ -3,9 +3,7 @@
 // hash, a name, an index and a row's number is 24 words, the number first, as `specs/Answers.antt` says; the
 // number is the result too.
 // A lent slice of fewer words takes the first of them, one of more has zeros behind them.
-ghost use Rattle.std.specs.Prelude.{MatchResult, Result, ◌≡◌};
-ghost use Rattle.elf_parser.specs.declared.error.ElfParserError.{ElfParserError};
-ghost use Rattle.elf_parser.specs.declared.parts.Place.{Place};
+ghost use Rattle.std.specs.Prelude.{◌≡◌};
 ghost use Rattle.ebpf.specs.Murmur3.{murmur3};
 ghost use Rattle.elf_parser.specs.Names.{section_name, symbol_name, dynamic_symbol_name};
 ghost use Rattle.elf_parser.specs.Parse.{parsed};
@@ -13,7 +11,7 @@ ghost use Rattle.elf_parser.specs.Records.{section_place_of, symbol_table_of};
 ghost use Rattle.hash_table.specs.Find.{find_symbol};
 ghost use Rattle.program.specs.Table.{lookup_in, lookup_ascending_in, row_ascending_in, index_ascending_in, slices};
 ghost use Rattle.loader.specs.GetBytes.{text_place};
-ghost use Rattle.exports.specs.Answers.{Gives, GivesAsked, refused, GivesLoad, text_answer, parse_answer, place_answer, table_answer, symbol_answer, row_answer, word_or_none};
+ghost use Rattle.exports.specs.Answers.{Gives, GivesAsked, GivesPlaceBy, GivesLoad, text_answer, parse_answer, place_answer, table_answer, symbol_answer, row_answer, word_or_none};
 ghost use Rattle.exports.specs.Wrote.{who_wrote_answer, GivesNumbers, GivesLoadWrote};
 ghost use Rattle.exports.specs.Names.{Named, refusal_name};
 
@@ -64,7 +62,7 @@ fn give_place<F: FnOnce(Elf64<'_>) -> Result<Place, ElfParserError>>(
     ask: F,
 ) -> u32
     requires { F.IsAlwaysCallable ask }
-    ensures { MatchResult (parsed file.now) (λ l. (place : Result Place ElfParserError) × F.post ask (record { file = file.entry; layout = l }) place × Gives (place_answer place) answer result) (λ e. Gives (refused e) answer result) }
+    ensures { GivesPlaceBy (parsed file.now) (λ l place. F.post ask (record { file = file.entry; layout = l }) place) answer result }
 {
     give(
         answer,

@@ -21,6 +21,7 @@ fn print_words(rt: &impl Print, answer: &[u64; 24], from: usize, to: usize) -> i
 }
 
 // The used rows; no more than there are.
+// Kept: the columns as they are lent; a row of them would be made only to be printed.
 fn print_rows(rt: &impl Print, table: FunctionTable) -> io::Result<()> {
     for i in 0..table.used.min(table.rows_lent()) {
         print!(rt;
