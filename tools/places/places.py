@@ -45,7 +45,7 @@ def point1():
 def shape(name, head, body):
     text = re.sub(r'(requires|ensures)\b.*', '', head.split('{')[0]) + body
     text = re.sub(r'//.*', '', text)
-    text = re.sub(r'\b%s\b' % name, 'SELF', text)
+    text = re.sub(r'(?<![.\w])%s\b' % name, 'SELF', text)
     text = re.sub(INT, 'INT', text)
     text = re.sub(r'\b(?:0x[0-9a-f_]+|[0-9][0-9_]*)(?:u8|u16|u32|u64|usize)?\b', 'N', text)
     text = re.sub(r'b?"[^"]*"', 'TEXT', text)
