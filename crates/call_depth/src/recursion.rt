@@ -55,8 +55,7 @@ fn keep_marked(work: &mut [u32], entry: usize)
 
 // Row `r`, or `best`, whichever is left and has the smaller index.
 // Kept: `indices.len()` is no row. An Option is no plainer: `smallest`, where a row is always left, would
-// have an arm for none, and here `best` would still have to be tested before its index is read. By
-// `filter(..).min_by_key(..)` which of two rows of one index comes is not what the contract says of a prefix.
+// have an arm for none, and here `best` would still have to be tested before its index is read.
 #[tactic(auto, using(call_graph::proofs::Least::lowest_settled, call_graph::proofs::Least::lowest_kept, call_graph::proofs::Least::lowest_new))]
 fn lower(work: &[u32], indices: &[u32], best: usize, r: usize) -> usize
     requires { (length work.now ≡ length indices.now) × (r < length indices.now) }

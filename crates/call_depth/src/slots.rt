@@ -10,8 +10,8 @@ use loader::calls_key;
 use program::row_ascending;
 
 // In the word of a row whose depth is not known yet.
-// Kept: bits and no enum. C lends one number a row, which holds the depth, or the end of the function's slots with
-// these two.
+// Kept: bits and no enum. The caller lends one number a row, since memory is fixed; it holds the depth, or the end of
+// the function's slots with these two.
 pub(crate) const FLAG: u32 = 0x8000_0000;
 
 pub(crate) const MARK: u32 = 0x4000_0000;
