@@ -140,14 +140,13 @@ fn read_case(
     builtins: &mut [u32],
     bytes: &mut [u8],
 ) -> Result<(), RecordError> {
-    if file.len() < c.file || builtins.len() < c.builtins || bytes.len() / 4 < c.builtins {
-        return Err(RecordError::Bad);
-    }
-    let size = 4 * c.builtins;
-    read_whole(input, &mut bytes[..size])?;
-    read_whole(input, &mut file[..c.file])?;
+    let builtins = builtins.get_mut(..c.builtins).ok_or(RecordError::Bad)?;
+    let bytes = bytes.get_mut(..4 * builtins.len()).ok_or(RecordError::Bad)?;
+    let file = file.get_mut(..c.file).ok_or(RecordError::Bad)?;
+    read_whole(input, bytes)?;
+    read_whole(input, file)?;
     fill_keys(builtins, bytes);
-    lend(rt, c, &file[..c.file], &builtins[..c.builtins])
+    lend(rt, c, file, builtins)
 }
 
 // One case, and whether there was one.
