@@ -9,25 +9,18 @@ ghost use Rattle.call_depth.specs.Called.{profile_now, profile_of, slots_in, Wor
 use crate::profile::Profile;
 use crate::slots::FLAG;
 
-// Kept: a test of both. By `filter` and `min` over the indices `end_of` would need a law of its own for a definition
-// that takes them in this order.
-#[tactic(auto, using(ebpf::specs::Choice::choices))]
-fn nearer(i: u32, x: u32, best: u32) -> u32
-    ensures { result ≡ (x if ltb i x && ltb x best else best) }
-{
-    if (i < x) & (x < best) { x } else { best }
-}
-
 // The smallest index above `i`, or `count`.
-#[tactic(auto, using(call_graph::proofs::Ends::next_turn, call_graph::proofs::Ends::next_end))]
 fn end_of(indices: &[u32], i: u32, count: u32) -> u32
     ensures { result ≡ next_above i count indices.now }
 {
-    let mut best = count;
-    for index in indices {
-        best = nearer(i, *index, best);
-    }
-    best
+    indices.iter().fold(
+        count,
+        |best, index| if (i < *index) & (*index < best) {
+            *index
+        } else {
+            best
+        },
+    )
 }
 
 impl Profile<'_> {
