@@ -63,11 +63,7 @@ fn four_behind(r: u64, n: u64, b: u64) -> bool
     requires { n ≤ 12 }
     ensures { result ≡ is_in (r + n) 4 b }
 {
-    if b < r {
-        return false;
-    }
-    let d = b - r;
-    (n <= d) & (d < n + 4)
+    b.checked_sub(r).is_some_and(|d| (n..n + 4).contains(&d))
 }
 
 pub(crate) fn is_named(named: Option<Named>, b: u64) -> bool

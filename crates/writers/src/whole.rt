@@ -2,8 +2,10 @@
 ghost use Rattle.std.specs.Prelude.{◌&&◌, ◌+◌, ◌≤◌, ◌<◌, ◌^◌};
 ghost use Rattle.loader.specs.Deeds.{is_in};
 ghost use Rattle.writers.specs.Named.{is_named, is_call, immediate_of};
-ghost use Rattle.writers.specs.Whole.{Marks, OnlyZeros, HoldsCalls, HoldsAll};
+ghost use Rattle.writers.specs.declared.Writer.TheVariants.{Call};
+ghost use Rattle.writers.specs.Whole.{code_of, Marks, OnlyZeros, HoldsCalls, HoldsAll};
 
+use crate::Writer;
 use crate::calls::is_call;
 use crate::naming::{Named, named_next, relocation_count};
 use crate::text::Text;
@@ -33,11 +35,13 @@ fn mark_four(numbers: &mut [u32], r: u64, n: usize, code: u32)
     }
 }
 
-// `code` for each byte that a relocation names, if it names any.
+// The writer's number for each byte that a relocation names, if it names any.
 #[tactic(auto, using(ebpf::specs::Choice::choices, crate::proofs::Places::parts, crate::proofs::Places::eight, crate::proofs::Marking::either))]
-fn mark_named(numbers: &mut [u32], named: Option<Named>, code: u32)
-    ensures { Marks (is_named named) code numbers }
+fn mark_named(numbers: &mut [u32], named: Option<Named>, writer: Writer)
+    requires { code_of writer < 2 ^ 32 }
+    ensures { Marks (is_named named) (code_of writer) numbers }
 {
+    let code = writer.code();
     match named {
         None => {}
         Some(Named::Immediate(r)) => mark_four(numbers, r, 4, code),
@@ -56,11 +60,12 @@ fn mark_named(numbers: &mut [u32], named: Option<Named>, code: u32)
 #[tactic(auto, using(ebpf::specs::Choice::choices))]
 fn mark_call(numbers: &mut [u32], text: &Text<'_>, i: usize)
     requires { i < 2 ^ 24 }
-    ensures { Marks (λ b. is_in (immediate_of text.now.loaded i) 4 b && is_call text.now.elf.file.now text.now.loaded i) (i + 1) numbers }
+    ensures { Marks (λ b. is_in (immediate_of text.now.loaded i) 4 b && is_call text.now.elf.file.now text.now.loaded i) (code_of (Call i)) numbers }
 {
     if is_call(text, i) {
         let start = text.loaded.place.start;
-        mark_four(numbers, (start + 8 * i) as u64, 4, i as u32 + 1);
+        let call = Writer::Call(i as u32);
+        mark_four(numbers, (start + 8 * i) as u64, 4, call.code());
     }
 }
 
@@ -87,6 +92,6 @@ pub(crate) fn mark_all(numbers: &mut [u32], text: &Text<'_>)
     for i in 0..count {
         let next = named_next(text, header, i);
         header = next.header;
-        mark_named(numbers, next.named, 0x8000_0000 + i);
+        mark_named(numbers, next.named, Writer::Relocation(i));
     }
 }
