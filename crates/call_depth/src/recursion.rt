@@ -93,6 +93,7 @@ fn rows_left(work: &[u32]) -> usize {
 
 impl Profile<'_> {
     // The word of row `r` once all that it calls, and so on, is marked.
+    #[tactic(auto, using(call_graph::proofs::Least::plain_begun))]
     fn marks_itself(self, work: &mut [u32], r: usize) -> u32
         requires { Plain (profile_now self) (slots_in self.text.now) work.old × (r < length self.indices.now) × (FLAG ≤ get_or work.old r 0) }
         ensures { Tested (profile_of self) r work.old work.new result }
@@ -147,6 +148,7 @@ impl Profile<'_> {
 
     // The smallest index that row `entry` reaches and that reaches itself, where no more rows can be
     // settled.
+    #[tactic(auto, using(call_graph::proofs::Least::short_begun))]
     pub(crate) fn recursive(self, work: &mut [u32], entry: usize) -> u32
         requires { Short (profile_now self) (slots_in self.text.now) entry work.old }
         ensures { Smallest (CallsFunction (profile_of self)) (get_or self.entry.indices.now entry 0) result }
