@@ -21,6 +21,8 @@ const LONGEST: usize = 16384;
 const ROWS: usize = 256;
 
 // A load with all settings on and no built-ins, and its lines.
+// Kept: five columns, as in `worked` and `load_vectors`. A type for all three would hold the arrays and no more: each
+// fills them with other words and lends them in another way, here to the registry whole.
 fn list_load(lines: &mut Lines<'_>, file: &[u8])
     requires { lines.old.at + 16221 ≤ 2 ^ 32 }
     ensures { Stores 16221 (load_lines (listed_load file.now)) lines.old lines.new }

@@ -94,6 +94,8 @@ fn replay(
 }
 
 // Lends what the case asks for, where it asks for no more than there is.
+// Kept: five columns, as in `worked` and `listing`. A type for all three would hold the arrays and no more, since here a
+// front of each is lent, by its own length.
 fn lend(rt: &impl Print, c: Sizes, file: &[u8], builtins: &[u32]) -> Result<(), RecordError> {
     if LENT < c.image || LENT < c.ro_section {
         return Err(RecordError::Bad);

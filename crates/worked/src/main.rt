@@ -55,7 +55,8 @@ fn record_of(bytes: &[u8; NUMBERS]) -> Record {
 }
 
 // What is lent for a load.
-// Kept: arrays in a struct, with their lengths by constants: memory is fixed, and there is no heap.
+// Kept: arrays in a struct, with their lengths by constants: memory is fixed, and there is no heap. Two other programs
+// lend five columns; a type for all three would hold the arrays and no more, since here C's functions take each slice.
 #[derive(Drop)]
 struct Lent {
     image: [u8; FILE],
