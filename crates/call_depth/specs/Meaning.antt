@@ -1,5 +1,5 @@
 -- What the answers say of an accepted load, in the words of the request.
-use Rattle.std.specs.Prelude.{ℕ, ◌≤◌, ◌<◌, ◌≡◌, true, List, take, drop, eqb, Some, Result, Ok, Err}
+use Rattle.std.specs.Prelude.{ℕ, ◌≤◌, ◌<◌, ◌≡◌, true, List, take, drop, Some, Result, Ok, Err}
 use Rattle.ebpf.specs.Instructions.{insn_at}
 use Rattle.ebpf.specs.declared.Insn.{Insn}
 use Rattle.program.specs.Table.{Slices, lookup_in}

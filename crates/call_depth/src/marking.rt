@@ -21,8 +21,8 @@ fn end_in(word: u32) -> u32
 }
 
 impl Profile<'_> {
-    // Marks what row `r` calls: how many rows are newly marked.
-    fn mark_calls(self, work: &mut [u32], r: usize) -> usize
+    // Marks what row `r` calls: whether a row is newly marked.
+    fn mark_calls(self, work: &mut [u32], r: usize) -> bool
         requires { Shaped (profile_now self) (slots_in self.text.now) work.old × (r < length self.indices.now) × (FLAG ≤ get_or work.old r 0) }
         ensures { CallsMarked (profile_of self) r work.old work.new result }
     {
@@ -31,29 +31,29 @@ impl Profile<'_> {
         self.mark_slots(work, from, end)
     }
 
-    // Where row `r` is marked, marks what it calls: how many rows are newly marked.
+    // Where row `r` is marked, marks what it calls: whether a row is newly marked.
     #[tactic(auto, using(call_graph::proofs::Marking::not_followed, call_graph::proofs::Marking::followed))]
-    fn mark_one(self, work: &mut [u32], r: usize) -> usize
+    fn mark_one(self, work: &mut [u32], r: usize) -> bool
         requires { Shaped (profile_now self) (slots_in self.text.now) work.old × (r < length self.indices.now) }
         ensures { Followed (profile_of self) r work.old work.new result }
     {
         if work[r] < BOTH {
-            return 0;
+            return false;
         }
         self.mark_calls(work, r)
     }
 
-    // Each row that is marked marks what it calls, and so does row `b`.
+    // Each row that is marked marks what it calls, and so does row `b`: whether a row is newly marked.
     #[tactic(auto, using(call_graph::proofs::Marking::round_start, call_graph::proofs::Marking::shaped_kept, call_graph::proofs::Marking::begun_kept))]
-    fn mark_pass(self, work: &mut [u32], b: usize) -> usize
+    fn mark_pass(self, work: &mut [u32], b: usize) -> bool
         requires { Begun (profile_now self) (slots_in self.text.now) b work.old }
         ensures { Circled (profile_of self) b work.old work.new result }
     {
-        let mut more = 0;
+        let mut more = false;
         for r in 0..self.indices.len() {
-            more += self.mark_one(work, r);
+            more |= self.mark_one(work, r);
         }
-        more + self.mark_calls(work, b)
+        more | self.mark_calls(work, b)
     }
 
     // Marks all that row `b` calls, and so on.
@@ -64,12 +64,7 @@ impl Profile<'_> {
     {
         // Kept: the contract needs the pass that marks nothing new; for a `for` that it is reached within so many
         // passes would have to be proved besides.
-        loop {
-            let more = self.mark_pass(work, b);
-            if more == 0 {
-                return;
-            }
-        }
+        while self.mark_pass(work, b) {}
     }
 
     // Where row `r` is not settled, marks what it calls.

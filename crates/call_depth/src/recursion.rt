@@ -55,8 +55,7 @@ fn keep_marked(work: &mut [u32], entry: usize)
 
 // Row `r`, or `best`, whichever is left and has the smaller index.
 // Kept: `indices.len()` is no row. An Option is no plainer: `smallest`, where a row is always left, would
-// have an arm for none, and here `best` would still have to be tested before its index is read. By
-// `filter(..).min_by_key(..)` which of two rows of one index comes is not what the contract says of a prefix.
+// have an arm for none, and here `best` would still have to be tested before its index is read.
 #[tactic(auto, using(call_graph::proofs::Least::lowest_settled, call_graph::proofs::Least::lowest_kept, call_graph::proofs::Least::lowest_new))]
 fn lower(work: &[u32], indices: &[u32], best: usize, r: usize) -> usize
     requires { (length work.now ≡ length indices.now) × (r < length indices.now) }
@@ -94,6 +93,7 @@ fn rows_left(work: &[u32]) -> usize {
 
 impl Profile<'_> {
     // The word of row `r` once all that it calls, and so on, is marked.
+    #[tactic(auto, using(call_graph::proofs::Least::plain_begun))]
     fn marks_itself(self, work: &mut [u32], r: usize) -> u32
         requires { Plain (profile_now self) (slots_in self.text.now) work.old × (r < length self.indices.now) × (FLAG ≤ get_or work.old r 0) }
         ensures { Tested (profile_of self) r work.old work.new result }
@@ -148,6 +148,7 @@ impl Profile<'_> {
 
     // The smallest index that row `entry` reaches and that reaches itself, where no more rows can be
     // settled.
+    #[tactic(auto, using(call_graph::proofs::Least::short_begun))]
     pub(crate) fn recursive(self, work: &mut [u32], entry: usize) -> u32
         requires { Short (profile_now self) (slots_in self.text.now) entry work.old }
         ensures { Smallest (CallsFunction (profile_of self)) (get_or self.entry.indices.now entry 0) result }

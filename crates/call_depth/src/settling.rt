@@ -9,25 +9,18 @@ ghost use Rattle.call_depth.specs.Called.{profile_now, profile_of, slots_in, Wor
 use crate::profile::Profile;
 use crate::slots::FLAG;
 
-// Kept: a test of both. By `filter` and `min` over the indices `end_of` would need a law of its own for a definition
-// that takes them in this order.
-#[tactic(auto, using(ebpf::specs::Choice::choices))]
-fn nearer(i: u32, x: u32, best: u32) -> u32
-    ensures { result ≡ (x if ltb i x && ltb x best else best) }
-{
-    if (i < x) & (x < best) { x } else { best }
-}
-
 // The smallest index above `i`, or `count`.
-#[tactic(auto, using(call_graph::proofs::Ends::next_turn, call_graph::proofs::Ends::next_end))]
 fn end_of(indices: &[u32], i: u32, count: u32) -> u32
     ensures { result ≡ next_above i count indices.now }
 {
-    let mut best = count;
-    for index in indices {
-        best = nearer(i, *index, best);
-    }
-    best
+    indices.iter().fold(
+        count,
+        |best, index| if (i < *index) & (*index < best) {
+            *index
+        } else {
+            best
+        },
+    )
 }
 
 impl Profile<'_> {
@@ -43,35 +36,34 @@ impl Profile<'_> {
         }
     }
 
-    // Tries row `r`: 1 where it is newly settled, else 0.
-    // Kept: a number and no bool, since a pass answers how many.
+    // Tries row `r`: whether it is newly settled.
     #[tactic(auto, using(call_graph::proofs::Settling::tried_kept, call_graph::proofs::Settling::tried_zero, call_graph::proofs::Settling::tried_some, call_graph::proofs::Settling::end_within))]
-    fn settle_one(self, work: &mut [u32], r: usize) -> usize
+    fn settle_one(self, work: &mut [u32], r: usize) -> bool
         requires { WordsReady (profile_now self) (slots_in self.text.now) work.old × (r < length self.indices.now) }
         ensures { RowTried (profile_of self) work.old work.new r result }
     {
         let word = work[r];
         if word < FLAG {
-            return 0;
+            return false;
         }
         let from = self.indices[r] as usize;
         let end = (word - FLAG) as usize;
         let Some(d) = self.depth_over(work, from, end) else {
-            return 0;
+            return false;
         };
         work[r] = d;
-        1
+        true
     }
 
-    // Tries each row once: how many are newly settled.
+    // Tries each row once: whether one is newly settled.
     #[tactic(auto, using(call_graph::proofs::Settling::passing_start, call_graph::proofs::Settling::passing_next))]
-    fn settle_pass(self, work: &mut [u32]) -> usize
+    fn settle_pass(self, work: &mut [u32]) -> bool
         requires { WordsReady (profile_now self) (slots_in self.text.now) work.old }
         ensures { Passing (profile_of self) work.old work.new (length self.entry.indices.now) result }
     {
-        let mut more = 0;
+        let mut more = false;
         for r in 0..self.indices.len() {
-            more += self.settle_one(work, r);
+            more |= self.settle_one(work, r);
         }
         more
     }
@@ -84,11 +76,7 @@ impl Profile<'_> {
     {
         // Kept: the contract needs the pass that settles nothing new, or the row; for a `for` that it is reached within
         // so many passes would have to be proved besides.
-        loop {
-            let more = self.settle_pass(work);
-            if more == 0 {
-                return;
-            }
+        while self.settle_pass(work) {
             if work[entry] < FLAG {
                 return;
             }

@@ -10,30 +10,29 @@ use loader::calls_key;
 use program::row_ascending;
 
 // In the word of a row whose depth is not known yet.
-// Kept: bits and no enum. C lends one number a row, which holds the depth, or the end of the function's slots with
-// these two.
+// Kept: bits and no enum. The caller lends one number a row, since memory is fixed; it holds the depth, or the end of
+// the function's slots with these two.
 pub(crate) const FLAG: u32 = 0x8000_0000;
 
 pub(crate) const MARK: u32 = 0x4000_0000;
 
 pub(crate) const BOTH: u32 = 0xc000_0000;
 
-// Marks a row that is neither settled nor marked: 1 where it is newly marked, else 0.
-// Kept: a number and no bool, since a pass answers how many.
+// Marks a row that is neither settled nor marked: whether it is newly marked.
 #[tactic(auto, using(call_graph::proofs::Marking::row_kept))]
-fn mark_row(work: &mut [u32], r: usize) -> usize
+fn mark_row(work: &mut [u32], r: usize) -> bool
     requires { r < length work.old }
     ensures { Slots (always r) 0 1 1 work.old work.new result }
 {
     let word = work[r];
     if word < FLAG {
-        return 0;
+        return false;
     }
     if BOTH <= word {
-        return 0;
+        return false;
     }
     work[r] = word + MARK;
-    1
+    true
 }
 
 impl Profile<'_> {
@@ -83,18 +82,18 @@ impl Profile<'_> {
         Some(most + 1)
     }
 
-    // Marks what some slots call: how many rows are newly marked.
+    // Marks what some slots call: whether a row is newly marked.
     #[tactic(auto, using(call_graph::proofs::Marking::slots_start, call_graph::proofs::Marking::slots_next, call_graph::proofs::Marking::slots_past, call_graph::proofs::Marking::slots_end))]
-    pub(crate) fn mark_slots(self, work: &mut [u32], from: usize, end: usize) -> usize
+    pub(crate) fn mark_slots(self, work: &mut [u32], from: usize, end: usize) -> bool
         requires { (end ≤ slots_in self.text.now) × (length work.old ≡ length self.indices.now) }
         ensures { Slots (callee_in self.entry.text.now self.entry.keys.now self.entry.version2) from end end work.old work.new result }
     {
-        let mut more = 0;
+        let mut more = false;
         for s in from..end {
             let Some(r) = self.callee_of(s) else {
                 continue;
             };
-            more += mark_row(work, r);
+            more |= mark_row(work, r);
         }
         more
     }

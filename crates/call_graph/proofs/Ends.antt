@@ -1,15 +1,14 @@
 -- The end of a function's slots: the smallest start above its index, or the text's end.
 -- Assumes nothing.
-use Prim.Native.Nat.{ℕ, zero, suc, ◌+◌, ◌≤◌, ◌<◌}
+use Prim.Native.Nat.{ℕ, zero, suc, ◌≤◌, ◌<◌}
 use mathlib.Core.Path.{◌≡◌, refl}
 use mathlib.Core.Bool.{◌&&◌}
 use mathlib.Core.List.{List, [], ◌∷◌}
 use mathlib.Core.Logic.{◌⊎◌, inl, inr, ⊎_elim}
 use native.Mathlib.Omega.{arith}
-use native.Mathlib.Numerals.{add-one}
-use lib.ListN.{length, get_or, drop, drop_of_length-le}
-use lib.Seq.{drop-cons}
+use lib.ListN.{length, get_or}
 use lib.Dec.{ltb}
+use Rattle.std.specs.List.{fold}
 use Rattle.ebpf.specs.Choice.{◌if◌else◌}
 use Rattle.call_graph.specs.Profile.{next_above}
 use Rattle.program.proofs.Cases.{by_lt}
@@ -28,11 +27,10 @@ next_within i end (x ∷ xs) =
     let g : closer i x end ≤ end = by_closer (λ n. n ≤ end) i x end (λ _ l. omega arith) (λ _. omega arith) (λ _. omega arith) in
     omega arith
 
-pub next_turn : (i best r : ℕ) (xs : List ℕ) → r < length xs → next_above i best (drop r xs) ≡ next_above i (closer i (get_or xs r 0) best) (drop (r + 1) xs)
-next_turn i best r xs l = rw (add-one, drop-cons xs r 0 l) refl
-
-pub next_end : (i best r : ℕ) (xs : List ℕ) → length xs ≤ r → next_above i best (drop r xs) ≡ best
-next_end i best r xs l = rw (drop_of_length-le xs l) refl
+-- start by start
+pub next_folded : (i end : ℕ) (xs : List ℕ) → next_above i end xs ≡ fold (λ (best x : ℕ). x if ltb i x && ltb x best else best) end xs
+next_folded i end [] = refl
+next_folded i end (x ∷ xs) = next_folded i (closer i x end) xs
 
 -- what it means: no start lies between, and it is the text's end or a start above
 pub next_least : (i end r : ℕ) (xs : List ℕ) → r < length xs → i < get_or xs r 0 → next_above i end xs ≤ get_or xs r 0

@@ -1,8 +1,8 @@
 -- A row is settled when all that it calls is.
 -- Assumes nothing.
 use Prim.Native.Nat.{ℕ, zero, suc, ◌+◌, ◌-◌, ◌≤◌, ◌<◌}
-use mathlib.Core.Path.{◌≡◌, refl, ◌∙◌}
-use mathlib.Core.Bool.{Bool, true, false}
+use mathlib.Core.Path.{◌≡◌, refl, sym, ◌∙◌}
+use mathlib.Core.Bool.{Bool, true, false, true≢false, ◌||◌}
 use mathlib.Core.List.{List, [], ◌∷◌}
 use mathlib.Core.Logic.{⊎_elim}
 use native.Mathlib.Omega.{arith}
@@ -16,6 +16,16 @@ use Rattle.call_graph.specs.Profile.{Profile, CallsFunction}
 use Rattle.call_graph.specs.Words.{FLAG, count_in, settled_in, Sized, Good, Stuck, OverSlots, Scan, WordsReady, RowTried, Passing, Stopped}
 use Rattle.program.proofs.Cases.{by_test}
 use Rattle.call_graph.proofs.Scans.{below_or}
+
+-- two steps, each of which changes the words only where it says so
+pub neither : (a b : Bool) → (a || b) ≡ false → (a ≡ false) × (b ≡ false)
+neither true b e = absurd (true≢false e)
+neither false b e = (refl, e)
+
+pub either_more : (m : List ℕ → ℕ) (w u v : List ℕ) (a b : Bool) → (a ≡ true → m w < m u) → (a ≡ false → u ≡ w) → (b ≡ true → m u < m v) → (b ≡ false → v ≡ u) → (a || b) ≡ true → m w < m v
+either_more m w u v true true f g h i e = omega (arith, f refl, h refl)
+either_more m w u v true false f g h i e = rw (i refl) (f refl)
+either_more m w u v false b f g h i e = rw (← g refl) (h e)
 
 -- the words after a store
 pub at_set : (Q : ℕ → Type 0) (w : List ℕ) (r v q : ℕ) → r < length w → (q ≡ r → Q v) → ((q ≡ r → ⊥) → Q (get_or w q 0)) → Q (get_or (set w r v) q 0)
@@ -95,14 +105,14 @@ module _ (P : Profile) (w : List ℕ) (g : Good P w) where
             (λ z. let h : get_or w (P.callee z.0) 0 ≤ settled_in w = g.small (P.callee z.0) (a_row (P.callee z.0) n (z.3 ∙ e)) (omega (arith, o.small, z.3)) in omega (arith, z.3))
             o.met
 
-  pub tried_kept : (r : ℕ) → get_or w r 0 < FLAG → RowTried P w w r 0
-  tried_kept r l = record { good = g; more = omega arith; same = λ _. refl; stuck = λ _ f. absurd (omega arith) }
+  pub tried_kept : (r : ℕ) → get_or w r 0 < FLAG → RowTried P w w r false
+  tried_kept r l = record { good = g; more = λ e. absurd (true≢false (sym e)); same = λ _. refl; stuck = λ _ f. absurd (omega arith) }
 
-  pub tried_stuck : (r : ℕ) → Stuck P w (P.index r) → RowTried P w w r 0
-  tried_stuck r s = record { good = g; more = omega arith; same = λ _. refl; stuck = λ _ _. s }
+  pub tried_stuck : (r : ℕ) → Stuck P w (P.index r) → RowTried P w w r false
+  tried_stuck r s = record { good = g; more = λ e. absurd (true≢false (sym e)); same = λ _. refl; stuck = λ _ _. s }
 
   pub tried_settled : (slots r m : ℕ) → Sized P slots → r < P.rows → FLAG ≤ get_or w r 0
-      → OverSlots P.callee w (P.index r) (P.end (P.index r)) (P.end (P.index r)) m → RowTried P w (set w r (suc m)) r 1
+      → OverSlots P.callee w (P.index r) (P.end (P.index r)) (P.end (P.index r)) m → RowTried P w (set w r (suc m)) r true
   tried_settled slots r m z l f o =
       let r< : r < length w = omega (arith, g.long) in
       let few : m ≤ settled_in w = depth_small (P.index r) m o in
@@ -122,22 +132,22 @@ module _ (P : Profile) (w : List ℕ) (g : Good P w) where
               (λ _ h. absurd (omega arith))
               (λ _ h. g.ends q ql h);
         };
-        more = omega arith;
-        same = λ e. absurd (omega arith);
-        stuck = λ e. absurd (omega arith);
+        more = λ _. omega arith;
+        same = λ e. absurd (true≢false e);
+        stuck = λ e. absurd (true≢false e);
       }
 
-pub passing_start : (P : Profile) (w : List ℕ) → Good P w → Passing P w w 0 0
-passing_start P w g = record { good = g; more = omega arith; same = λ _. refl; stuck = λ _ q l. absurd (omega arith) }
+pub passing_start : (P : Profile) (w : List ℕ) → Good P w → Passing P w w 0 false
+passing_start P w g = record { good = g; more = λ e. absurd (true≢false (sym e)); same = λ _. refl; stuck = λ _ q l. absurd (omega arith) }
 
-pub passing_next : (P : Profile) (w u v : List ℕ) (r k d : ℕ) → Passing P w u r k → RowTried P u v r d → Passing P w v (r + 1) (k + d)
-passing_next P w u v r k d p t = record {
+pub passing_next : (P : Profile) (w u v : List ℕ) (r : ℕ) (a b : Bool) → Passing P w u r a → RowTried P u v r b → Passing P w v (r + 1) (a || b)
+passing_next P w u v r a b p t = record {
   good = t.good;
-  more = omega (arith, p.more, t.more);
-  same = λ e. t.same (omega arith) ∙ p.same (omega arith);
-  stuck = λ e q l. below_or (λ q. FLAG ≤ get_or v q 0 → Stuck P v (P.index q)) r q l
-      (λ h. rw (t.same (omega arith)) (p.stuck (omega arith) q h))
-      (t.stuck (omega arith));
+  more = either_more settled_in w u v a b p.more p.same t.more t.same;
+  same = λ e. let n = neither a b e in t.same n.1 ∙ p.same n.0;
+  stuck = λ e q l. let n = neither a b e in below_or (λ q. FLAG ≤ get_or v q 0 → Stuck P v (P.index q)) r q l
+      (λ h. rw (t.same n.1) (p.stuck n.0 q h))
+      (t.stuck n.1);
 }
 
 -- what a scan of a row's slots says of the row
@@ -148,24 +158,20 @@ module _ (P : Profile) (slots : ℕ) (w : List ℕ) (y : WordsReady P slots w) (
   pub end_within : get_or w r 0 - FLAG ≤ slots
   end_within = omega (arith, end_is, y.sized.within (P.index r))
 
-  pub tried_zero : (d : ℕ) → Scan P.callee w (P.index r) (get_or w r 0 - FLAG) d → d ≡ 0 → RowTried P w w r 0
+  pub tried_zero : (d : ℕ) → Scan P.callee w (P.index r) (get_or w r 0 - FLAG) d → d ≡ 0 → RowTried P w w r false
   tried_zero d s e = tried_stuck P w y.good r (rw (e, end_is) at s)
 
-  pub tried_some : (d : ℕ) → Scan P.callee w (P.index r) (get_or w r 0 - FLAG) d → 0 < d → RowTried P w (set w r d) r 1
+  pub tried_some : (d : ℕ) → Scan P.callee w (P.index r) (get_or w r 0 - FLAG) d → 0 < d → RowTried P w (set w r d) r true
   tried_some zero s n = absurd (omega arith)
   tried_some (suc m) s n = tried_settled P w y.good slots r m y.sized l f (rw end_is at s)
 
--- room for one more: passes count rows
-pub passing_few : (P : Profile) (w u : List ℕ) (r k : ℕ) → Passing P w u r k → k ≤ P.rows
-passing_few P w u r k p = omega (arith, p.more, settled_le u, p.good.long)
-
 -- passes stop after one that settles nothing, and once row e is settled
-pub stopped_still : (P : Profile) (w u : List ℕ) (k e : ℕ) → Passing P w u P.rows k → k ≡ 0 → Stopped P e u
-stopped_still P w u k e p z = record { good = p.good; still = λ _. p.stuck z }
+pub stopped_still : (P : Profile) (w u : List ℕ) (a : Bool) (e : ℕ) → Passing P w u P.rows a → a ≡ false → Stopped P e u
+stopped_still P w u a e p z = record { good = p.good; still = λ _. p.stuck z }
 
-pub stopped_settled : (P : Profile) (w u : List ℕ) (r k e : ℕ) → Passing P w u r k → get_or u e 0 < FLAG → Stopped P e u
-stopped_settled P w u r k e p l = record { good = p.good; still = λ f. absurd (omega arith) }
+pub stopped_settled : (P : Profile) (w u : List ℕ) (r : ℕ) (a : Bool) (e : ℕ) → Passing P w u r a → get_or u e 0 < FLAG → Stopped P e u
+stopped_settled P w u r a e p l = record { good = p.good; still = λ f. absurd (omega arith) }
 
 -- a pass that settles something leaves fewer
-pub passing_less : (P : Profile) (w u : List ℕ) (n r k : ℕ) → n ≡ P.rows → Passing P w u r k → (k ≡ 0 → ⊥) → n - settled_in u < n - settled_in w
-passing_less P w u n r k e p z = omega (arith, e, p.more, settled_le u, p.good.long)
+pub passing_less : (P : Profile) (w u : List ℕ) (n r : ℕ) (a : Bool) → n ≡ P.rows → Passing P w u r a → a ≡ true → n - settled_in u < n - settled_in w
+passing_less P w u n r a e p z = omega (arith, e, p.more z, settled_le u, p.good.long)

@@ -1,5 +1,5 @@
 -- Marks on rows that are not settled: 2^30 more in the word.
-use Rattle.std.specs.Prelude.{ℕ, ◌+◌, ◌-◌, ◌≤◌, ◌<◌, ◌≡◌, List, ◌⊎◌, length, get_or, ltb, leb, eqb}
+use Rattle.std.specs.Prelude.{ℕ, ◌+◌, ◌-◌, ◌≤◌, ◌<◌, ◌≡◌, Bool, true, false, List, ◌⊎◌, length, get_or, ltb, leb, eqb}
 use Rattle.ebpf.specs.Choice.{◌if◌else◌}
 use Rattle.call_graph.specs.Ways.{Reaches, Calling}
 use Rattle.call_graph.specs.Profile.{Profile}
@@ -40,15 +40,15 @@ pub record Grown (Src : ℕ → Type 0) (w w' : List ℕ) : Type 0 where
   pub long : length w' ≡ length w
   pub each : (q : ℕ) → (get_or w' q 0 ≡ get_or w q 0) ⊎ ((FLAG ≤ get_or w q 0) × (get_or w q 0 < BOTH) × (get_or w' q 0 ≡ get_or w q 0 + MARK) × Src q)
 
--- k of them
-pub record Marking (Src : ℕ → Type 0) (w w' : List ℕ) (k : ℕ) : Type 0 where
+-- and whether there are any
+pub record Marking (Src : ℕ → Type 0) (w w' : List ℕ) (any : Bool) : Type 0 where
   pub grown : Grown Src w w'
-  pub more : marked_in w' ≡ marked_in w + k
-  pub same : k ≡ 0 → w' ≡ w
+  pub more : any ≡ true → marked_in w < marked_in w'
+  pub same : any ≡ false → w' ≡ w
 
 -- what the slots from `from` up to s call is marked
-pub record Slots (callee : ℕ → ℕ) (from end s : ℕ) (w w' : List ℕ) (k : ℕ) : Type 0 where
-  pub marks : Marking (λ (q : ℕ). (t : ℕ) × (from ≤ t) × (t < end) × (callee t ≡ q)) w w' k
+pub record Slots (callee : ℕ → ℕ) (from end s : ℕ) (w w' : List ℕ) (any : Bool) : Type 0 where
+  pub marks : Marking (λ (q : ℕ). (t : ℕ) × (from ≤ t) × (t < end) × (callee t ≡ q)) w w' any
   pub closed : (t : ℕ) → from ≤ t → t < s → FLAG ≤ get_or w' (callee t) 0 → BOTH ≤ get_or w' (callee t) 0
 
 abbrev pub always : ℕ → ℕ → ℕ
@@ -59,27 +59,27 @@ abbrev pub Closed : Profile → List ℕ → ℕ → Type 0
 Closed P w r = (t : ℕ) → P.index r ≤ t → t < P.end (P.index r) → FLAG ≤ get_or w (P.callee t) 0 → BOTH ≤ get_or w (P.callee t) 0
 
 -- what row r calls is marked
-abbrev pub CallsMarked : Profile → ℕ → List ℕ → List ℕ → ℕ → Type 0
-CallsMarked P r w w' k = Slots P.callee (P.index r) (P.end (P.index r)) (P.end (P.index r)) w w' k
+abbrev pub CallsMarked : Profile → ℕ → List ℕ → List ℕ → Bool → Type 0
+CallsMarked P r w w' any = Slots P.callee (P.index r) (P.end (P.index r)) (P.end (P.index r)) w w' any
 
 -- row r, if it is marked, marks what it calls
-pub record Followed (P : Profile) (r : ℕ) (w w' : List ℕ) (k : ℕ) : Type 0 where
-  pub marks : Marking (λ (q : ℕ). (BOTH ≤ get_or w r 0) × RowCalls P r q) w w' k
-  pub closed : k ≡ 0 → BOTH ≤ get_or w' r 0 → Closed P w' r
+pub record Followed (P : Profile) (r : ℕ) (w w' : List ℕ) (any : Bool) : Type 0 where
+  pub marks : Marking (λ (q : ℕ). (BOTH ≤ get_or w r 0) × RowCalls P r q) w w' any
+  pub closed : any ≡ false → BOTH ≤ get_or w' r 0 → Closed P w' r
 
 -- what is marked is called from b on
 abbrev pub MarksSound : Profile → ℕ → List ℕ → Type 0
 MarksSound P b w = (q : ℕ) → q < P.rows → BOTH ≤ get_or w q 0 → Calling (RowCalls P) b q
 
 -- the rows below r, if they are marked, mark what they call
-pub record Round (P : Profile) (b r : ℕ) (w w' : List ℕ) (k : ℕ) : Type 0 where
-  pub marks : Marking (λ (q : ℕ). Calling (RowCalls P) b q) w w' k
-  pub closed : k ≡ 0 → (q : ℕ) → q < r → BOTH ≤ get_or w' q 0 → Closed P w' q
+pub record Round (P : Profile) (b r : ℕ) (w w' : List ℕ) (any : Bool) : Type 0 where
+  pub marks : Marking (λ (q : ℕ). Calling (RowCalls P) b q) w w' any
+  pub closed : any ≡ false → (q : ℕ) → q < r → BOTH ≤ get_or w' q 0 → Closed P w' q
 
 -- all rows that are marked, and b, mark what they call
-pub record Circled (P : Profile) (b : ℕ) (w w' : List ℕ) (k : ℕ) : Type 0 where
-  pub round : Round P b P.rows w w' k
-  pub first : k ≡ 0 → Closed P w' b
+pub record Circled (P : Profile) (b : ℕ) (w w' : List ℕ) (any : Bool) : Type 0 where
+  pub round : Round P b P.rows w w' any
+  pub first : any ≡ false → Closed P w' b
 
 -- all that b calls, and so on, is marked
 pub record Spread (P : Profile) (b : ℕ) (w w' : List ℕ) : Type 0 where

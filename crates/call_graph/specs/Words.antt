@@ -1,5 +1,5 @@
 -- The work words: one for each row. A settled row's word is the depth of its function; any other is 2^31 and the end of its slots.
-use Rattle.std.specs.Prelude.{ℕ, zero, suc, ◌+◌, ◌≤◌, ◌<◌, ◌≡◌, Bool, List, [], ◌∷◌, ◌⊎◌, length, get_or, ltb}
+use Rattle.std.specs.Prelude.{ℕ, zero, suc, ◌+◌, ◌≤◌, ◌<◌, ◌≡◌, Bool, true, false, List, [], ◌∷◌, ◌⊎◌, length, get_or, ltb}
 use Rattle.ebpf.specs.Choice.{◌if◌else◌}
 use Rattle.call_graph.specs.Ways.{Longest}
 use Rattle.call_graph.specs.Profile.{Profile, CallsFunction}
@@ -53,19 +53,19 @@ pub record WordsReady (P : Profile) (slots : ℕ) (w : List ℕ) : Type 0 where
   pub sized : Sized P slots
   pub good : Good P w
 
--- one row tried: k are newly settled
-pub record RowTried (P : Profile) (w w' : List ℕ) (r k : ℕ) : Type 0 where
+-- one row tried, and whether it is newly settled
+pub record RowTried (P : Profile) (w w' : List ℕ) (r : ℕ) (any : Bool) : Type 0 where
   pub good : Good P w'
-  pub more : settled_in w' ≡ settled_in w + k
-  pub same : k ≡ 0 → w' ≡ w
-  pub stuck : k ≡ 0 → FLAG ≤ get_or w' r 0 → Stuck P w' (P.index r)
+  pub more : any ≡ true → settled_in w < settled_in w'
+  pub same : any ≡ false → w' ≡ w
+  pub stuck : any ≡ false → FLAG ≤ get_or w' r 0 → Stuck P w' (P.index r)
 
--- the rows below r tried, one after the other: k are newly settled
-pub record Passing (P : Profile) (w w' : List ℕ) (r k : ℕ) : Type 0 where
+-- the rows below r tried, one after the other, and whether any is newly settled
+pub record Passing (P : Profile) (w w' : List ℕ) (r : ℕ) (any : Bool) : Type 0 where
   pub good : Good P w'
-  pub more : settled_in w' ≡ settled_in w + k
-  pub same : k ≡ 0 → w' ≡ w
-  pub stuck : k ≡ 0 → (q : ℕ) → q < r → FLAG ≤ get_or w' q 0 → Stuck P w' (P.index q)
+  pub more : any ≡ true → settled_in w < settled_in w'
+  pub same : any ≡ false → w' ≡ w
+  pub stuck : any ≡ false → (q : ℕ) → q < r → FLAG ≤ get_or w' q 0 → Stuck P w' (P.index q)
 
 -- as far as passes go
 pub record Exhausted (P : Profile) (w : List ℕ) : Type 0 where

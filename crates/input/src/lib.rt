@@ -9,7 +9,7 @@ use std::io;
 use std::io::Read;
 
 // Why a record of the input has no line: what is read or written failed, or the record is no right one.
-#[derive(Debug)]
+#[derive(Debug, Drop)]
 pub enum RecordError {
     Io(io::Error),
     Bad,

@@ -90,8 +90,9 @@ pub record Stored (most : ℕ) (bytes before after : List ℕ) (at r : ℕ) : Ty
 abbrev pub SameSlice : Lines → Lines → Type 0
 SameSlice before after = after.out.ghost_name ≡ before.out.ghost_name
 
+-- there, behind what was stored
 abbrev pub Stores : ℕ → List ℕ → Lines → Lines → Type 0
-Stores most bytes before after = Stored most bytes before.out.now after.out.now before.at after.at
+Stores most bytes before after = SameSlice before after × Stored most bytes before.out.now after.out.now before.at after.at
 
 -- a slice of n bytes that holds these, as many as there is room for, and zeros behind them
 abbrev pub filled : ℕ → List ℕ → List ℕ

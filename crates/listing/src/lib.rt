@@ -4,7 +4,7 @@
 // key, index, name kind. A file of more than 16,384 bytes is `too long`.
 ghost use Rattle.std.specs.Prelude.{◌+◌, ◌≤◌, ◌^◌, IfSome, OnOk};
 ghost use Rattle.std.specs.Io.KnownBytes.{Appends};
-ghost use Rattle.listing.specs.Lines.{listed_load, lines_of, load_lines, SameSlice, Stores, Lists};
+ghost use Rattle.listing.specs.Lines.{listed_load, lines_of, load_lines, Stores, Lists};
 
 use input::read_full;
 use loader::{BuiltinProgram, Config, load};
@@ -21,10 +21,11 @@ const LONGEST: usize = 16384;
 const ROWS: usize = 256;
 
 // A load with all settings on and no built-ins, and its lines.
+// Kept: five columns, as in `worked` and `load_vectors`. A type for all three would hold the arrays and no more: each
+// fills them with other words and lends them in another way, here to the registry whole.
 fn list_load(lines: &mut Lines<'_>, file: &[u8])
     requires { lines.old.at + 16221 ≤ 2 ^ 32 }
-    ensures same { SameSlice lines.old lines.new }
-    ensures stores { Stores 16221 (load_lines (listed_load file.now)) lines.old lines.new }
+    ensures { Stores 16221 (load_lines (listed_load file.now)) lines.old lines.new }
 {
     let builtins = [0u32; 0];
     let mut image = [0u8; LONGEST];

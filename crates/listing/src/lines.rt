@@ -2,7 +2,7 @@
 ghost use Rattle.std.specs.Prelude.{◌+◌, ◌^◌, ◌≤◌, length};
 ghost use Rattle.program.specs.Table.{Within, columns_in, rows_of};
 ghost use Rattle.loader.specs.Errors.{report_of};
-ghost use Rattle.listing.specs.Lines.{word_line, row_line, row_lines, refused_line, accepted_line, answer_lines, SameSlice, Stores};
+ghost use Rattle.listing.specs.Lines.{word_line, row_line, row_lines, refused_line, accepted_line, answer_lines, Stores};
 
 use crate::storing::Lines;
 use elf_parser::Report;
@@ -14,8 +14,7 @@ impl Lines<'_> {
     #[tactic(auto, using(crate::proofs::Stores::parts), unfolding(crate::specs::Lines::word_line))]
     fn put_word_line(&mut self, word: &[u8], a: u64, b: u64, c: u64, d: u64)
         requires { (self.old.at + 93 ≤ 2 ^ 32) × (length word.now ≤ 8) }
-        ensures same { SameSlice self.old self.new }
-        ensures stores { Stores 93 (word_line word.now a b c d) self.old self.new }
+        ensures { Stores 93 (word_line word.now a b c d) self.old self.new }
     {
         self.put_bytes(word);
         self.put_spaced(a);
@@ -27,8 +26,7 @@ impl Lines<'_> {
 
     fn put_refused(&mut self, e: ElfError)
         requires { self.old.at + 93 ≤ 2 ^ 32 }
-        ensures same { SameSlice self.old self.new }
-        ensures stores { Stores 93 (refused_line (report_of e)) self.old self.new }
+        ensures { Stores 93 (refused_line (report_of e)) self.old self.new }
     {
         let r = Report::from(e);
         self.put_word_line(b"refused", r.number as u64, r.value, r.start, r.length);
@@ -36,8 +34,7 @@ impl Lines<'_> {
 
     fn put_accepted(&mut self, a: Accepted)
         requires { self.old.at + 93 ≤ 2 ^ 32 }
-        ensures same { SameSlice self.old self.new }
-        ensures stores { Stores 93 (accepted_line a) self.old self.new }
+        ensures { Stores 93 (accepted_line a) self.old self.new }
     {
         self.put_word_line(
             b"accepted",
@@ -52,8 +49,7 @@ impl Lines<'_> {
     #[tactic(auto, using(crate::proofs::Stores::parts), unfolding(crate::specs::Lines::row_line))]
     fn put_row(&mut self, row: Row)
         requires { self.old.at + 63 ≤ 2 ^ 32 }
-        ensures same { SameSlice self.old self.new }
-        ensures stores { Stores 63 (row_line row.key row.index row.kind) self.old self.new }
+        ensures { Stores 63 (row_line row.key row.index row.kind) self.old self.new }
     {
         self.put_decimal(row.key as u64);
         self.put_spaced(row.index as u64);
@@ -67,8 +63,7 @@ impl Lines<'_> {
     #[tactic(auto, using(crate::proofs::Stores::parts, crate::proofs::Listed::lines_from, crate::proofs::Listed::lines_end))]
     fn put_rows(&mut self, table: FunctionTable)
         requires { (self.old.at + 16128 ≤ 2 ^ 32) × (table.used ≤ 256) × Within table.used (columns_in table) }
-        ensures same { SameSlice self.old self.new }
-        ensures stores { Stores 16128 (row_lines (rows_of (columns_in table.entry) table.entry.used)) self.old self.new }
+        ensures { Stores 16128 (row_lines (rows_of (columns_in table.entry) table.entry.used)) self.old self.new }
     {
         for i in 0..table.used {
             self.put_row(Row {
@@ -85,8 +80,7 @@ impl Lines<'_> {
     #[tactic(auto, using(crate::proofs::Stores::parts))]
     pub(crate) fn put_load(&mut self, answer: Result<Accepted, ElfError>, table: FunctionTable)
         requires { (self.old.at + 16221 ≤ 2 ^ 32) × (table.used ≤ 256) × Within table.used (columns_in table) }
-        ensures same { SameSlice self.old self.new }
-        ensures stores { Stores 16221 (answer_lines answer (rows_of (columns_in table.entry) table.entry.used)) self.old self.new }
+        ensures { Stores 16221 (answer_lines answer (rows_of (columns_in table.entry) table.entry.used)) self.old self.new }
     {
         match answer {
             Err(e) => self.put_refused(e),

@@ -34,8 +34,7 @@ impl Lines<'_> {
     #[tactic(auto, using(crate::proofs::Stores::parts))]
     pub(crate) fn put_byte(&mut self, b: u8)
         requires { self.old.at + 1 ≤ 2 ^ 32 }
-        ensures same { SameSlice self.old self.new }
-        ensures stores { Stores 1 (b ∷ []) self.old self.new }
+        ensures { Stores 1 (b ∷ []) self.old self.new }
     {
         if self.at < self.out.len() {
             self.out[self.at] = b;
@@ -46,8 +45,7 @@ impl Lines<'_> {
     #[tactic(auto, using(crate::proofs::Stores::parts))]
     pub(crate) fn put_bytes(&mut self, bytes: &[u8])
         requires { self.old.at + length bytes.now ≤ 2 ^ 32 }
-        ensures same { SameSlice self.old self.new }
-        ensures stores { Stores (length bytes.now) bytes.now self.old self.new }
+        ensures { Stores (length bytes.now) bytes.now self.old self.new }
     {
         for byte in bytes {
             self.put_byte(*byte);
@@ -58,8 +56,7 @@ impl Lines<'_> {
     #[tactic(auto, using(crate::proofs::Stores::parts, crate::proofs::Tenths::decimal_one, crate::proofs::Tenths::decimal_more, crate::proofs::Tenths::decimal_few, crate::proofs::Tenths::tenth_few))]
     pub(crate) fn put_decimal(&mut self, n: u64)
         requires { self.old.at + 20 ≤ 2 ^ 32 }
-        ensures same { SameSlice self.old self.new }
-        ensures stores { Stores 20 (decimal n) self.old self.new }
+        ensures { Stores 20 (decimal n) self.old self.new }
     {
         if n < 10 {
             self.put_byte(last_digit(n));
@@ -73,8 +70,7 @@ impl Lines<'_> {
     #[tactic(auto, using(crate::proofs::Stores::parts), unfolding(crate::specs::Lines::spaced))]
     pub(crate) fn put_spaced(&mut self, n: u64)
         requires { self.old.at + 21 ≤ 2 ^ 32 }
-        ensures same { SameSlice self.old self.new }
-        ensures stores { Stores 21 (spaced n) self.old self.new }
+        ensures { Stores 21 (spaced n) self.old self.new }
     {
         self.put_byte(b' ');
         self.put_decimal(n);

@@ -83,12 +83,18 @@ fn put_column(bytes: &mut [u8], at: usize, column: &[u32]) -> usize
 
 // The hash of the columns one after the other, over bytes that hold them.
 fn print_columns_hash(rt: &impl Print, bytes: &mut [u8], table: FunctionTable) -> io::Result<()> {
-    let a = put_column(bytes, 0, table.keys);
-    let b = put_column(bytes, a, table.indices);
-    let c = put_column(bytes, b, table.kinds);
-    let d = put_column(bytes, c, table.starts);
-    let e = put_column(bytes, d, table.lengths);
-    print_hash(rt, &bytes[..e])
+    let columns = [
+        table.keys,
+        table.indices,
+        table.kinds,
+        table.starts,
+        table.lengths,
+    ];
+    let mut at = 0;
+    for column in &columns {
+        at = put_column(bytes, at, column);
+    }
+    print_hash(rt, &bytes[..at])
 }
 
 pub(crate) fn print_line(

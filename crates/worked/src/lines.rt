@@ -12,9 +12,8 @@ pub(crate) const FILE: usize = 1024;
 
 pub(crate) const ROWS: usize = 8;
 
-// The words of an answer from one up to another.
-fn print_words(rt: &impl Print, answer: &[u64; 24], from: usize, to: usize) -> io::Result<()> {
-    for word in answer.iter().take(to).skip(from) {
+fn print_words(rt: &impl Print, words: &[u64]) -> io::Result<()> {
+    for word in words {
         print!(rt; " {word}")?;
     }
     Ok(())
@@ -50,7 +49,7 @@ fn print_written(rt: &impl Print, file: &[u8], image: &[u8; FILE]) -> io::Result
 
 fn print_refused(rt: &impl Print, answer: &[u64; 24]) -> io::Result<()> {
     print!(rt; "refused")?;
-    print_words(rt, answer, 0, 4)?;
+    print_words(rt, &answer[..4])?;
     println!(rt; "")
 }
 
@@ -96,7 +95,7 @@ pub(crate) fn print_load(
 ) -> io::Result<()> {
     print_answer(rt, number, answer, || {
         print!(rt; "accepted")?;
-        print_words(rt, answer, 4, 15)?;
+        print_words(rt, &answer[4..15])?;
         print_rows(rt, table)?;
         print_written(rt, file, image)?;
         println!(rt; "")

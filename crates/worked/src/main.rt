@@ -7,8 +7,6 @@
 // the rows, what is asked, 0 for a load, and the number that a question has; and the file. Question 5, for
 // a symbol by its name, has the name behind the file, and its length as the number; question 6 asks who wrote
 // the byte with that number. What is lent holds anything but zeros before.
-ghost use Rattle.std.specs.Prelude.{◌≤◌, IfOk};
-
 use ebpf::little_endian::read;
 use exports::{
     sbpf_dynamic_symbol_name, sbpf_find_symbol, sbpf_load, sbpf_load_who_wrote, sbpf_section_name,
@@ -31,6 +29,8 @@ const NAME: usize = 64;
 const MOST: usize = 1000;
 
 // The numbers of a record.
+// Kept: how many built-ins there are stands beside the built-in, as the record has them. Only a load reads them, by
+// `builtin_of`; a question is answered whatever they are.
 #[derive(Clone, Copy, PartialEq, Eq, Debug)]
 struct Record {
     length: usize,
@@ -55,7 +55,8 @@ fn record_of(bytes: &[u8; NUMBERS]) -> Record {
 }
 
 // What is lent for a load.
-// Kept: arrays in a struct, with their lengths by constants: memory is fixed, and there is no heap.
+// Kept: arrays in a struct, with their lengths by constants: memory is fixed, and there is no heap. Two other programs
+// lend five columns; a type for all three would hold the arrays and no more, since here C's functions take each slice.
 #[derive(Drop)]
 struct Lent {
     image: [u8; FILE],
@@ -68,14 +69,18 @@ struct Lent {
     answer: [u64; 24],
 }
 
-// What a record's load is lent, where it asks for no more than there is.
-fn lent_for(record: Record) -> Result<Lent, RecordError>
-    ensures { IfOk result (λ lent. «record».builtins ≤ 1 × «record».rows ≤ 8) }
-{
-    if 1 < record.builtins || ROWS < record.rows {
-        return Err(RecordError::Bad);
+// The built-in of a record, if it has one.
+fn builtin_of(record: Record) -> Result<Option<u32>, RecordError> {
+    match record.builtins {
+        0 => Ok(None),
+        1 => Ok(Some(record.builtin)),
+        _ => Err(RecordError::Bad),
     }
-    Ok(Lent {
+}
+
+// What each load is lent, before its rows are counted.
+fn lend() -> Lent {
+    Lent {
         image: [0xa1; FILE],
         ro: [0xa2; FILE],
         keys: [0xa3a3_a3a3; ROWS],
@@ -84,16 +89,17 @@ fn lent_for(record: Record) -> Result<Lent, RecordError>
         starts: [0xa6a6_a6a6; ROWS],
         lengths: [0xa7a7_a7a7; ROWS],
         answer: [0xa8a8_a8a8; 24],
-    })
+    }
 }
 
 // Loads, and prints what was answered. The shortest column says how many rows there are.
 fn load_and_print(rt: &impl Print, file: &[u8], record: Record) -> Result<(), RecordError> {
-    let mut lent = lent_for(record)?;
-    let builtin = [record.builtin];
+    let builtin = builtin_of(record)?;
+    let mut lent = lend();
+    let lengths = lent.lengths.get_mut(..record.rows).ok_or(RecordError::Bad)?;
     let number = sbpf_load(
         file,
-        &builtin[..record.builtins],
+        builtin.as_slice(),
         record.settings,
         &mut lent.image,
         &mut lent.ro,
@@ -101,7 +107,7 @@ fn load_and_print(rt: &impl Print, file: &[u8], record: Record) -> Result<(), Re
         &mut lent.indices,
         &mut lent.kinds,
         &mut lent.starts,
-        &mut lent.lengths[..record.rows],
+        lengths,
         &mut lent.answer,
     );
     let table = FunctionTable {
@@ -130,11 +136,12 @@ fn print_wrote(rt: &impl Print, file: &[u8], loaded: &[u64; 24], offset: u64) ->
 
 // Loads, with the question who wrote a byte.
 fn load_and_print_wrote(rt: &impl Print, file: &[u8], record: Record) -> Result<(), RecordError> {
-    let mut lent = lent_for(record)?;
-    let builtin = [record.builtin];
+    let builtin = builtin_of(record)?;
+    let mut lent = lend();
+    let lengths = lent.lengths.get_mut(..record.rows).ok_or(RecordError::Bad)?;
     sbpf_load_who_wrote(
         file,
-        &builtin[..record.builtins],
+        builtin.as_slice(),
         record.settings,
         &mut lent.image,
         &mut lent.ro,
@@ -142,7 +149,7 @@ fn load_and_print_wrote(rt: &impl Print, file: &[u8], record: Record) -> Result<
         &mut lent.indices,
         &mut lent.kinds,
         &mut lent.starts,
-        &mut lent.lengths[..record.rows],
+        lengths,
         record.number as u64,
         &mut lent.answer,
     );
@@ -173,12 +180,10 @@ fn find_and_print(
     name: &mut [u8],
     length: usize,
 ) -> Result<(), RecordError> {
-    if name.len() < length {
-        return Err(RecordError::Bad);
-    }
-    read_full(input, &mut name[..length])?;
+    let name = name.get_mut(..length).ok_or(RecordError::Bad)?;
+    read_full(input, name)?;
     let mut answer = [0xa8a8_a8a8u64; 24];
-    let number = sbpf_find_symbol(file, &name[..length], &mut answer);
+    let number = sbpf_find_symbol(file, name, &mut answer);
     print_answer(
         rt,
         number,
@@ -196,11 +201,8 @@ fn run(
     file: &mut [u8],
     name: &mut [u8],
 ) -> Result<(), RecordError> {
-    if file.len() < record.length {
-        return Err(RecordError::Bad);
-    }
-    read_full(input, &mut file[..record.length])?;
-    let file = &file[..record.length];
+    let file = file.get_mut(..record.length).ok_or(RecordError::Bad)?;
+    read_full(input, file)?;
     let number = record.number;
     match record.question {
         0 => load_and_print(rt, file, record),

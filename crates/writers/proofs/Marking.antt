@@ -6,7 +6,7 @@ use mathlib.Core.Path.{◌≡◌, refl, ◌∙◌}
 use mathlib.Core.Bool.{Bool, true, false, ◌&&◌, ◌||◌}
 use mathlib.Core.Logic.{◌⊎◌, inl, inr}
 use mathlib.Core.List.{List, [], ◌∷◌, ◌++◌}
-use lib.ListN.{length, get_or, set, take, drop}
+use lib.ListN.{length, get_or, set, length-set, take, drop}
 use lib.Seq.{get_or-set_same, get_or-set_other}
 use lib.Dec.{ltb}
 use borrow.Author.Tests.{lt-ltb}
@@ -16,7 +16,8 @@ use Rattle.loader.specs.Deeds.{is_in}
 use Rattle.loader.proofs.Kept.{not_in, in_places}
 use Rattle.writers.specs.declared.Writer.{Writer}
 use Rattle.std.proofs.lemmas.List.{get_or_append_left, get_or-append_right, get_or-drop, length-append, length-drop, length-take-le}
-use Rattle.writers.specs.Whole.{code_of, OnlyZeros, Holds}
+use Rattle.writers.specs.Whole.{code_of, OnlyZeros, Marked, Holds}
+use Rattle.writers.proofs.Places.{parts, past_all}
 
 -- ---- one marking behind another
 
@@ -32,7 +33,7 @@ either false false true x y = refl
 either false false false x y = refl
 
 -- a store marks one place
-pub one_at : (code : ℕ) (s : List ℕ) (at b : ℕ) → at < length s → get_or (set s at code) b 0 ≡ (code if is_in at 1 b && ltb b (length s) else get_or s b 0)
+one_at : (code : ℕ) (s : List ℕ) (at b : ℕ) → at < length s → get_or (set s at code) b 0 ≡ (code if is_in at 1 b && ltb b (length s) else get_or s b 0)
 one_at code s at b l = go (ℕ_discrete b at)
   where
     apart : (b ≡ at → ⊥) → (b < at) ⊎ (at + 1 ≤ b)
@@ -44,6 +45,21 @@ one_at code s at b l = go (ℕ_discrete b at)
         let k : get_or (set s at code) b 0 ≡ code = rw e (get_or-set_same s at code 0 l) in
         k ∙ picks (is_in at 1 b && ltb b (length s)) code (get_or s b 0) h
     go (no e) = no_go (is_in at 1 b && ltb b (length s)) code (get_or s b 0) (get_or (set s at code) b 0) (rw (not_in at 1 b (apart e)) refl) (get_or-set_other s at b code 0 e)
+
+-- of the places from `start` on the one behind the first k
+module _ (start k code : ℕ) (s u : List ℕ) (m : Marked (is_in start k) code s u) where
+  pub marked_more : start + k < length u → Marked (is_in start (k + 1)) code s (set u (start + k) code)
+  marked_more l = record {
+    length_as = length-set u (start + k) code ∙ m.length_as;
+    at = λ b. one_at code u (start + k) b l ∙ rw (m.length_as, m.at b, parts start k 1 b) (either (is_in start k b) (is_in (start + k) 1 b) (ltb b (length s)) code (get_or s b 0));
+  }
+
+  pub marked_past : length u ≤ start + k → Marked (is_in start (k + 1)) code s u
+  marked_past l = record {
+    length_as = m.length_as;
+    at = λ b. no_go (is_in (start + k) 1 b && ltb b (length s)) code (code if is_in start k b && ltb b (length s) else get_or s b 0) (get_or u b 0) (past_all (start + k) 1 (length s) b (rw (← m.length_as) l)) (m.at b)
+        ∙ rw (parts start k 1 b) (either (is_in start k b) (is_in (start + k) 1 b) (ltb b (length s)) code (get_or s b 0));
+  }
 
 -- ---- the numbers of writers
 

@@ -28,11 +28,9 @@ pub(crate) fn call_writer(text: &Text<'_>, b: u64) -> Writer
     requires { b < length text.now.elf.file.now }
     ensures { result ≡ call_writer text.now.elf.file.now text.now.loaded b }
 {
-    let start = text.loaded.place.start as u64;
-    if b < start {
+    let Some(d) = b.checked_sub(text.loaded.place.start as u64) else {
         return Writer::File;
-    }
-    let d = b - start;
+    };
     if d % 8 < IMMEDIATE {
         return Writer::File;
     }

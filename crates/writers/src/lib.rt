@@ -1,11 +1,11 @@
 #![tactic(auto)]
 // Who wrote a byte of an accepted load's image: the file, the call in a slot, or a relocation, whichever
 // wrote it last. Asked with a load, or about a load already made, by its answer and the file.
-ghost use Rattle.std.specs.Prelude.{◌≡◌};
+ghost use Rattle.std.specs.Prelude.{◌≡◌, ◌<◌, ◌^◌};
 ghost use Rattle.program.specs.Table.{SameColumns, SameLens, columns_of};
 ghost use Rattle.loader.specs.Loads.{used_of};
 ghost use Rattle.writers.specs.Asked.{asked_by, asked};
-ghost use Rattle.writers.specs.Whole.{OnlyZeros, FillsBy, Fills};
+ghost use Rattle.writers.specs.Whole.{code_of, OnlyZeros, FillsBy, Fills};
 ghost use Rattle.writers.specs.Loads.{LoadsAndTells};
 
 use elf_parser::{Elf64, ElfParserError};
@@ -28,6 +28,20 @@ pub enum Writer {
     File,
     Call(u32),
     Relocation(u32),
+}
+
+impl Writer {
+    // Its number, among those of all bytes.
+    pub(crate) fn code(self) -> u32
+        requires { code_of self < 2 ^ 32 }
+        ensures { result ≡ code_of self }
+    {
+        match self {
+            Writer::File => 0,
+            Writer::Call(i) => i + 1,
+            Writer::Relocation(k) => 0x8000_0000 + k,
+        }
+    }
 }
 
 // WHO WROTE A BYTE of the image that a load of this file made, by what that load's answer says of the

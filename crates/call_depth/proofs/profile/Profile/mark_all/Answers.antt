@@ -2,8 +2,8 @@ use Rattle.std.proofs.Common.{rules}
 use Rattle.call_graph.proofs.Marking.{grown_then, begun_kept, marking_less}
 use Rattle.call_depth.proofs.profile.Profile.mark_all.Goals as goal
 
-pub loop-b-smaller : goal.loop-b-smaller
-loop-b-smaller c = search (rules, marking_less)
+pub loop-smaller : goal.loop-smaller
+loop-smaller c = search (rules, marking_less)
 
-pub loop-b-preserved : goal.loop-b-preserved
-loop-b-preserved c = (search (rules, begun_kept), search (rules, grown_then))
+pub loop-preserved : goal.loop-preserved
+loop-preserved c = (search (rules, begun_kept), search (rules, grown_then))
