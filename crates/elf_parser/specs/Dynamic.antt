@@ -1,6 +1,6 @@
 -- The dynamic table: where it stands, its 35 values by tag, and what they lead to.
 use Prim.Native.Nat.{ℕ, zero, suc, ◌+◌, ◌-◌, ◌*◌, ◌≤◌, ◌<◌}
-use Rattle.std.proofs.Common.{mul-zero, mul-suc}
+use Rattle.std.proofs.Common.{mul-suc}
 use native.Mathlib.Omega.{arith}
 use Rattle.std.specs.Prelude.{Bool, not, List, length, get_or, set, replicate, ltb, eqb, Option, Some, None, option_map, Result, Ok, Err}
 use Rattle.std.proofs.Math.Bool.{true, false}
@@ -298,9 +298,6 @@ module _ {A : Type 0} (passes : A → Bool) (read : ℕ → A) (width count from
   unfolding first_with
   later_is i h = rw (less_one count i h, one_further from width i)
 
-  pub later_all : first_with passes read width count from ≡ later 0
-  later_all = let a : count - 0 ≡ count = omega arith in let b : from + width * 0 ≡ from = rw mul-zero (omega arith) in rw (a, b)
-
   pub later_here : (i : ℕ) → i < count → true ≡ passes (read (from + width * i)) → later i ≡ Some (read (from + width * i))
   unfolding ◌if◌else◌
   later_here i h e = rw (later_is i h, ← e)
@@ -322,9 +319,6 @@ module _ (s : List ℕ) (count from : ℕ) where
       → values_at i values ≡ (values if eqb (dynamic s (from + 16 * i)).d_tag DT_NULL else values_at (i + 1) (with_tag values (dynamic s (from + 16 * i)).d_tag (dynamic s (from + 16 * i)).d_val))
   unfolding values_from
   values_is i values h = rw (less_one count i h, one_further from 16 i)
-
-  pub values_all : dynamic_values s count from ≡ values_at 0 (replicate 35 0)
-  values_all = let a : count - 0 ≡ count = omega arith in let b : from + 16 * 0 ≡ from = omega arith in rw (a, b)
 
   pub values_at_next : (i : ℕ) (values : List ℕ) (d : Elf64Dyn) → i < count → d ≡ dynamic s (from + 16 * i) → (d.d_tag ≡ DT_NULL → ⊥) → values_at i values ≡ values_at (i + 1) (with_tag values d.d_tag d.d_val)
   unfolding ◌if◌else◌

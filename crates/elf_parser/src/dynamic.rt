@@ -8,6 +8,7 @@ use crate::consts::{
 };
 use crate::elf64::Elf64;
 use crate::error::ElfParserError;
+use crate::parts::past;
 use crate::program_headers::header_for_vaddr;
 use crate::records::{Entries, slice_from_bytes, symbol_table_in};
 use crate::table::Table;
@@ -31,6 +32,8 @@ pub struct Linked {
 }
 
 // Sets the value of a tag; a tag of DT_NUM or more is skipped.
+// Kept: `get_mut` was tried, and the proof didn't close: what the lent values are behind a write through what it
+// answers is not known at the return.
 #[tactic(auto, using(ebpf::specs::Choice::choices), unfolding(crate::specs::Dynamic::with_tag))]
 fn set_tag(values: &mut [u64; DT_NUM], d: Elf64Dyn)
     ensures { values.new ≡ with_tag values.old d.d_tag d.d_val }
@@ -43,10 +46,10 @@ fn set_tag(values: &mut [u64; DT_NUM], d: Elf64Dyn)
 // The values of a table's entries, up to the first DT_NULL.
 #[tactic(auto, using(crate::specs::Dynamic::values_at_stop, crate::specs::Dynamic::values_at_next, crate::specs::Dynamic::values_at_end))]
 fn dynamic_values(table: &Table<'_, Elf64Dyn>) -> [u64; DT_NUM]
-    ensures { result ≡ dynamic_values table.now.file.now table.now.count table.now.offset }
+    ensures { result ≡ dynamic_values table.now.file.now table.now.entries.count table.now.entries.offset }
 {
     let mut values = [0; DT_NUM];
-    for i in 0..table.count {
+    for i in 0..table.entries.count {
         let d = table.nth(i);
         if d.d_tag == DT_NULL {
             return values;
@@ -82,13 +85,13 @@ impl<'a> HeaderTables<'a> {
     }
 
     pub(crate) fn program_headers(&self) -> Table<'a, Elf64Phdr>
-        ensures { (result.file.now ≡ self.now.file.now) × (result.offset ≡ self.now.tables.program_headers.offset) × (result.count ≡ self.now.tables.program_headers.count) }
+        ensures { (result.file.now ≡ self.now.file.now) × (result.entries ≡ self.now.tables.program_headers) }
     {
         Table::new(self.file, self.tables.program_headers)
     }
 
     pub(crate) fn section_headers(&self) -> Table<'a, Elf64Shdr>
-        ensures { (result.file.now ≡ self.now.file.now) × (result.offset ≡ self.now.tables.section_headers.offset) × (result.count ≡ self.now.tables.section_headers.count) }
+        ensures { (result.file.now ≡ self.now.file.now) × (result.entries ≡ self.now.tables.section_headers) }
     {
         Table::new(self.file, self.tables.section_headers)
     }
@@ -229,10 +232,9 @@ impl<'a> HeaderTables<'a> {
 fn ends_past<T: Record>(len: u64, table: Entries) -> bool
     ensures { result ≡ ltb len (table.offset + T.SIZE * table.count) }
 {
-    if len < table.offset {
-        return true;
-    }
-    (len - table.offset) / (T::SIZE as u64) < table.count
+    (T::SIZE as u64)
+        .checked_mul(table.count)
+        .is_none_or(|size| past(len, table.offset, size))
 }
 
 impl Elf64<'_> {

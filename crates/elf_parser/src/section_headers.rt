@@ -56,7 +56,7 @@ pub(crate) fn check_section_headers(
     table: &Table<'_, Elf64Shdr>,
     t: Ranges,
 ) -> Result<(), ElfParserError>
-    ensures { result ≡ sections_check table.now.file.now t table.now.count table.now.offset }
+    ensures { result ≡ sections_check table.now.file.now t table.now.entries.count table.now.entries.offset }
 {
     let len = table.file.len() as u64;
     table.over(0, |_, h, low| section_step(len, h, low, t))?;

@@ -89,7 +89,7 @@ pub(crate) fn find_named(
     names: Elf64Shdr,
     table: &Table<'_, Elf64Shdr>,
 ) -> Result<Named, ElfParserError>
-    ensures { result ≡ names_of table.now.file.now names table.now.count table.now.offset }
+    ensures { result ≡ names_of table.now.file.now names table.now.entries.count table.now.entries.offset }
 {
     let file = table.file;
     table.over(
