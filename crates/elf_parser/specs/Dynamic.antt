@@ -134,13 +134,17 @@ symbols_of s t vaddr =
     Ok no_entries if eqb vaddr 0 else
     symbols_by (length s) (section_with_addr s t vaddr)
 
+-- the address that a tag's value gives: none where it is 0
+abbrev pub address_of : ℕ → Option ℕ
+address_of value = None if eqb value 0 else Some value
+
 -- relocations, those that bring an addend, then symbols; the address of the hash table is kept as it is
 abbrev pub linked_by : List ℕ → Tables → List ℕ → Result Linked ElfParserError
 linked_by s t values =
     and_then (relocations_of s t 16 (get_or values DT_REL 0) (get_or values DT_RELSZ 0) (get_or values DT_RELENT 0)) (λ e.
     and_then (relocations_of s t 24 (get_or values DT_RELA 0) (get_or values DT_RELASZ 0) (get_or values DT_RELAENT 0)) (λ a.
     and_then (symbols_of s t (get_or values DT_SYMTAB 0)) (λ x.
-    Ok (record { relocations = e; relas = a; symbols = x; hash_table = get_or values DT_HASH 0 }))))
+    Ok (record { relocations = e; relas = a; symbols = x; hash_table = address_of (get_or values DT_HASH 0) }))))
 
 abbrev pub dynamic_of : List ℕ → Tables → Result Linked ElfParserError
 dynamic_of s t = and_then (dynamic_table s t) (λ e. linked_by s t (dynamic_values s e.count e.offset))
@@ -264,7 +268,7 @@ pub record LinkedInside (len : ℕ) (d : Linked) : Type 0 where
   pub relas : d.relas.offset + 24 * d.relas.count ≤ len
   pub symbols : d.symbols.offset + 24 * d.symbols.count ≤ len
 
-linking_inside : (len : ℕ) (a b c : Result Entries ElfParserError) (hash : ℕ) (d : Linked) → InFile len 16 a → InFile len 24 b → InFile len 24 c
+linking_inside : (len : ℕ) (a b c : Result Entries ElfParserError) (hash : Option ℕ) (d : Linked) → InFile len 16 a → InFile len 24 b → InFile len 24 c
     → and_then a (λ e. and_then b (λ r. and_then c (λ x. Ok (record { relocations = e; relas = r; symbols = x; hash_table = hash })))) ≡ Ok d → LinkedInside len d
 linking_inside len (Err r) b c hash d h k l e = absurd (apart r d e)
 linking_inside len (Ok x) (Err r) c hash d h k l e = absurd (apart r d e)
@@ -284,7 +288,7 @@ linked_inside s t d e =
         (relocations_of s t 16 (get_or v DT_REL 0) (get_or v DT_RELSZ 0) (get_or v DT_RELENT 0))
         (relocations_of s t 24 (get_or v DT_RELA 0) (get_or v DT_RELASZ 0) (get_or v DT_RELAENT 0))
         (symbols_of s t (get_or v DT_SYMTAB 0))
-        (get_or v DT_HASH 0) d
+        (address_of (get_or v DT_HASH 0)) d
         (relocations_in_file s t 16 _ _ _) (relocations_in_file s t 24 _ _ _) (symbols_in_file s t _) e
 
 -- ---- the loops of the code

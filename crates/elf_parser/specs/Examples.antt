@@ -137,7 +137,7 @@ three_layout = record {
   dynamic_relocations = no_entries;
   dynamic_relas = no_entries;
   dynamic_symbols = no_entries;
-  hash_table = 0;
+  hash_table = None;
 }
 
 -- contents by index: a header of type 0 has none, whatever its numbers are and at whichever index; past the table it is 45
@@ -217,7 +217,7 @@ relas_between :
     ∷ Err InvalidDynamicSectionTable
     ∷ Err OutOfBounds
     ∷ Err InvalidDynamicSectionTable
-    ∷ Ok (record { relocations = record { offset = 64; count = 3 }; relas = record { offset = 64; count = 2 }; symbols = record { offset = 64; count = 2 }; hash_table = 0x3000 })
+    ∷ Ok (record { relocations = record { offset = 64; count = 3 }; relas = record { offset = 64; count = 2 }; symbols = record { offset = 64; count = 2 }; hash_table = Some 0x3000 })
     ∷ []
 unfolding relocations_of relocations_by relocations_at symbols_of symbols_by symbol_table_in first_with header_for_vaddr sliced section_header le bytes_of ◌if◌else◌
 relas_between = refl
@@ -258,7 +258,7 @@ offset_by segments sections vaddr =
       dynamic_relocations = no_entries;
       dynamic_relas = no_entries;
       dynamic_symbols = no_entries;
-      hash_table = 0;
+      hash_table = None;
     })
     vaddr
 

@@ -1,6 +1,6 @@
 // The dynamic table: where it stands, its 35 values, and what they lead to.
 ghost use Rattle.std.specs.Prelude.{◌≡◌, ◌+◌, ◌*◌, ltb, length};
-ghost use Rattle.elf_parser.specs.Dynamic.{Inside, section_with_addr, from_segment, from_section, dynamic_table, with_tag, dynamic_values, relocation_offset, file_offset, relocations_at, relocations_of, symbols_of, linked_by, dynamic_of};
+ghost use Rattle.elf_parser.specs.Dynamic.{Inside, section_with_addr, from_segment, from_section, dynamic_table, with_tag, dynamic_values, relocation_offset, file_offset, relocations_at, relocations_of, symbols_of, address_of, linked_by, dynamic_of};
 
 use crate::consts::{
     DT_HASH, DT_NULL, DT_NUM, DT_REL, DT_RELA, DT_RELAENT, DT_RELASZ, DT_RELENT, DT_RELSZ,
@@ -28,7 +28,7 @@ pub struct Linked {
     pub relocations: Entries,
     pub relas: Entries,
     pub symbols: Entries,
-    pub hash_table: u64,
+    pub hash_table: Option<u64>,
 }
 
 // Sets the value of a tag; a tag of DT_NUM or more is skipped.
@@ -57,6 +57,14 @@ fn dynamic_values(table: &Table<'_, Elf64Dyn>) -> [u64; DT_NUM]
         set_tag(&mut values, d);
     }
     values
+}
+
+// The address that a tag's value gives: none where it is 0, as that of a tag that is not there.
+#[tactic(auto, using(ebpf::specs::Choice::choices))]
+fn address_of(value: u64) -> Option<u64>
+    ensures { result ≡ address_of value }
+{
+    (value != 0).then_some(value)
 }
 
 // The relocations of one kind that fill `size` bytes from `offset` on.
@@ -214,7 +222,7 @@ impl<'a> HeaderTables<'a> {
             relocations: relocations_found,
             relas,
             symbols,
-            hash_table: values[DT_HASH],
+            hash_table: address_of(values[DT_HASH]),
         })
     }
 

@@ -26,8 +26,7 @@ pub struct Layout {
     pub dynamic_relocations: Entries,
     pub dynamic_relas: Entries,
     pub dynamic_symbols: Entries,
-    // Kept: 0 and no Option, as the dynamic table's values have it: 0 for a tag that is not there.
-    pub hash_table: u64,
+    pub hash_table: Option<u64>,
 }
 
 // The two header tables, as the file header has them.
