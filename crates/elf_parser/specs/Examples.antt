@@ -49,7 +49,7 @@ name_at_end = refl
 
 -- an empty section at the end of the file header does not overlap it, one inside the section headers does
 tables : Ranges
-tables = record { phoff = 64; phend = 64; shoff = 512; shend = 704 }
+tables = record { program_headers = record { start = 64; end = 64 }; section_headers = record { start = 512; end = 704 } }
 
 empty_at_64 : section_check 1000 0 tables 64 0 ≡ Ok tt
 unfolding section_check ◌if◌else◌ tables

@@ -67,7 +67,7 @@ fn check_file(file: &[u8]) -> Result<(), ElfParserError>
     let tables = HeaderTables::new(file, header_tables(h));
     check_first(record_at(file, h.e_shoff as usize))?;
     check_program_headers(&tables.program_headers())?;
-    check_section_headers(&tables.section_headers(), ranges)
+    check_section_headers(&tables.section_headers(), &ranges)
 }
 
 // With the named sections found, the dynamic part.
