@@ -10,7 +10,7 @@ use crate::elf64::Elf64;
 use crate::error::ElfParserError;
 use crate::parts::past;
 use crate::program_headers::header_for_vaddr;
-use crate::records::{Entries, slice_from_bytes, symbol_table_in};
+use crate::records::{Entries, slice_from_bytes};
 use crate::table::Table;
 use crate::types::{Elf64Dyn, Elf64Phdr, Elf64Rel, Elf64Rela, Elf64Shdr, Record};
 
@@ -200,7 +200,7 @@ impl<'a> HeaderTables<'a> {
         let h = self
             .section_with_addr(vaddr)
             .ok_or(ElfParserError::InvalidDynamicSectionTable)?;
-        symbol_table_in(self.file.len() as u64, h)
+        h.symbol_table_in(self.file.len() as u64)
     }
 
     // What the values lead to: each table in turn, up to the first that is refused.
