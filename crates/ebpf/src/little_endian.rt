@@ -43,6 +43,8 @@ pub trait LittleEndian: Copy {
         ensures { result ≡ number_at s.now at };
 }
 
+// Kept: four of one shape. Each is std's `from_le_bytes` of its own type, which stands in no trait of std, and impls
+// written by a macro of the repository are refused by the gate.
 impl LittleEndian for u8 {
     ghost number_at = { le 1 };
 

@@ -68,8 +68,9 @@ fn narrow(ranks: &[u32], key: u32) -> usize
 
 // The binary search, which answers as std's: the place of `key`, or how many of the numbers are below it where
 // they ascend; on any others it is at most their count.
-// Kept: std's binary search says nothing of numbers that do not ascend, so that by its contract no proof can
-// close: a registration and a lookup promise an equation there too.
+// Kept: of numbers that do not ascend std's binary search says that the place is inside, and that an `Ok` holds the
+// key, but not which place it is, so that by its contract no proof can close: a registration and a lookup promise an
+// equation there too.
 #[tactic(auto, using(crate::proofs::Searches::search_none, crate::proofs::Searches::search_next, crate::proofs::Searches::search_here, crate::proofs::Searches::search_before))]
 pub(crate) fn binary_search(ranks: &[u32], key: u32) -> Result<usize, usize>
     ensures is { result ≡ search_result key ranks.now }
