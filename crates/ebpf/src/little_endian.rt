@@ -5,7 +5,8 @@ ghost use Rattle.ebpf.specs.LittleEndian.{le, bytes_at};
 
 // The first bytes of a slice that may have fewer, with zeros past its end.
 // Kept: `array::from_fn` was tried, and the proof didn't close: of what its closure holds at a later call nothing is
-// known without an induction of its own.
+// known without an induction of its own. `copy_from_slice` of as many bytes as there are was tried, and misses the time
+// of a hash, whose last bytes are read here: of a name of ten bytes it takes 17.5 ns in place of 6.4.
 fn padded<const N: usize>(s: &[u8]) -> [u8; N]
     ensures { result ≡ bytes_at N s.now 0 }
 {
@@ -22,8 +23,8 @@ fn padded<const N: usize>(s: &[u8]) -> [u8; N]
 fn bytes_at<const N: usize>(s: &[u8], at: usize) -> [u8; N]
     ensures { result ≡ bytes_at N s.now at }
 {
-    // Kept: `s.get(at..)` in place of the test was tried, and misses the time of a parse, which then takes 1 to 3
-    // percent longer.
+    // Kept: `s.get(at..)` in place of the test was tried, and misses the time of a parse: that of `two_slots.so` takes
+    // 66.0 ns in place of 64.2, of `addends.so` 238.0 in place of 234.3.
     if s.len() <= at {
         return [0; N];
     }
@@ -43,6 +44,8 @@ pub trait LittleEndian: Copy {
         ensures { result ≡ number_at s.now at };
 }
 
+// Kept: four of one shape. Each is std's `from_le_bytes` of its own type, which stands in no trait of std, and impls
+// written by a macro of the repository are refused by the gate.
 impl LittleEndian for u8 {
     ghost number_at = { le 1 };
 

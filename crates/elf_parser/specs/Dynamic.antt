@@ -1,6 +1,6 @@
 -- The dynamic table: where it stands, its 35 values by tag, and what they lead to.
 use Prim.Native.Nat.{ℕ, zero, suc, ◌+◌, ◌-◌, ◌*◌, ◌≤◌, ◌<◌}
-use Rattle.std.proofs.Common.{mul-zero, mul-suc}
+use Rattle.std.proofs.Common.{mul-suc}
 use native.Mathlib.Omega.{arith}
 use Rattle.std.specs.Prelude.{Bool, not, List, length, get_or, set, replicate, ltb, eqb, Option, Some, None, option_map, Result, Ok, Err}
 use Rattle.std.proofs.Math.Bool.{true, false}
@@ -134,13 +134,17 @@ symbols_of s t vaddr =
     Ok no_entries if eqb vaddr 0 else
     symbols_by (length s) (section_with_addr s t vaddr)
 
+-- the address that a tag's value gives: none where it is 0
+abbrev pub address_of : ℕ → Option ℕ
+address_of value = None if eqb value 0 else Some value
+
 -- relocations, those that bring an addend, then symbols; the address of the hash table is kept as it is
 abbrev pub linked_by : List ℕ → Tables → List ℕ → Result Linked ElfParserError
 linked_by s t values =
     and_then (relocations_of s t 16 (get_or values DT_REL 0) (get_or values DT_RELSZ 0) (get_or values DT_RELENT 0)) (λ e.
     and_then (relocations_of s t 24 (get_or values DT_RELA 0) (get_or values DT_RELASZ 0) (get_or values DT_RELAENT 0)) (λ a.
     and_then (symbols_of s t (get_or values DT_SYMTAB 0)) (λ x.
-    Ok (record { relocations = e; relas = a; symbols = x; hash_table = get_or values DT_HASH 0 }))))
+    Ok (record { relocations = e; relas = a; symbols = x; hash_table = address_of (get_or values DT_HASH 0) }))))
 
 abbrev pub dynamic_of : List ℕ → Tables → Result Linked ElfParserError
 dynamic_of s t = and_then (dynamic_table s t) (λ e. linked_by s t (dynamic_values s e.count e.offset))
@@ -264,7 +268,7 @@ pub record LinkedInside (len : ℕ) (d : Linked) : Type 0 where
   pub relas : d.relas.offset + 24 * d.relas.count ≤ len
   pub symbols : d.symbols.offset + 24 * d.symbols.count ≤ len
 
-linking_inside : (len : ℕ) (a b c : Result Entries ElfParserError) (hash : ℕ) (d : Linked) → InFile len 16 a → InFile len 24 b → InFile len 24 c
+linking_inside : (len : ℕ) (a b c : Result Entries ElfParserError) (hash : Option ℕ) (d : Linked) → InFile len 16 a → InFile len 24 b → InFile len 24 c
     → and_then a (λ e. and_then b (λ r. and_then c (λ x. Ok (record { relocations = e; relas = r; symbols = x; hash_table = hash })))) ≡ Ok d → LinkedInside len d
 linking_inside len (Err r) b c hash d h k l e = absurd (apart r d e)
 linking_inside len (Ok x) (Err r) c hash d h k l e = absurd (apart r d e)
@@ -284,7 +288,7 @@ linked_inside s t d e =
         (relocations_of s t 16 (get_or v DT_REL 0) (get_or v DT_RELSZ 0) (get_or v DT_RELENT 0))
         (relocations_of s t 24 (get_or v DT_RELA 0) (get_or v DT_RELASZ 0) (get_or v DT_RELAENT 0))
         (symbols_of s t (get_or v DT_SYMTAB 0))
-        (get_or v DT_HASH 0) d
+        (address_of (get_or v DT_HASH 0)) d
         (relocations_in_file s t 16 _ _ _) (relocations_in_file s t 24 _ _ _) (symbols_in_file s t _) e
 
 -- ---- the loops of the code
@@ -297,9 +301,6 @@ module _ {A : Type 0} (passes : A → Bool) (read : ℕ → A) (width count from
   later_is : (i : ℕ) → i < count → later i ≡ (Some (read (from + width * i)) if passes (read (from + width * i)) else later (i + 1))
   unfolding first_with
   later_is i h = rw (less_one count i h, one_further from width i)
-
-  pub later_all : first_with passes read width count from ≡ later 0
-  later_all = let a : count - 0 ≡ count = omega arith in let b : from + width * 0 ≡ from = rw mul-zero (omega arith) in rw (a, b)
 
   pub later_here : (i : ℕ) → i < count → true ≡ passes (read (from + width * i)) → later i ≡ Some (read (from + width * i))
   unfolding ◌if◌else◌
@@ -322,9 +323,6 @@ module _ (s : List ℕ) (count from : ℕ) where
       → values_at i values ≡ (values if eqb (dynamic s (from + 16 * i)).d_tag DT_NULL else values_at (i + 1) (with_tag values (dynamic s (from + 16 * i)).d_tag (dynamic s (from + 16 * i)).d_val))
   unfolding values_from
   values_is i values h = rw (less_one count i h, one_further from 16 i)
-
-  pub values_all : dynamic_values s count from ≡ values_at 0 (replicate 35 0)
-  values_all = let a : count - 0 ≡ count = omega arith in let b : from + 16 * 0 ≡ from = omega arith in rw (a, b)
 
   pub values_at_next : (i : ℕ) (values : List ℕ) (d : Elf64Dyn) → i < count → d ≡ dynamic s (from + 16 * i) → (d.d_tag ≡ DT_NULL → ⊥) → values_at i values ≡ values_at (i + 1) (with_tag values d.d_tag d.d_val)
   unfolding ◌if◌else◌

@@ -49,7 +49,7 @@ name_at_end = refl
 
 -- an empty section at the end of the file header does not overlap it, one inside the section headers does
 tables : Ranges
-tables = record { phoff = 64; phend = 64; shoff = 512; shend = 704 }
+tables = record { program_headers = record { start = 64; end = 64 }; section_headers = record { start = 512; end = 704 } }
 
 empty_at_64 : section_check 1000 0 tables 64 0 ≡ Ok tt
 unfolding section_check ◌if◌else◌ tables
@@ -137,7 +137,7 @@ three_layout = record {
   dynamic_relocations = no_entries;
   dynamic_relas = no_entries;
   dynamic_symbols = no_entries;
-  hash_table = 0;
+  hash_table = None;
 }
 
 -- contents by index: a header of type 0 has none, whatever its numbers are and at whichever index; past the table it is 45
@@ -217,7 +217,7 @@ relas_between :
     ∷ Err InvalidDynamicSectionTable
     ∷ Err OutOfBounds
     ∷ Err InvalidDynamicSectionTable
-    ∷ Ok (record { relocations = record { offset = 64; count = 3 }; relas = record { offset = 64; count = 2 }; symbols = record { offset = 64; count = 2 }; hash_table = 0x3000 })
+    ∷ Ok (record { relocations = record { offset = 64; count = 3 }; relas = record { offset = 64; count = 2 }; symbols = record { offset = 64; count = 2 }; hash_table = Some 0x3000 })
     ∷ []
 unfolding relocations_of relocations_by relocations_at symbols_of symbols_by symbol_table_in first_with header_for_vaddr sliced section_header le bytes_of ◌if◌else◌
 relas_between = refl
@@ -258,7 +258,7 @@ offset_by segments sections vaddr =
       dynamic_relocations = no_entries;
       dynamic_relas = no_entries;
       dynamic_symbols = no_entries;
-      hash_table = 0;
+      hash_table = None;
     })
     vaddr
 

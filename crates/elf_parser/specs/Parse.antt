@@ -21,7 +21,10 @@ use Rattle.elf_parser.specs.SectionNames.{names_of}
 use Rattle.elf_parser.specs.Dynamic.{dynamic_of}
 
 abbrev pub ranges_of : Elf64Ehdr → Ranges
-ranges_of h = record { phoff = h.e_phoff; phend = h.e_phoff + h.e_phnum * 56; shoff = h.e_shoff; shend = h.e_shoff + h.e_shnum * 64 }
+ranges_of h = record {
+  program_headers = record { start = h.e_phoff; end = h.e_phoff + h.e_phnum * 56 };
+  section_headers = record { start = h.e_shoff; end = h.e_shoff + h.e_shnum * 64 };
+}
 
 -- the first section header has the type SHT_NULL; nothing else of it is looked at
 unfoldable pub first_check : Elf64Shdr → Check

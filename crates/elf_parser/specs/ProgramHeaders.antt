@@ -53,9 +53,6 @@ module _ (s : List ℕ) (vaddr count from : ℕ) where
   abbrev pub found_from : ℕ → Result (Option ℕ) ElfParserError
   found_from i = header_for_vaddr s vaddr (count - i) (from + 56 * i)
 
-  pub found_all : header_for_vaddr s vaddr count from ≡ found_from 0
-  found_all = let a : count - 0 ≡ count = omega arith in let b : from + 56 * 0 ≡ from = omega arith in rw (a, b)
-
   pub found_is : (i : ℕ) → i < count → found_from i ≡ or_next (contains_step vaddr (program_header s (from + 56 * i))) (found_from (i + 1))
   unfolding header_for_vaddr
   found_is i h = rw (less_one count i h, one_further from 56 i)

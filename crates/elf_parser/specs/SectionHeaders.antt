@@ -18,8 +18,8 @@ unfoldable pub section_check : ℕ → ℕ → Ranges → ℕ → ℕ → Check
 section_check len low t offset size =
     Err OutOfBounds if past_word (offset + size) else
     Err Overlap if overlap offset (offset + size) 0 64 else
-    Err Overlap if overlap offset (offset + size) t.phoff t.phend else
-    Err Overlap if overlap offset (offset + size) t.shoff t.shend else
+    Err Overlap if overlap offset (offset + size) t.program_headers.start t.program_headers.end else
+    Err Overlap if overlap offset (offset + size) t.section_headers.start t.section_headers.end else
     Err SectionNotInOrder if ltb offset low else
     Err OutOfBounds if ltb len (offset + size) else
     Ok tt

@@ -4,6 +4,7 @@ use Rattle.std.specs.Cmp.Lexicographic.{pointwise}
 use Rattle.std.proofs.Math.Numerals.{add-one}
 use Rattle.std.proofs.Common.{ap}
 use mathlib.Core.List.{List, [], ◌∷◌}
+use Rattle.std.proofs.lemmas.Slice.Eq.{HasBytesAt, text_from_reads}
 use Rattle.std.proofs.Math.ListN.{drop}
 use Rattle.std.proofs.Math.Seq.{drop-cons, drop-length}
 use borrow.Author.Tests.{eq-eqb, ne_eqb, eqb-true}
@@ -121,3 +122,35 @@ same_tested (x ∷ xs) (y ∷ ys) = ap (λ t. eqb x y && t) (same_tested xs ys)
 pub named_at : (s : List ℕ) (r : Result Place ElfParserError) (p : Place) (at : ℕ) (n : Named) → r ≡ Ok p
     → named_step (role_of (part_of s r)) at n ≡ and_then r (λ q. named_step (role_of (bytes_at s q.start q.length)) at n)
 named_at s r p at n e = rw e
+
+-- ---- a name by its length and its bytes, as a match on it reads them
+
+abbrev pub Reads : List ℕ → List ℕ → Type 0
+Reads name p = (length name ≡ length p) × HasBytesAt name 0 p
+
+another : (name p : List ℕ) → Reads p p → (Reads name p → ⊥) → same_bytes name p ≡ false
+another name p own h = by (same_bytes name p) refl
+  where
+    by : (t : Bool) → same_bytes name p ≡ t → t ≡ false
+    by true e = let q : name ≡ p = same_equal name p e in absurd ((rw q at h) own)
+    by false e = refl
+
+own_bytes : Reads symtab symtab × Reads strtab strtab × Reads dynstr dynstr
+own_bytes = ((refl, (refl, (refl, (refl, (refl, (refl, (refl, (refl, tt)))))))), (refl, (refl, (refl, (refl, (refl, (refl, (refl, (refl, tt)))))))), (refl, (refl, (refl, (refl, (refl, (refl, (refl, (refl, tt)))))))))
+
+module _ (name : List ℕ) where
+  pub symtab_read : Reads name symtab → Some SymbolTable ≡ role_of name
+  unfolding role_of same_bytes ◌if◌else◌
+  symtab_read r = rw (text_from_reads name symtab r.0 r.1)
+
+  pub strtab_read : Reads name strtab → Some SymbolNames ≡ role_of name
+  unfolding role_of same_bytes ◌if◌else◌
+  strtab_read r = rw (text_from_reads name strtab r.0 r.1)
+
+  pub dynstr_read : Reads name dynstr → Some DynamicSymbolNames ≡ role_of name
+  unfolding role_of same_bytes ◌if◌else◌
+  dynstr_read r = rw (text_from_reads name dynstr r.0 r.1)
+
+  pub others_read : (Reads name symtab → ⊥) → (Reads name strtab → ⊥) → (Reads name dynstr → ⊥) → None ≡ role_of name
+  unfolding role_of ◌if◌else◌
+  others_read h k l = rw (another name symtab own_bytes.0 h, another name strtab own_bytes.1 k, another name dynstr own_bytes.2 l)

@@ -91,6 +91,10 @@ turn_named : (s : List ℕ) (r : Result Place ElfParserError) (at : ℕ) (a b : 
     → and_then r (λ p. named_step (role_of (bytes_at s p.start p.length)) at a) ≡ Ok b → Given r
 turn_named s r at a b e = let v = went r (λ p. named_step (role_of (bytes_at s p.start p.length)) at a) b e in record { place = v.value; given = v.first }
 
+-- the names that were found: the loop answers the `Result` itself, and nothing is to be turned
+went_by : (t : Result Named ElfParserError) (n : Named) → t ≡ Ok n → t ≡ Ok n
+went_by t n e = e
+
 went_checks : (t : Result ℕ ElfParserError) → check_of t ≡ Ok tt → (y : ℕ) × (t ≡ Ok y)
 went_checks t e = let v = went t (λ x. Ok tt) tt e in (v.value, v.first)
 

@@ -1,6 +1,6 @@
 // The dynamic table: where it stands, its 35 values, and what they lead to.
 ghost use Rattle.std.specs.Prelude.{◌≡◌, ◌+◌, ◌*◌, ltb, length};
-ghost use Rattle.elf_parser.specs.Dynamic.{Inside, section_with_addr, from_segment, from_section, dynamic_table, with_tag, dynamic_values, relocation_offset, file_offset, relocations_at, relocations_of, symbols_of, linked_by, dynamic_of};
+ghost use Rattle.elf_parser.specs.Dynamic.{Inside, section_with_addr, from_segment, from_section, dynamic_table, with_tag, dynamic_values, relocation_offset, file_offset, relocations_at, relocations_of, symbols_of, address_of, linked_by, dynamic_of};
 
 use crate::consts::{
     DT_HASH, DT_NULL, DT_NUM, DT_REL, DT_RELA, DT_RELAENT, DT_RELASZ, DT_RELENT, DT_RELSZ,
@@ -8,8 +8,9 @@ use crate::consts::{
 };
 use crate::elf64::Elf64;
 use crate::error::ElfParserError;
+use crate::parts::past;
 use crate::program_headers::header_for_vaddr;
-use crate::records::{Entries, slice_from_bytes, symbol_table_in};
+use crate::records::{Entries, slice_from_bytes};
 use crate::table::Table;
 use crate::types::{Elf64Dyn, Elf64Phdr, Elf64Rel, Elf64Rela, Elf64Shdr, Record};
 
@@ -27,10 +28,12 @@ pub struct Linked {
     pub relocations: Entries,
     pub relas: Entries,
     pub symbols: Entries,
-    pub hash_table: u64,
+    pub hash_table: Option<u64>,
 }
 
 // Sets the value of a tag; a tag of DT_NUM or more is skipped.
+// Kept: `get_mut` was tried, and the proof didn't close: what the lent values are behind a write through what it
+// answers is not known at the return.
 #[tactic(auto, using(ebpf::specs::Choice::choices), unfolding(crate::specs::Dynamic::with_tag))]
 fn set_tag(values: &mut [u64; DT_NUM], d: Elf64Dyn)
     ensures { values.new ≡ with_tag values.old d.d_tag d.d_val }
@@ -43,10 +46,10 @@ fn set_tag(values: &mut [u64; DT_NUM], d: Elf64Dyn)
 // The values of a table's entries, up to the first DT_NULL.
 #[tactic(auto, using(crate::specs::Dynamic::values_at_stop, crate::specs::Dynamic::values_at_next, crate::specs::Dynamic::values_at_end))]
 fn dynamic_values(table: &Table<'_, Elf64Dyn>) -> [u64; DT_NUM]
-    ensures { result ≡ dynamic_values table.now.file.now table.now.count table.now.offset }
+    ensures { result ≡ dynamic_values table.now.file.now table.now.entries.count table.now.entries.offset }
 {
     let mut values = [0; DT_NUM];
-    for i in 0..table.count {
+    for i in 0..table.entries.count {
         let d = table.nth(i);
         if d.d_tag == DT_NULL {
             return values;
@@ -54,6 +57,14 @@ fn dynamic_values(table: &Table<'_, Elf64Dyn>) -> [u64; DT_NUM]
         set_tag(&mut values, d);
     }
     values
+}
+
+// The address that a tag's value gives: none where it is 0, as that of a tag that is not there.
+#[tactic(auto, using(ebpf::specs::Choice::choices))]
+fn address_of(value: u64) -> Option<u64>
+    ensures { result ≡ address_of value }
+{
+    (value != 0).then_some(value)
 }
 
 // The relocations of one kind that fill `size` bytes from `offset` on.
@@ -82,13 +93,13 @@ impl<'a> HeaderTables<'a> {
     }
 
     pub(crate) fn program_headers(&self) -> Table<'a, Elf64Phdr>
-        ensures { (result.file.now ≡ self.now.file.now) × (result.offset ≡ self.now.tables.program_headers.offset) × (result.count ≡ self.now.tables.program_headers.count) }
+        ensures { (result.file.now ≡ self.now.file.now) × (result.entries ≡ self.now.tables.program_headers) }
     {
         Table::new(self.file, self.tables.program_headers)
     }
 
     pub(crate) fn section_headers(&self) -> Table<'a, Elf64Shdr>
-        ensures { (result.file.now ≡ self.now.file.now) × (result.offset ≡ self.now.tables.section_headers.offset) × (result.count ≡ self.now.tables.section_headers.count) }
+        ensures { (result.file.now ≡ self.now.file.now) × (result.entries ≡ self.now.tables.section_headers) }
     {
         Table::new(self.file, self.tables.section_headers)
     }
@@ -189,7 +200,7 @@ impl<'a> HeaderTables<'a> {
         let h = self
             .section_with_addr(vaddr)
             .ok_or(ElfParserError::InvalidDynamicSectionTable)?;
-        symbol_table_in(self.file.len() as u64, h)
+        h.symbol_table_in(self.file.len() as u64)
     }
 
     // What the values lead to: each table in turn, up to the first that is refused.
@@ -211,7 +222,7 @@ impl<'a> HeaderTables<'a> {
             relocations: relocations_found,
             relas,
             symbols,
-            hash_table: values[DT_HASH],
+            hash_table: address_of(values[DT_HASH]),
         })
     }
 
@@ -229,10 +240,9 @@ impl<'a> HeaderTables<'a> {
 fn ends_past<T: Record>(len: u64, table: Entries) -> bool
     ensures { result ≡ ltb len (table.offset + T.SIZE * table.count) }
 {
-    if len < table.offset {
-        return true;
-    }
-    (len - table.offset) / (T::SIZE as u64) < table.count
+    (T::SIZE as u64)
+        .checked_mul(table.count)
+        .is_none_or(|size| past(len, table.offset, size))
 }
 
 impl Elf64<'_> {

@@ -41,8 +41,8 @@ pub(crate) fn check_header(file: &[u8]) -> Result<(), ElfParserError>
 }
 
 // Whether two ranges share a byte, or one is empty and strictly inside the other.
-pub(crate) fn overlaps(a: Range<u64>, b: Range<u64>) -> bool
-    ensures { result ≡ overlap a.start a.end b.start b.end }
+pub(crate) fn overlaps(a: &Range<u64>, b: &Range<u64>) -> bool
+    ensures { result ≡ overlap a.now.start a.now.end b.now.start b.now.end }
 {
     (b.start < a.end) & (a.start < b.end)
 }
@@ -57,7 +57,8 @@ pub(crate) fn check_tables(len: u64, h: Elf64Ehdr) -> Result<Ranges, ElfParserEr
     let phend = phoff
         .checked_add(phsize)
         .ok_or(ElfParserError::OutOfBounds)?;
-    if overlaps(0..64, phoff..phend) {
+    let program_headers = phoff..phend;
+    if overlaps(&(0..64), &program_headers) {
         return Err(ElfParserError::Overlap);
     }
     if len < phend {
@@ -71,10 +72,11 @@ pub(crate) fn check_tables(len: u64, h: Elf64Ehdr) -> Result<Ranges, ElfParserEr
     let shend = shoff
         .checked_add(shsize)
         .ok_or(ElfParserError::OutOfBounds)?;
-    if overlaps(0..64, shoff..shend) {
+    let section_headers = shoff..shend;
+    if overlaps(&(0..64), &section_headers) {
         return Err(ElfParserError::Overlap);
     }
-    if overlaps(phoff..phend, shoff..shend) {
+    if overlaps(&program_headers, &section_headers) {
         return Err(ElfParserError::Overlap);
     }
     if len < shend {
@@ -84,9 +86,7 @@ pub(crate) fn check_tables(len: u64, h: Elf64Ehdr) -> Result<Ranges, ElfParserEr
         return Err(ElfParserError::InvalidAlignment);
     }
     Ok(Ranges {
-        phoff,
-        phend,
-        shoff,
-        shend,
+        program_headers,
+        section_headers,
     })
 }

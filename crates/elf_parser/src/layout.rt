@@ -26,8 +26,7 @@ pub struct Layout {
     pub dynamic_relocations: Entries,
     pub dynamic_relas: Entries,
     pub dynamic_symbols: Entries,
-    // Kept: 0 and no Option, as the dynamic table's values have it: 0 for a tag that is not there.
-    pub hash_table: u64,
+    pub hash_table: Option<u64>,
 }
 
 // The two header tables, as the file header has them.
@@ -68,7 +67,7 @@ fn check_file(file: &[u8]) -> Result<(), ElfParserError>
     let tables = HeaderTables::new(file, header_tables(h));
     check_first(record_at(file, h.e_shoff as usize))?;
     check_program_headers(&tables.program_headers())?;
-    check_section_headers(&tables.section_headers(), ranges)
+    check_section_headers(&tables.section_headers(), &ranges)
 }
 
 // With the named sections found, the dynamic part.

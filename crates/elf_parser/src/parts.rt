@@ -12,6 +12,8 @@ pub struct Place {
 }
 
 // The bytes at a place; none where it does not lie in the file.
+// Kept: `file.get(start..).and_then(|rest| rest.get(..length))` was tried, and the proof didn't close: the check does
+// not find by itself which of its three ways the place goes, as it does here.
 #[tactic(auto, using(ebpf::specs::Choice::choices), unfolding(crate::specs::Parts::bytes_at))]
 pub fn bytes_at(file: &[u8], place: Place) -> &[u8]
     ensures { result.now ≡ bytes_at file.now place.start place.length }

@@ -28,7 +28,7 @@ fn load_step(len: u64, h: Elf64Phdr, low: u64) -> Result<u64, ElfParserError>
 
 // All program headers.
 pub(crate) fn check_program_headers(table: &Table<'_, Elf64Phdr>) -> Result<(), ElfParserError>
-    ensures { result ≡ loads_check table.now.file.now table.now.count table.now.offset }
+    ensures { result ≡ loads_check table.now.file.now table.now.entries.count table.now.entries.offset }
 {
     let len = table.file.len() as u64;
     table.over(0, |_, h, low| load_step(len, h, low))?;
@@ -62,9 +62,9 @@ pub(crate) fn header_for_vaddr(
     table: &Table<'_, Elf64Phdr>,
     vaddr: u64,
 ) -> Result<Option<u64>, ElfParserError>
-    ensures { result ≡ header_for_vaddr table.now.file.now vaddr table.now.count table.now.offset }
+    ensures { result ≡ header_for_vaddr table.now.file.now vaddr table.now.entries.count table.now.entries.offset }
 {
-    for i in 0..table.count {
+    for i in 0..table.entries.count {
         if let Some(offset) = contains_step(table.nth(i), vaddr)? {
             return Ok(Some(offset));
         }

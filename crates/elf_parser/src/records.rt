@@ -79,43 +79,45 @@ pub(crate) fn slice_from_bytes<T: Record>(
     })
 }
 
-// The symbol table of a section of that type.
-#[tactic(auto, using(ebpf::specs::Choice::choices), unfolding(crate::specs::Records::symbol_table_in))]
-pub(crate) fn symbol_table_in(len: u64, header: Elf64Shdr) -> Result<Entries, ElfParserError>
-    ensures { result ≡ symbol_table_in len header }
-{
-    if (header.sh_type != SHT_SYMTAB) & (header.sh_type != SHT_DYNSYM) {
-        return Err(ElfParserError::InvalidSectionHeader);
+impl Elf64Shdr {
+    // The symbol table of a section of that type, in a file of `len` bytes.
+    #[tactic(auto, using(ebpf::specs::Choice::choices), unfolding(crate::specs::Records::symbol_table_in))]
+    pub(crate) fn symbol_table_in(self, len: u64) -> Result<Entries, ElfParserError>
+        ensures { result ≡ symbol_table_in len self }
+    {
+        if (self.sh_type != SHT_SYMTAB) & (self.sh_type != SHT_DYNSYM) {
+            return Err(ElfParserError::InvalidSectionHeader);
+        }
+        slice_from_bytes::<Elf64Sym>(len, self.sh_offset, self.sh_size)
     }
-    slice_from_bytes::<Elf64Sym>(len, header.sh_offset, header.sh_size)
-}
 
-// A section of type SHT_NOBITS has no bytes in the file.
-#[tactic(auto, using(ebpf::specs::Choice::choices), unfolding(crate::specs::Records::file_range))]
-fn range_in_file(len: u64, header: Elf64Shdr) -> Result<Place, ElfParserError>
-    ensures { result ≡ file_range len header }
-{
-    if header.sh_type == SHT_NOBITS {
-        return Ok(Place::default());
+    // Where a section's bytes stand. One of type SHT_NOBITS has none in the file.
+    #[tactic(auto, using(ebpf::specs::Choice::choices), unfolding(crate::specs::Records::file_range))]
+    fn range_in_file(self, len: u64) -> Result<Place, ElfParserError>
+        ensures { result ≡ file_range len self }
+    {
+        if self.sh_type == SHT_NOBITS {
+            return Ok(Place::default());
+        }
+        if past(len, self.sh_offset, self.sh_size) {
+            return Err(ElfParserError::OutOfBounds);
+        }
+        Ok(Place {
+            start: self.sh_offset as usize,
+            length: self.sh_size as usize,
+        })
     }
-    if past(len, header.sh_offset, header.sh_size) {
-        return Err(ElfParserError::OutOfBounds);
-    }
-    Ok(Place {
-        start: header.sh_offset as usize,
-        length: header.sh_size as usize,
-    })
-}
 
-// A header of type SHT_NULL is no section's: its other fields have no meaning.
-#[tactic(auto, using(ebpf::specs::Choice::choices), unfolding(crate::specs::Records::contents_place))]
-fn contents_in_file(len: u64, header: Elf64Shdr) -> Result<Place, ElfParserError>
-    ensures { result ≡ contents_place len header }
-{
-    if header.sh_type == SHT_NULL {
-        return Err(ElfParserError::NotASection);
+    // The same of its contents. A header of type SHT_NULL is no section's: its other fields have no meaning.
+    #[tactic(auto, using(ebpf::specs::Choice::choices), unfolding(crate::specs::Records::contents_place))]
+    fn contents_in_file(self, len: u64) -> Result<Place, ElfParserError>
+        ensures { result ≡ contents_place len self }
+    {
+        if self.sh_type == SHT_NULL {
+            return Err(ElfParserError::NotASection);
+        }
+        self.range_in_file(len)
     }
-    range_in_file(len, header)
 }
 
 impl<'a> Elf64<'a> {
@@ -158,7 +160,8 @@ impl<'a> Elf64<'a> {
         let Some(header_at) = self.layout.symtab else {
             return Ok(Entries::default());
         };
-        symbol_table_in(self.file.len() as u64, record_in(self.file, header_at)?)
+        let header = record_in::<Elf64Shdr>(self.file, header_at)?;
+        header.symbol_table_in(self.file.len() as u64)
     }
 
     // Where the bytes of section `index` stand in the file.
@@ -168,7 +171,7 @@ impl<'a> Elf64<'a> {
         ensures { result ≡ file_range_of self.now.file.now self.now.layout index }
     {
         let header = self.section_header(index)?;
-        range_in_file(self.file.len() as u64, header)
+        header.range_in_file(self.file.len() as u64)
     }
 
     // Where the contents of section `index` stand.
@@ -176,7 +179,7 @@ impl<'a> Elf64<'a> {
         ensures { result ≡ section_place_of self.now.file.now self.now.layout index }
     {
         let header = self.section_header(index)?;
-        contents_in_file(self.file.len() as u64, header)
+        header.contents_in_file(self.file.len() as u64)
     }
 
     // The contents of section `index`, as a part of the file; none where they are refused.

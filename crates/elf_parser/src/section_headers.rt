@@ -8,23 +8,20 @@ use crate::error::ElfParserError;
 use crate::header::overlaps;
 use crate::table::Table;
 use crate::types::Elf64Shdr;
+use std::ops::Range;
 
-// Where the two header tables stand.
-// Kept: four numbers and no two ranges. Each is compared by itself with a section's ends, and a `Range` is not Copy
-// and would be taken apart for that.
-#[derive(Clone, Copy, PartialEq, Eq, Debug)]
+// The bytes of the two header tables.
+#[derive(Clone, PartialEq, Eq, Debug, Drop)]
 pub struct Ranges {
-    pub phoff: u64,
-    pub phend: u64,
-    pub shoff: u64,
-    pub shend: u64,
+    pub program_headers: Range<u64>,
+    pub section_headers: Range<u64>,
 }
 
 // The checks of one section, whose bytes are apart from the file header and both tables and behind those of the
 // section before, which end at `low`. What it answers is where the next section may begin.
 #[tactic(auto, using(ebpf::specs::Choice::choices, crate::specs::Errors::row_stops, crate::specs::Errors::row_goes), unfolding(crate::specs::SectionHeaders::section_step, crate::specs::SectionHeaders::section_check))]
-fn section_step(len: u64, h: Elf64Shdr, low: u64, t: Ranges) -> Result<u64, ElfParserError>
-    ensures { result ≡ section_step len t h low }
+fn section_step(len: u64, h: Elf64Shdr, low: u64, t: &Ranges) -> Result<u64, ElfParserError>
+    ensures { result ≡ section_step len t.now h low }
 {
     if h.sh_type == SHT_NOBITS {
         return Ok(low);
@@ -33,13 +30,14 @@ fn section_step(len: u64, h: Elf64Shdr, low: u64, t: Ranges) -> Result<u64, ElfP
     let end = sh_offset
         .checked_add(h.sh_size)
         .ok_or(ElfParserError::OutOfBounds)?;
-    if overlaps(sh_offset..end, 0..64) {
+    let bytes = sh_offset..end;
+    if overlaps(&bytes, &(0..64)) {
         return Err(ElfParserError::Overlap);
     }
-    if overlaps(sh_offset..end, t.phoff..t.phend) {
+    if overlaps(&bytes, &t.program_headers) {
         return Err(ElfParserError::Overlap);
     }
-    if overlaps(sh_offset..end, t.shoff..t.shend) {
+    if overlaps(&bytes, &t.section_headers) {
         return Err(ElfParserError::Overlap);
     }
     if sh_offset < low {
@@ -54,9 +52,9 @@ fn section_step(len: u64, h: Elf64Shdr, low: u64, t: Ranges) -> Result<u64, ElfP
 // All section headers.
 pub(crate) fn check_section_headers(
     table: &Table<'_, Elf64Shdr>,
-    t: Ranges,
+    t: &Ranges,
 ) -> Result<(), ElfParserError>
-    ensures { result ≡ sections_check table.now.file.now t table.now.count table.now.offset }
+    ensures { result ≡ sections_check table.now.file.now t.now table.now.entries.count table.now.entries.offset }
 {
     let len = table.file.len() as u64;
     table.over(0, |_, h, low| section_step(len, h, low, t))?;

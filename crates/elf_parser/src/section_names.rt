@@ -25,20 +25,16 @@ pub struct Named {
     pub dynstr: Option<u64>,
 }
 
-#[tactic(auto, using(ebpf::specs::Choice::choices, crate::specs::SectionNames::same_tested), unfolding(crate::specs::SectionNames::role_of))]
+#[tactic(auto, using(crate::specs::SectionNames::symtab_read, crate::specs::SectionNames::strtab_read, crate::specs::SectionNames::dynstr_read, crate::specs::SectionNames::others_read))]
 fn role_of(name: &[u8]) -> Option<Role>
     ensures { result ≡ role_of name.now }
 {
-    if name == b".symtab".as_slice() {
-        return Some(Role::SymbolTable);
+    match name {
+        b".symtab" => Some(Role::SymbolTable),
+        b".strtab" => Some(Role::SymbolNames),
+        b".dynstr" => Some(Role::DynamicSymbolNames),
+        _ => None,
     }
-    if name == b".strtab".as_slice() {
-        return Some(Role::SymbolNames);
-    }
-    if name == b".dynstr".as_slice() {
-        return Some(Role::DynamicSymbolNames);
-    }
-    None
 }
 
 // A header's place, where there was none of its kind: a second one is refused.
@@ -93,7 +89,7 @@ pub(crate) fn find_named(
     names: Elf64Shdr,
     table: &Table<'_, Elf64Shdr>,
 ) -> Result<Named, ElfParserError>
-    ensures { result ≡ names_of table.now.file.now names table.now.count table.now.offset }
+    ensures { result ≡ names_of table.now.file.now names table.now.entries.count table.now.entries.offset }
 {
     let file = table.file;
     table.over(

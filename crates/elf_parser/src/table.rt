@@ -6,13 +6,14 @@ use crate::records::Entries;
 use crate::types::{Record, record_at};
 use std::marker::PhantomData;
 
-#[derive(Drop)]
+// Kept: without Clone and Copy, which were tried: the check derives them for no struct that has a ghost field and a
+// type parameter.
+#[derive(PartialEq, Eq, Debug, Drop)]
 pub(crate) struct Table<'a, T: Record> {
     pub(crate) file: &'a [u8],
-    pub(crate) offset: u64,
-    pub(crate) count: u64,
+    pub(crate) entries: Entries,
     of: PhantomData<T>,
-    pub ghost inside: { offset + T.SIZE * count ≤ length file.now },
+    pub ghost inside: { entries.offset + T.SIZE * entries.count ≤ length file.now },
 }
 
 impl<'a, T: Record> Table<'a, T> {
@@ -20,24 +21,26 @@ impl<'a, T: Record> Table<'a, T> {
     ghost use Rattle.elf_parser.specs.Dynamic.{first_with};
     ghost use Rattle.elf_parser.specs.Loops.{over};
 
-    pub(crate) fn new(file: &'a [u8], table: Entries) -> Table<'a, T>
-        requires inside { table.offset + T.SIZE * table.count ≤ length file.now }
-        ensures { (result.file.now ≡ file.now) × (result.offset ≡ table.offset) × (result.count ≡ table.count) }
+    pub(crate) fn new(file: &'a [u8], entries: Entries) -> Table<'a, T>
+        requires inside { entries.offset + T.SIZE * entries.count ≤ length file.now }
+        ensures { (result.file.now ≡ file.now) × (result.entries ≡ entries) }
     {
         Table {
             file,
-            offset: table.offset,
-            count: table.count,
+            entries,
             of: PhantomData,
         }
     }
 
     // The record number `i`.
     pub(crate) fn nth(&self, i: u64) -> T
-        requires below { i < self.now.count }
-        ensures { result ≡ T.at self.now.file.now (self.now.offset + T.SIZE * i) }
+        requires below { i < self.now.entries.count }
+        ensures { result ≡ T.at self.now.file.now (self.now.entries.offset + T.SIZE * i) }
     {
-        record_at(self.file, self.offset as usize + T::SIZE * i as usize)
+        record_at(
+            self.file,
+            self.entries.offset as usize + T::SIZE * i as usize,
+        )
     }
 
     // The first record that passes a test.
@@ -46,9 +49,9 @@ impl<'a, T: Record> Table<'a, T> {
         ghost passes: { T → Bool }
         requires callable { F.IsAlwaysCallable test }
         requires tests { (x : T) (r : Bool) → F.post test x r → r ≡ passes x }
-        ensures { result ≡ first_with passes (T.at self.now.file.now) T.SIZE self.now.count self.now.offset }
+        ensures { result ≡ first_with passes (T.at self.now.file.now) T.SIZE self.now.entries.count self.now.entries.offset }
     {
-        for i in 0..self.count {
+        for i in 0..self.entries.count {
             let record = self.nth(i);
             if test(record) {
                 return Some(record);
@@ -68,11 +71,11 @@ impl<'a, T: Record> Table<'a, T> {
         ghost stepped: { ℕ → S → Result S ElfParserError }
         requires callable { F.IsAlwaysCallable step }
         requires steps { (at : ℕ) (x : S) (r : Result S ElfParserError) → F.post step at (T.at self.now.file.now at) x r → r ≡ stepped at x }
-        ensures { result ≡ over stepped T.SIZE self.now.count self.now.offset first }
+        ensures { result ≡ over stepped T.SIZE self.now.entries.count self.now.entries.offset first }
     {
         let mut state = first;
-        for i in 0..self.count {
-            let at = self.offset + T::SIZE as u64 * i;
+        for i in 0..self.entries.count {
+            let at = self.entries.offset + T::SIZE as u64 * i;
             state = step(at, self.nth(i), state)?;
         }
         Ok(state)

@@ -107,7 +107,7 @@ pub trait Record: Copy {
     ghost few: { SIZE ≤ 64 };
 }
 
-// Kept: five of one shape. Each reads the fields of its own record, and the trait is what they have in common.
+// Kept: six of one shape. Each reads the fields of its own record, and the trait is what they have in common.
 impl Record for Elf64Phdr {
     const SIZE: usize = 56;
 

@@ -72,7 +72,7 @@ laid_out l =
     ∷ l.dynamic_symbols.count
     ∷ l.dynamic_relas.offset
     ∷ l.dynamic_relas.count
-    ∷ l.hash_table
+    ∷ unwrap_or l.hash_table 0
     ∷ [])
 
 abbrev pub parse_answer : Result Layout ElfParserError → Answer

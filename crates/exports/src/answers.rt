@@ -88,7 +88,7 @@ fn laid_out(l: Layout) -> Answer
         symbols.count,
         relas.offset,
         relas.count,
-        l.hash_table,
+        l.hash_table.unwrap_or(0),
     ];
     answer_with(0, &words)
 }

@@ -1,5 +1,5 @@
 -- Finding a symbol in small files: each holds by computation.
-use Rattle.std.specs.Prelude.{ℕ, List, [], ◌∷◌, ◌++◌, ◌≡◌, refl, replicate, Some, None, Ok, Err}
+use Rattle.std.specs.Prelude.{ℕ, List, [], ◌∷◌, ◌++◌, ◌≡◌, refl, replicate, Option, Some, None, Ok, Err}
 use Rattle.ebpf.specs.Choice.{◌if◌else◌}
 use Rattle.ebpf.specs.LittleEndian.{le, bytes_of}
 use Rattle.elf_parser.specs.declared.layout.Layout.{Layout}
@@ -24,7 +24,7 @@ file buckets chains first after-1 after-2 one two =
     ++ (replicate 16 0 ++ bytes_of 8 0x1000 ++ replicate 40 0)
     ++ (0 ∷ 97 ∷ 98 ∷ 0 ∷ 99 ∷ 100 ∷ 0 ∷ [])
 
-abbrev layout : ℕ → ℕ → Layout
+abbrev layout : Option ℕ → ℕ → Layout
 layout address symbols =
     record {
       program_headers = record { offset = 0; count = 0 };
@@ -50,32 +50,32 @@ abbrev whole : List ℕ
 whole = file 1 3 1 2 0 1 4
 
 -- both names; one that is longer, one that is shorter, and none: symbol 0 has no name, and is not the answer
-found : find_symbol whole (layout 0x1000 3) ab ∷ find_symbol whole (layout 0x1000 3) cd ∷ find_symbol whole (layout 0x1000 3) (97 ∷ 98 ∷ 0 ∷ []) ∷ find_symbol whole (layout 0x1000 3) (97 ∷ []) ∷ find_symbol whole (layout 0x1000 3) [] ∷ []
+found : find_symbol whole (layout (Some 0x1000) 3) ab ∷ find_symbol whole (layout (Some 0x1000) 3) cd ∷ find_symbol whole (layout (Some 0x1000) 3) (97 ∷ 98 ∷ 0 ∷ []) ∷ find_symbol whole (layout (Some 0x1000) 3) (97 ∷ []) ∷ find_symbol whole (layout (Some 0x1000) 3) [] ∷ []
     ≡ Ok (Some 1) ∷ Ok (Some 2) ∷ Ok None ∷ Ok None ∷ Ok None ∷ []
 unfolding table_at hash_table_of link_at on_link walked hash_from file_offset first_with header_for_vaddr name_by bytes_at contains_step entry_at same_bytes string_in string_check terminated before_zero section_header sym le bytes_of ◌if◌else◌
 found = refl
 
 -- 48: no address, one that is nowhere, no buckets, another count, an index that is no symbol's, a circle, and a table past the file's end
 bad :
-    find_symbol whole (layout 0 3) ab
-    ∷ find_symbol whole (layout 0x2000 3) ab
-    ∷ find_symbol (file 0 3 1 2 0 1 4) (layout 0x1000 3) ab
-    ∷ find_symbol whole (layout 0x1000 2) ab
-    ∷ find_symbol (file 1 3 3 2 0 1 4) (layout 0x1000 3) ab
-    ∷ find_symbol (file 1 3 1 2 1 1 4) (layout 0x1000 3) (97 ∷ [])
-    ∷ find_symbol (file 54 3 1 2 0 1 4) (layout 0x1000 3) ab
+    find_symbol whole (layout None 3) ab
+    ∷ find_symbol whole (layout (Some 0x2000) 3) ab
+    ∷ find_symbol (file 0 3 1 2 0 1 4) (layout (Some 0x1000) 3) ab
+    ∷ find_symbol whole (layout (Some 0x1000) 2) ab
+    ∷ find_symbol (file 1 3 3 2 0 1 4) (layout (Some 0x1000) 3) ab
+    ∷ find_symbol (file 1 3 1 2 1 1 4) (layout (Some 0x1000) 3) (97 ∷ [])
+    ∷ find_symbol (file 54 3 1 2 0 1 4) (layout (Some 0x1000) 3) ab
     ∷ []
     ≡ Err bad_table ∷ Err bad_table ∷ Err bad_table ∷ Err bad_table ∷ Err bad_table ∷ Err bad_table ∷ Err bad_table ∷ []
 unfolding table_at hash_table_of link_at on_link walked hash_from file_offset first_with header_for_vaddr name_by bytes_at contains_step entry_at same_bytes string_in string_check terminated before_zero section_header sym le bytes_of ◌if◌else◌
 bad = refl
 
 -- a circle, and a name that cannot be read, count only where they are met: behind the answer they do not
-behind : find_symbol (file 1 3 1 2 1 1 4) (layout 0x1000 3) cd ∷ find_symbol (file 1 3 1 2 0 1 9) (layout 0x1000 3) ab ∷ find_symbol (file 1 3 1 2 0 9 4) (layout 0x1000 3) cd ∷ []
+behind : find_symbol (file 1 3 1 2 1 1 4) (layout (Some 0x1000) 3) cd ∷ find_symbol (file 1 3 1 2 0 1 9) (layout (Some 0x1000) 3) ab ∷ find_symbol (file 1 3 1 2 0 9 4) (layout (Some 0x1000) 3) cd ∷ []
     ≡ Ok (Some 2) ∷ Ok (Some 1) ∷ Err bad_table ∷ []
 unfolding table_at hash_table_of link_at on_link walked hash_from file_offset first_with header_for_vaddr name_by bytes_at contains_step entry_at same_bytes string_in string_check terminated before_zero section_header sym le bytes_of ◌if◌else◌
 behind = refl
 
 -- no symbols and no chain: the bucket's 0 ends the walk
-empty : find_symbol (file 1 0 0 0 0 0 0) (layout 0x1000 0) ab ≡ Ok None
+empty : find_symbol (file 1 0 0 0 0 0 0) (layout (Some 0x1000) 0) ab ≡ Ok None
 unfolding table_at hash_table_of link_at on_link walked hash_from file_offset first_with header_for_vaddr section_header le bytes_of ◌if◌else◌
 empty = refl

@@ -45,10 +45,12 @@ table_by s symbols (Ok None) = Err bad_table
 table_by s symbols (Err r) = Err bad_table
 
 -- by the address under tag 4, located as the relocations are
+abbrev pub hash_table_at : List ℕ → Layout → Option ℕ → Result HashTable BadHashTable
+hash_table_at s l None = Err bad_table
+hash_table_at s l (Some vaddr) = table_by s l.dynamic_symbols.count (file_offset s l vaddr)
+
 unfoldable pub hash_table_of : List ℕ → Layout → Result HashTable BadHashTable
-hash_table_of s l =
-    Err bad_table if eqb l.hash_table 0 else
-    table_by s l.dynamic_symbols.count (file_offset s l l.hash_table)
+hash_table_of s l = hash_table_at s l l.hash_table
 
 -- such a table has buckets and lies in the file
 pub record Usable (len : ℕ) (t : HashTable) : Type 0 where
@@ -135,12 +137,16 @@ table_at_lies s symbols at t e =
 
 pub table_lies : (s : List ℕ) (l : Layout) (t : HashTable) → hash_table_of s l ≡ Ok t → Usable (length s) t
 unfolding hash_table_of
-table_lies s l t e = go (file_offset s l l.hash_table) (row_rest _ _ _ _ (not_found _ t) e)
+table_lies s l t = at l.hash_table
   where
     go : (m : Result (Option ℕ) ElfParserError) → table_by s l.dynamic_symbols.count m ≡ Ok t → Usable (length s) t
     go (Ok (Some at)) q = table_at_lies s l.dynamic_symbols.count at t q
     go (Ok None) q = absurd (not_found _ t q)
     go (Err r) q = absurd (not_found _ t q)
+
+    at : (address : Option ℕ) → hash_table_at s l address ≡ Ok t → Usable (length s) t
+    at None q = absurd (not_found _ t q)
+    at (Some vaddr) q = go (file_offset s l vaddr) q
 
 -- ---- the walk from the i-th link of n on, for a loop over the links
 module _ (s : List ℕ) (l : Layout) (name : List ℕ) (t : HashTable) (n : ℕ) where

@@ -112,10 +112,7 @@ fn table_at(file: &[u8], symbols: u64, at: u64) -> Result<HashTable, BadHashTabl
 fn hash_table(elf: &Elf64<'_>) -> Result<HashTable, BadHashTable>
     ensures { result ≡ hash_table_of elf.now.file.now elf.now.layout }
 {
-    let vaddr = elf.layout.hash_table;
-    if vaddr == 0 {
-        return Err(BadHashTable);
-    }
+    let vaddr = elf.layout.hash_table.ok_or(BadHashTable)?;
     let at = elf.file_offset(vaddr)?.ok_or(BadHashTable)?;
     table_at(elf.file, elf.layout.dynamic_symbols.count, at)
 }

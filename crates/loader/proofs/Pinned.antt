@@ -72,7 +72,7 @@ layout_of shoff shnum shstrtab symtab strtab =
       dynamic_relocations = record { offset = 0; count = 0 };
       dynamic_relas = record { offset = 0; count = 0 };
       dynamic_symbols = record { offset = 0; count = 0 };
-      hash_table = 0;
+      hash_table = None;
     }
 
 -- by the version, the collision check, the layout, the text's address in the file and in the machine, its size, and where it lies in the program

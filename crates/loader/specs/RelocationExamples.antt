@@ -47,7 +47,7 @@ layout_with n m =
       dynamic_relocations = record { offset = 0; count = n };
       dynamic_relas = record { offset = 233; count = m };
       dynamic_symbols = record { offset = 32; count = 1 };
-      hash_table = 0;
+      hash_table = None;
     }
 
 abbrev job_with : Bool → Layout → Job

@@ -88,7 +88,7 @@ abbrev relocated : List ℕ → ℕ → List ℕ
 relocated im type = of_deed (asked im 0 type)
 
 abbrev tables : Ranges
-tables = record { phoff = 64; phend = 64; shoff = 512; shend = 704 }
+tables = record { program_headers = record { start = 64; end = 64 }; section_headers = record { start = 512; end = 704 } }
 
 -- ---- THE TABLE, in the scope's order
 

@@ -2,7 +2,7 @@
 -- whatever the slices hold. Assumes nothing.
 use mathlib.Core.Path.{◌≡◌, refl, sym, ap, ◌∙◌}
 use mathlib.Core.Bool.{Bool, true, false}
-use mathlib.Core.List.{List, map}
+use mathlib.Core.List.{List, [], ◌∷◌, map}
 use Prim.Native.Nat.{ℕ, ◌+◌, ◌-◌, ◌≤◌, ◌<◌, min}
 use native.Mathlib.Omega.{arith}
 use lib.ListN.{length, take, get_or}
@@ -10,14 +10,18 @@ use lib.Dec.{ltb, leb, eqb}
 use borrow.Author.Tests.{lt-ltb, le-ltb, le-leb, lt-leb}
 use Rattle.ebpf.specs.Choice.{◌if◌else◌}
 use lib.Seq.{length-take-le, get_or-take}
+use types.Run.{OneOf}
+use denote.Enum.Declared.{tag_of}
 use Rattle.std.specs.Prelude.{Option, Some, None, Result, Ok, Err, position, cond}
 use Rattle.std.specs.Result.{result_ok}
+use Rattle.program.specs.declared.Registered.{Registered}
 use Rattle.program.specs.declared.Registered.TheVariants.{Inserted, Repeat}
 use Rattle.program.specs.declared.RegisterError.TheVariants.{Collision, Full}
 use Rattle.program.specs.declared.Row.{Row}
 use Rattle.program.specs.Search.{binary_search, search_result, is_among, index_of}
 use Rattle.program.specs.Rows.{RegisterResult, rank, find}
 use Rattle.program.specs.Table.{Slices, capacity, Within, row_at, rows_of, ranks_of, Opening, closed_row, counted, place_in, holds, register_at, registered_at, register_in, registered_by, unregister_at, unregistered_at, unregister_in, unregistered_in, lookup_in, row_of_found, number_at, row_ascending_in}
+use Rattle.program.specs.contracts.Registered.{the_type}
 use Rattle.program.proofs.Cases.{by_test, by_lt, by_le, by_eq, zero_one}
 use Rattle.program.proofs.Searches.{search_le, first_is}
 use Rattle.program.proofs.Laying.{within_room, zero_row, length_rows, ranks_rows, row_at_lem}
@@ -159,6 +163,10 @@ by_registered_at P opening t n at row same other full more =
     (λ h. by_le (capacity t) n (λ (b : Bool). P (t if b else opening at n row t) (Err Full if b else Ok (Inserted (n - at)))) (full h) (more h))
 
 -- ---- what a registration leaves, by its answer
+
+-- the other answers, as the code tells them: a refusal, or the number of the variant
+pub not_inserted : (a : RegisterResult) → ((b : Registered) → a ≡ Ok b → OneOf (1 ∷ []) (tag_of the_type b)) → (m : ℕ) → a ≡ Ok (Inserted m) → ⊥
+not_inserted a o m e = let z = o (Inserted m) e in omega arith
 
 module _ (opening : Opening) (t : Slices) (used : ℕ) (row : Row) where
   -- no insertion: the slices as they came

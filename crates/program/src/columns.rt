@@ -1,4 +1,6 @@
 // A place opened and closed in a column.
+// Kept: `n`, how many of the numbers are rows that count, stands beside the column. Behind them are others, so that a
+// caller that cut the column would write `&mut self.keys[..=n]` in place of `self.keys` and `n`, for each of the five.
 ghost use Rattle.std.specs.Prelude.{◌≡◌, ◌≤◌, ◌<◌, length};
 ghost use Rattle.program.specs.Table.{opened, closed};
 

@@ -19,13 +19,6 @@ fn is_entrypoint(name: FunctionName) -> bool
     }
 }
 
-// A name that is empty or not kept.
-const EMPTY: KeptName = KeptName {
-    kind: crate::NAME_EMPTY,
-    start: 0,
-    length: 0,
-};
-
 // Whether a binary search finds the key: on keys that ascend strictly, whether it is among them.
 #[tactic(auto, using(crate::proofs::Searches::found_among))]
 pub fn is_builtin(builtins: &[u32], key: u32) -> bool
@@ -58,7 +51,7 @@ impl HashedLegacy<'_> {
         ensures { result ≡ kept_name self.now.labels name }
     {
         match name {
-            FunctionName::Symbol { length: 0, .. } => EMPTY,
+            FunctionName::Symbol { length: 0, .. } => KeptName::default(),
             FunctionName::Symbol {
                 start,
                 length,
@@ -73,7 +66,7 @@ impl HashedLegacy<'_> {
                 start: 0,
                 length: 0,
             },
-            FunctionName::Symbol { .. } | FunctionName::OfIndex => EMPTY,
+            FunctionName::Symbol { .. } | FunctionName::OfIndex => KeptName::default(),
             FunctionName::Entrypoint => KeptName {
                 kind: crate::NAME_ENTRYPOINT,
                 start: 0,

@@ -12,7 +12,8 @@ pub use table::{index_ascending, row_ascending};
 
 // What a row says of its name: it is empty or not kept, a part of the file, the text entrypoint, or
 // made from the index. Only a part of the file has a start.
-// Kept: numbers and no enum, since the column of kinds is C's to read; `KeptName` has what goes into it.
+// Kept: numbers and no enum, since C reads them in the column of kinds. `KeptName` and `Row` have the number too, as
+// it goes into the column: an enum there would be made only to be turned into the number.
 pub const NAME_EMPTY: u32 = 0;
 
 pub const NAME_IN_FILE: u32 = 1;
@@ -35,7 +36,8 @@ pub struct Row {
 
 // The table: a column for each field of a row, of which the first `used` rows are used.
 // Kept: five columns and no slice of rows, since C lends each as a slice of numbers; and two types, since a field
-// is lent either for writing or for reading.
+// is lent either for writing or for reading. That the columns stay the slices that were lent (`SameColumns`) stands in
+// the contracts of those who write: it speaks of before and after, which no invariant of the type can.
 #[derive(Drop)]
 pub struct FunctionRegistry<'a> {
     pub keys: &'a mut [u32],
@@ -108,8 +110,8 @@ pub struct HashedLegacy<'a> {
     pub labels: bool,
 }
 
-// What a row keeps of a name.
-#[derive(Clone, Copy, PartialEq, Eq, Debug)]
+// What a row keeps of a name. The default is that of a name which is empty or not kept: `NAME_EMPTY`, 0, and no place.
+#[derive(Clone, Copy, PartialEq, Eq, Debug, Default)]
 pub struct KeptName {
     pub kind: u32,
     pub start: u32,

@@ -4,8 +4,9 @@ ghost use Rattle.ebpf.specs.Choice.{◌if◌else◌};
 ghost use Rattle.program.specs.Search.{search_result, Halved, left_of, narrowed, PassesTo};
 
 // `half` where a is at most b, else 0.
-// Kept: worked out, since in a loop a test becomes a branch, which is guessed wrong every second time: with
-// `half * (a <= b) as usize` a lookup of an index among 200 rows took 35 % longer.
+// Kept: worked out. `half * (a <= b) as usize` was tried: in a loop it becomes a branch, which is guessed wrong every
+// second time, and README's bar is that no branch of the search depends on the keys. The index of one of 65,536 keys
+// in 200 rows then takes 26.5 ns in place of 15.3, in 5,000 rows 56 in place of 31.
 #[tactic(auto, using(crate::proofs::Searches::half_where, crate::proofs::Searches::half_fits))]
 fn half_where(half: usize, a: u32, b: u32) -> usize
     ensures { result ≡ (half if leb a b else 0) }
@@ -68,8 +69,9 @@ fn narrow(ranks: &[u32], key: u32) -> usize
 
 // The binary search, which answers as std's: the place of `key`, or how many of the numbers are below it where
 // they ascend; on any others it is at most their count.
-// Kept: std's binary search says nothing of numbers that do not ascend, so that by its contract no proof can
-// close: a registration and a lookup promise an equation there too.
+// Kept: of numbers that do not ascend std's binary search says that the place is inside, and that an `Ok` holds the
+// key, but not which place it is, so that by its contract no proof can close: a registration and a lookup promise an
+// equation there too.
 #[tactic(auto, using(crate::proofs::Searches::search_none, crate::proofs::Searches::search_next, crate::proofs::Searches::search_here, crate::proofs::Searches::search_before))]
 pub(crate) fn binary_search(ranks: &[u32], key: u32) -> Result<usize, usize>
     ensures is { result ≡ search_result key ranks.now }

@@ -5,5 +5,5 @@ use Rattle.elf_parser.proofs.table.Table.first_with.Given as goal
 
 abbrev pub invariant-loop-i : goal.invariant-loop-i
 invariant-loop-i g l =
-    first_with g.passes (g.T.Record.at l.self.file.now) g.T.Record.SIZE l.self.count l.self.offset
-    ≡ later g.passes (g.T.Record.at l.self.file.now) g.T.Record.SIZE l.self.count l.self.offset l.i
+    first_with g.passes (g.T.Record.at l.self.file.now) g.T.Record.SIZE l.self.entries.count l.self.entries.offset
+    ≡ later g.passes (g.T.Record.at l.self.file.now) g.T.Record.SIZE l.self.entries.count l.self.entries.offset l.i

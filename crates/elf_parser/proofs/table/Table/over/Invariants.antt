@@ -5,5 +5,5 @@ use Rattle.elf_parser.proofs.table.Table.over.Given as goal
 
 abbrev pub invariant-loop-i : goal.invariant-loop-i
 invariant-loop-i g l =
-    over g.stepped g.T.Record.SIZE l.self.count l.self.offset l.fn.first
-    ≡ rest g.stepped g.T.Record.SIZE l.self.count l.self.offset l.i l.state
+    over g.stepped g.T.Record.SIZE l.self.entries.count l.self.entries.offset l.fn.first
+    ≡ rest g.stepped g.T.Record.SIZE l.self.entries.count l.self.entries.offset l.i l.state
