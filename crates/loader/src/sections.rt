@@ -1,6 +1,6 @@
 // The sections of a file, their names, and what a load asks of all of them.
 ghost use Rattle.std.specs.Prelude.{◌≡◌, ◌≤◌, ◌<◌};
-ghost use Rattle.loader.specs.Sections.{section_at, starts_with, unsupported, no_survey, survey_named};
+ghost use Rattle.loader.specs.Sections.{section_at, starts_with, unsupported, survey_named};
 
 use elf_parser::types::Elf64Shdr;
 use elf_parser::{Elf64, past};
@@ -34,25 +34,12 @@ fn is_unsupported(name: &[u8], sh_flags: u64) -> bool
 
 // What is known of the sections so far: how many are named .text, and the first of them; whether
 // one is not supported, the sh_name of the first such; whether one does not lie in the file.
-#[derive(Clone, Copy, PartialEq, Eq, Debug)]
+#[derive(Clone, Copy, PartialEq, Eq, Debug, Default)]
 pub struct Survey {
     pub texts: u32,
     pub text: u32,
     pub unsupported: Option<u32>,
     pub outside: bool,
-}
-
-// Before the first section.
-// Kept: written out, beside the definition of the same fields; `Default` would hide them and promise no more.
-pub(crate) fn no_survey() -> Survey
-    ensures { result ≡ no_survey }
-{
-    Survey {
-        texts: 0,
-        text: 0,
-        unsupported: None,
-        outside: false,
-    }
 }
 
 // With one section more, of that header and name, in a file of `len` bytes.
