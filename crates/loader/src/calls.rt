@@ -185,8 +185,10 @@ fn register_slots(
 {
     let text = inputs.text();
     let mut next = from;
-    // Kept: a turn goes on at the next call, and not at the next slot. An iterator over the calls would be
-    // a struct of these three words whose `next` finds the next call: more lines, and no plainer.
+    // Kept: a turn goes on at the next call, and not at the next slot. `for` over `std::iter::successors` was tried,
+    // and the proof didn't close: the library gives that iterator no end, so a `for` over it asks for `⊥`; with
+    // `take(to - from)` behind it, which only the proof needs, the proof of `can_next`, over each run of the closure,
+    // was left open.
     while let Some(i) = next_call(text, next, to) {
         call_step(out, seen, inputs, i)?;
         next = i + 1;
