@@ -9,7 +9,7 @@ use Rattle.loader.specs.declared.error.ElfError.TheVariants.{TextOutsideReadOnly
 use Rattle.loader.specs.declared.answer.Accepted.{Accepted}
 use Rattle.elf_parser.specs.declared.parts.Place.{Place}
 use Rattle.elf_parser.specs.Parts.{part_of}
-use Rattle.loader.specs.Results.{not_ok, ◌then◌}
+use Rattle.elf_parser.specs.Errors.{apart, ◌then◌}
 use Rattle.loader.specs.Addresses.{MM_PROGRAM_START}
 
 -- the text's place among its read-only bytes: its address, less the program's start, less their offset from there
@@ -70,23 +70,23 @@ lent_now a image ro lent is = ap (λ (x : Bor (List ℕ)). x.now) is ∙ now_of 
 pub text_within : (lent offset start n addr size : ℕ) (p : Place) → text_place lent offset start n addr size ≡ Ok p → p.start + p.length ≤ lent
 unfolding text_place
 text_within lent offset start n addr size p e =
-    let e1 = row_rest _ _ _ _ (not_ok _ _) e in
-    let e2 = row_rest _ _ _ _ (not_ok _ _) e1 in
+    let e1 = row_rest _ _ _ _ (apart _ _) e in
+    let e2 = row_rest _ _ _ _ (apart _ _) e1 in
     let at : start + text_at addr offset ≡ p.start = cc in
     let k : size ≡ p.length = cc in
-    let h1 = ltb-false lent (start + n) (not_first _ _ _ _ (not_ok _ _) e) in
-    let h2 = ltb-false n (text_at addr offset + size) (not_first _ _ _ _ (not_ok _ _) e1) in
+    let h1 = ltb-false lent (start + n) (not_first _ _ _ _ (apart _ _) e) in
+    let h2 = ltb-false n (text_at addr offset + size) (not_first _ _ _ _ (apart _ _) e1) in
     omega arith
 
 -- where the read-only bytes have a place, they end in the lent ones
 pub ro_fits : (lent start n : ℕ) (p : Place) → ro_place lent start n ≡ Ok p → start + n ≤ lent
 unfolding ro_place
-ro_fits lent start n p e = omega (arith, ltb-false lent (start + n) (not_first _ _ _ _ (not_ok _ _) e))
+ro_fits lent start n p e = omega (arith, ltb-false lent (start + n) (not_first _ _ _ _ (apart _ _) e))
 
 pub ro_within : (lent start n : ℕ) (p : Place) → ro_place lent start n ≡ Ok p → p.start + p.length ≤ lent
 unfolding ro_place
 ro_within lent start n p e =
-    let e1 = row_rest _ _ _ _ (not_ok _ _) e in
+    let e1 = row_rest _ _ _ _ (apart _ _) e in
     let at : start ≡ p.start = cc in
     let k : n ≡ p.length = cc in
     omega (arith, ro_fits lent start n p e)
