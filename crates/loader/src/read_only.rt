@@ -30,6 +30,8 @@ pub enum Placing {
 // What is known of the read-only sections so far: their lowest address and highest end, how many
 // bytes they have in all, whether an offset is invalid, the constant by which addresses are past file
 // offsets, once there is one, and the first, the last and the number of the sections.
+// Kept: `first` as a number, which counts where `many` is not 0. `can_borrow` subtracts it; an Option would need a number
+// there for the case that there is none.
 #[derive(Clone, Copy, PartialEq, Eq, Debug)]
 pub struct Extent {
     pub lowest: u64,

@@ -13,6 +13,8 @@ pub(crate) fn section_at(elf: &Elf64<'_>, index: u32) -> Elf64Shdr
     elf.section_header(index).unwrap_or_default()
 }
 
+// Kept: a function of its own around std's. With std's at each of the three calls the proof didn't close: the literal's
+// length is computed before the law of the library's test fits.
 #[tactic(auto, using(crate::specs::Sections::front_tested))]
 fn starts_with(name: &[u8], prefix: &[u8]) -> bool
     ensures { result ≡ starts_with name.now prefix.now }
@@ -34,6 +36,8 @@ fn is_unsupported(name: &[u8], sh_flags: u64) -> bool
 
 // What is known of the sections so far: how many are named .text, and the first of them; whether
 // one is not supported, the sh_name of the first such; whether one does not lie in the file.
+// Kept: `text` as a number, 0 where none is named .text. It is asked for where one is, and an Option would be taken apart
+// there, with a number for the case that is not.
 #[derive(Clone, Copy, PartialEq, Eq, Debug, Default)]
 pub struct Survey {
     pub texts: u32,
