@@ -216,7 +216,7 @@ struct PlacedRelocation<'a> {
 impl PlacedRelocation<'_> {
     // Whether `n` bytes from `at` on end past the image.
     // Kept: a test, with the refusal and `as usize` where it is asked. A method that gives the place or refuses, by `?`, is
-    // no plainer: the definitions have test and refusal as a row, and each of the four would need a law for that way out.
+    // no plainer: the definitions have test and refusal as a row, and each of the five would need a law for that way out.
     fn is_past(&self, at: u64, n: u64) -> bool
         ensures { result ≡ ltb (length self.now.image.now) (at + n) }
     {
