@@ -44,7 +44,7 @@ and_then (Err r) f = Err r
 
 -- one check after another: the first refusal counts
 infixr 3 ◌then◌
-abbrev pub ◌then◌ : Check → Check → Check
+abbrev pub ◌then◌ : {A B E : Type 0} → Result A E → Result B E → Result B E
 a then b = and_then a (λ x. b)
 
 pub then_stop : (a b : Check) (r : ElfParserError) → a ≡ Err r → Err r ≡ (a then b)

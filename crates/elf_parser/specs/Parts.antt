@@ -15,7 +15,7 @@ unfoldable pub bytes_at : List ℕ → ℕ → ℕ → List ℕ
 bytes_at s start n = take n (drop start s) if leb (start + n) (length s) else []
 
 -- the bytes at a place, none where it is refused
-abbrev pub part_of : List ℕ → Result Place ElfParserError → List ℕ
+abbrev pub part_of : {E : Type 0} → List ℕ → Result Place E → List ℕ
 part_of s (Ok p) = bytes_at s p.start p.length
 part_of s (Err r) = []
 

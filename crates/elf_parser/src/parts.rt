@@ -2,8 +2,6 @@
 ghost use Rattle.std.specs.Prelude.{◌≡◌, ◌+◌, ltb};
 ghost use Rattle.elf_parser.specs.Parts.{bytes_at, part_of};
 
-use crate::error::ElfParserError;
-
 // Where a name or a section's contents stand in the file.
 #[derive(Clone, Copy, PartialEq, Eq, Debug, Default)]
 pub struct Place {
@@ -26,7 +24,7 @@ pub fn bytes_at(file: &[u8], place: Place) -> &[u8]
 }
 
 // The bytes at a place; none where it is refused, or does not lie in the file.
-pub fn part_of(file: &[u8], place: Result<Place, ElfParserError>) -> &[u8]
+pub fn part_of<E: Copy>(file: &[u8], place: Result<Place, E>) -> &[u8]
     ensures { result.now ≡ part_of file.now place }
 {
     place.map_or(&file[..0], |place| bytes_at(file, place))

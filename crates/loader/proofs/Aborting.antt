@@ -18,7 +18,7 @@ use Rattle.elf_parser.specs.declared.types.Elf64Shdr.{Elf64Shdr}
 use Rattle.elf_parser.specs.declared.layout.Layout.{Layout}
 use Rattle.elf_parser.specs.Types.{file_header, SHT_NOBITS}
 use Rattle.elf_parser.specs.Parse.{parsed}
-use Rattle.elf_parser.specs.Errors.{and_then}
+use Rattle.elf_parser.specs.Errors.{and_then, apart, ◌then◌}
 use Rattle.elf_parser.specs.Records.{file_range, section_header_of, file_range_of, range_stands}
 use Rattle.elf_parser.specs.SectionNames.{same_bytes}
 use Rattle.program.proofs.Cases.{by_test, by_le}
@@ -31,7 +31,7 @@ use Rattle.loader.specs.declared.read_only.Extent.{Extent}
 use Rattle.loader.specs.declared.sections.Survey.{Survey}
 use Rattle.loader.specs.declared.validate.Config.{Config}
 use Rattle.loader.specs.declared.validate.Job.{Job}
-use Rattle.loader.specs.Results.{not_ok, ◌then◌, then_both, then_ok}
+use Rattle.loader.specs.Results.{then_both, then_ok}
 use Rattle.loader.specs.Addresses.{sum_up_to, machine_addr, MM_PROGRAM_START, MM_STACK_START}
 use Rattle.loader.specs.Sections.{header_or, section_at, name_of, dot_text, outside_file, survey_step, survey_from, no_survey, survey}
 use Rattle.loader.specs.ReadOnly.{shift_of, read_only, gathered, from_start, placing}
@@ -99,12 +99,12 @@ text_stands len e (Err r) below lies = absurd (omega (arith, below))
 optimized : (h : Elf64Ehdr) (c : Config) (version2 : Bool) → header_check h c version2 ≡ Ok tt → version2 ≡ true → c.optimize_rodata ≡ true
 unfolding header_check
 optimized h c version2 e on =
-    let e1 = row_rest _ _ _ _ (not_ok _ _) e in
-    let e2 = row_rest _ _ _ _ (not_ok _ _) e1 in
-    let e3 = row_rest _ _ _ _ (not_ok _ _) e2 in
-    let e4 = row_rest _ _ _ _ (not_ok _ _) e3 in
-    let e5 = row_rest _ _ _ _ (not_ok _ _) e4 in
-    not-false _ (and_false version2 _ (not_first _ _ _ _ (not_ok _ _) e5) on)
+    let e1 = row_rest _ _ _ _ (apart _ _) e in
+    let e2 = row_rest _ _ _ _ (apart _ _) e1 in
+    let e3 = row_rest _ _ _ _ (apart _ _) e2 in
+    let e4 = row_rest _ _ _ _ (apart _ _) e3 in
+    let e5 = row_rest _ _ _ _ (apart _ _) e4 in
+    not-false _ (and_false version2 _ (not_first _ _ _ _ (apart _ _) e5) on)
 
 machine_1 : (addr : ℕ) → machine_addr false addr ≡ sum_up_to addr MM_PROGRAM_START
 unfolding machine_addr ◌if◌else◌
@@ -119,11 +119,11 @@ text_low : (version2 reject-broken : Bool) (e_entry : ℕ) (h : Elf64Shdr) → t
 unfolding text_check
 text_low true reject-broken e_entry h e off = absurd (true≢false off)
 text_low false reject-broken e_entry h e off =
-    let e1 = row_rest _ _ _ _ (not_ok _ _) e in
-    let e2 = row_rest _ _ _ _ (not_ok _ _) e1 in
-    let e3 = row_rest _ _ _ _ (not_ok _ _) e2 in
-    let e4 = row_rest _ _ _ _ (not_ok _ _) e3 in
-    let f : machine_addr false h.sh_addr ≤ MM_STACK_START = ltb-false _ _ (not_first _ _ _ _ (not_ok _ _) e4) in
+    let e1 = row_rest _ _ _ _ (apart _ _) e in
+    let e2 = row_rest _ _ _ _ (apart _ _) e1 in
+    let e3 = row_rest _ _ _ _ (apart _ _) e2 in
+    let e4 = row_rest _ _ _ _ (apart _ _) e3 in
+    let f : machine_addr false h.sh_addr ≤ MM_STACK_START = ltb-false _ _ (not_first _ _ _ _ (apart _ _) e4) in
     let q = machine_1 h.sh_addr in
     omega (arith, f, q)
 
@@ -190,14 +190,14 @@ validated_text s c l j e = subst (Texts s c) done.1 (record {
     below = text_passes version2 c.reject_broken_elfs h.e_entry text (then_both (sections_check s l v) (text_check version2 c.reject_broken_elfs h.e_entry text) tt rest).1
 
 parsed_text : (s : List ℕ) (c : Config) (p : Result Layout ElfParserError) (j : Job) → parsed_then s c p ≡ Ok j → Texts s c j
-parsed_text s c (Err r) j e = absurd (not_ok _ _ e)
+parsed_text s c (Err r) j e = absurd (apart _ _ e)
 parsed_text s c (Ok l) j e = validated_text s c l j e
 
 prepared_text : (s builtins : List ℕ) (c : Config) (n m : ℕ) (j : Job) → prepared s builtins c n m ≡ Ok j → Texts s c j
 unfolding prepared
 prepared_text s builtins c n m j e =
     let w = (then_both (size_check (length s) n m) (Err BuiltinsNotAscending if not (ascends builtins) else parsed_then s c (parsed s)) j e).1 in
-    parsed_text s c (parsed s) j (row_rest _ _ _ _ (not_ok _ _) w)
+    parsed_text s c (parsed s) j (row_rest _ _ _ _ (apart _ _) w)
 
 -- ---- the places, by the numbers of an answer
 

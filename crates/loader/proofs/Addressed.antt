@@ -11,25 +11,21 @@ use Rattle.ebpf.specs.LittleEndian.{le}
 use Rattle.elf_parser.specs.declared.error.ElfParserError.{ElfParserError}
 use Rattle.elf_parser.specs.declared.layout.Layout.{Layout}
 use Rattle.elf_parser.specs.declared.types.Elf64Sym.{Elf64Sym}
+use Rattle.elf_parser.specs.Errors.{and_then}
 use Rattle.elf_parser.specs.Records.{dynamic_symbol_of}
-use Rattle.loader.specs.declared.deeds.Deed.{Deed}
 use Rattle.loader.specs.declared.error.ElfError.{ElfError}
 use Rattle.loader.specs.declared.error.ElfError.TheVariants.{ValueOutOfBounds}
 use Rattle.loader.specs.Addresses.{sum_up_to}
 use Rattle.loader.specs.Relocations.{immediate_at, halves_deed, word_deed, address_by, symbol_address, address_deed, symbol_deed, plan6464}
 
-abbrev writes : Result ℕ ElfError → (ℕ → Result Deed ElfError) → Result Deed ElfError
-writes (Ok a) deed = deed a
-writes (Err e) deed = Err e
-
 module _ (s im : List ℕ) (l : Layout) (r number : ℕ) (addend : Option ℕ) where
-  by_address : (split : Bool) (at : ℕ) → at ≡ (immediate_at r if split else r) → plan6464 s im l split r number addend ≡ writes (symbol_address s im l at number addend) (address_deed (length im) split at)
+  by_address : (split : Bool) (at : ℕ) → at ≡ (immediate_at r if split else r) → plan6464 s im l split r number addend ≡ and_then (symbol_address s im l at number addend) (address_deed (length im) split at)
   unfolding plan6464 symbol_address ◌if◌else◌
   by_address split at e = rw e (go (ltb (length im) ((immediate_at r if split else r) + 4)) (dynamic_symbol_of s l number))
     where
       go : (b : Bool) (y : Result Elf64Sym ElfParserError)
           → (Err ValueOutOfBounds if b else symbol_deed (length im) split (immediate_at r if split else r) (unwrap_or addend (le 4 im (immediate_at r if split else r))) number y)
-          ≡ writes (Err ValueOutOfBounds if b else address_by (unwrap_or addend (le 4 im (immediate_at r if split else r))) number y) (address_deed (length im) split (immediate_at r if split else r))
+          ≡ and_then (Err ValueOutOfBounds if b else address_by (unwrap_or addend (le 4 im (immediate_at r if split else r))) number y) (address_deed (length im) split (immediate_at r if split else r))
       go true y = refl
       go false (Ok y) = refl
       go false (Err e) = refl

@@ -23,7 +23,6 @@ use Rattle.program.proofs.Cases.{by_test}
 use Rattle.loader.specs.declared.read_only.Placing.TheVariants.{Borrowed, Owned}
 use Rattle.loader.specs.declared.error.ElfError.{ElfError}
 use Rattle.loader.specs.declared.read_only.Extent.{Extent}
-use Rattle.loader.specs.Results.{not_ok}
 use Rattle.loader.specs.Addresses.{MM_PROGRAM_START, MM_STACK_START}
 use Rattle.loader.specs.Sections.{header_or, section_at, name_of}
 use Rattle.loader.specs.ReadOnly.{read_only, gives, invalid_by, end_of, grown, taken, taken_at, gather_step, nothing, gathered, from_start, can_borrow, shift_of, borrowed, owned, placed, placing_by, placing}
@@ -155,9 +154,9 @@ module _ (version2 : Bool) (i : ℕ) (h : Elf64Shdr) (n : ℕ) (x : Extent) wher
   taken_grows : (reject-broken : Bool) (z : Extent) → taken version2 reject-broken i h n x ≡ Ok z → (h.sh_addr ≤ MM_STACK_START) × (grown version2 i h.sh_addr h.sh_offset n x ≡ z)
   unfolding taken
   taken_grows reject-broken z e =
-      let e1 = row_rest _ _ _ _ (not_ok _ _) e in
-      let e2 : Ok (grown version2 i h.sh_addr h.sh_offset n x) ≡ Ok z = row_rest _ _ _ _ (not_ok _ _) e1 in
-      let f = ltb-false MM_STACK_START (end_of version2 h.sh_addr h.sh_size) (not_first _ _ _ _ (not_ok _ _) e1) in
+      let e1 = row_rest _ _ _ _ (apart _ _) e in
+      let e2 : Ok (grown version2 i h.sh_addr h.sh_offset n x) ≡ Ok z = row_rest _ _ _ _ (apart _ _) e1 in
+      let f = ltb-false MM_STACK_START (end_of version2 h.sh_addr h.sh_size) (not_first _ _ _ _ (apart _ _) e1) in
       (end_ahead version2 h.sh_addr h.sh_size _ refl f, cc)
 
 -- ---- all sections, with one of them: the text's
@@ -198,7 +197,7 @@ module _ (s : List ℕ) (l : Layout) (version2 reject-broken : Bool) (count t k 
           let w : q ≡ p = cc in
           let r : k ≡ p.length = sym long ∙ ap (λ (z : Place). z.length) w in
           rw (same, r) (grown_inside version2 i (section_at s l i) p.length x ahead)
-  place_spans i x z below (Err r) at e g = absurd (not_ok _ _ e)
+  place_spans i x z below (Err r) at e g = absurd (apart _ _ e)
 
   step_spans : (i : ℕ) (x z : Extent) → i < count → gather_step s l version2 reject-broken i x ≡ Ok z → Spans s l version2 t k i x → Spans s l version2 t k (i + 1) z
   unfolding gather_step
@@ -239,14 +238,14 @@ module _ (s : List ℕ) (l : Layout) (version2 reject-broken : Bool) (count t k 
 
 not_owned : (len : ℕ) (optimize : Bool) (x : Extent) (a b n : ℕ) → owned len optimize x ≡ Ok (Borrowed a b n) → ⊥
 unfolding owned
-not_owned len optimize x a b n e = row_cases _ _ _ _ _ (λ t q. not_ok _ _ q) (λ t q. let z : ◌≡◌ {A = ℕ} 0 1 = cc in omega arith) e
+not_owned len optimize x a b n e = row_cases _ _ _ _ _ (λ t q. apart _ _ q) (λ t q. let z : ◌≡◌ {A = ℕ} 0 1 = cc in omega arith) e
 
 -- the offset of copied sections is their lowest address's
 owned_offset : (len : ℕ) (optimize : Bool) (x : Extent) (offset lowest n : ℕ) → owned len optimize x ≡ Ok (Owned offset lowest n) → offset ≡ from_start lowest
 unfolding owned
 owned_offset len optimize x offset lowest n e =
     let lo : ℕ = x.lowest if optimize else 0 in
-    let e1 : Ok (Owned (from_start lo) lo (x.highest - lo)) ≡ Ok (Owned offset lowest n) = row_rest _ _ _ _ (not_ok _ _) e in
+    let e1 : Ok (Owned (from_start lo) lo (x.highest - lo)) ≡ Ok (Owned offset lowest n) = row_rest _ _ _ _ (apart _ _) e in
     let p : lo ≡ lowest = cc in
     let q : from_start lo ≡ offset = cc in
     sym q ∙ ap from_start p
@@ -256,7 +255,7 @@ owned_lowest : (len : ℕ) (optimize : Bool) (x : Extent) (offset lowest n : ℕ
 unfolding owned
 owned_lowest len optimize x offset lowest n e =
     let lo : ℕ = x.lowest if optimize else 0 in
-    let e1 : Ok (Owned (from_start lo) lo (x.highest - lo)) ≡ Ok (Owned offset lowest n) = row_rest _ _ _ _ (not_ok _ _) e in
+    let e1 : Ok (Owned (from_start lo) lo (x.highest - lo)) ≡ Ok (Owned offset lowest n) = row_rest _ _ _ _ (apart _ _) e in
     let p : lo ≡ lowest = cc in
     sym p
 
@@ -270,9 +269,9 @@ module _ (len : ℕ) (version2 reject-broken optimize : Bool) (x : Extent) (offs
   placed_owned : placed len version2 reject-broken optimize x ≡ Ok (Owned offset at n) → (version2 ≡ true → optimize ≡ true) → (version2 ≡ false) × (offset ≡ from_start at)
   unfolding placed
   placed_owned e on =
-      let e1 = row_rest _ _ _ _ (not_ok _ _) e in
-      let e2 = row_rest _ _ _ _ (not_ok _ _) e1 in
-      let a = not_first _ _ _ _ (not_ok _ _) e1 in
+      let e1 = row_rest _ _ _ _ (apart _ _) e in
+      let e2 = row_rest _ _ _ _ (apart _ _) e1 in
+      let a = not_first _ _ _ _ (apart _ _) e1 in
       let b = not_first _ _ _ _ (not_borrowed version2 x offset at n) e2 in
       let e3 = row_rest _ _ _ _ (not_borrowed version2 x offset at n) e2 in
       (never_copied version2 optimize (can_borrow x) a b on, owned_offset len optimize x offset at n e3)
@@ -292,8 +291,8 @@ can_valid x e = not-true _ (and_left _ _ e)
 borrowed_stays : (version2 : Bool) (x : Extent) (offset start n : ℕ) → x.invalid ≡ false → borrowed version2 x ≡ Ok (Borrowed offset start n) → Stays version2 x offset start n
 unfolding borrowed
 borrowed_stays version2 x offset start n v e =
-    let e1 : Ok (Borrowed (from_start x.lowest) (x.lowest - shift_of x) ((x.highest - shift_of x) - (x.lowest - shift_of x))) ≡ Ok (Borrowed offset start n) = row_rest _ _ _ _ (not_ok _ _) e in
-    let f = not_first _ _ _ _ (not_ok _ _) e in
+    let e1 : Ok (Borrowed (from_start x.lowest) (x.lowest - shift_of x) ((x.highest - shift_of x) - (x.lowest - shift_of x))) ≡ Ok (Borrowed offset start n) = row_rest _ _ _ _ (apart _ _) e in
+    let f = not_first _ _ _ _ (apart _ _) e in
     record {
       valid = v;
       above = λ on. ltb-false _ _ (and_false version2 _ f on);
@@ -305,8 +304,8 @@ borrowed_stays version2 x offset start n v e =
 placed_stays : (len : ℕ) (version2 reject-broken optimize : Bool) (x : Extent) (offset start n : ℕ) → placed len version2 reject-broken optimize x ≡ Ok (Borrowed offset start n) → Stays version2 x offset start n
 unfolding placed
 placed_stays len version2 reject-broken optimize x offset start n e =
-    let e1 = row_rest _ _ _ _ (not_ok _ _) e in
-    let e2 = row_rest _ _ _ _ (not_ok _ _) e1 in
+    let e1 = row_rest _ _ _ _ (apart _ _) e in
+    let e2 = row_rest _ _ _ _ (apart _ _) e1 in
     row_cases _ _ _ _ _ (λ b q. borrowed_stays version2 x offset start n (can_valid x (and_right optimize _ b)) q) (λ b q. absurd (not_owned len optimize x offset start n q)) e2
 
 module _ (s : List ℕ) (l : Layout) (count : ℕ) (version2 reject-broken optimize : Bool) (offset at n : ℕ) where
@@ -317,7 +316,7 @@ module _ (s : List ℕ) (l : Layout) (count : ℕ) (version2 reject-broken optim
     where
       go : (g : Result Extent ElfError) → placing_by (length s) version2 reject-broken optimize g ≡ Ok (Owned offset at n) → (version2 ≡ false) × (offset ≡ from_start at)
       go (Ok x) q = placed_owned (length s) version2 reject-broken optimize x offset at n q on
-      go (Err r) q = absurd (not_ok _ _ q)
+      go (Err r) q = absurd (apart _ _ q)
 
   -- where they stay in the image, they are all those that were gathered
   pub stays : placing s l count version2 reject-broken optimize ≡ Ok (Borrowed offset at n)
@@ -330,7 +329,7 @@ module _ (s : List ℕ) (l : Layout) (count : ℕ) (version2 reject-broken optim
           → placing_by (length s) version2 reject-broken optimize t ≡ Ok (Borrowed offset at n)
           → (x : Extent) × (gathered s l count version2 reject-broken ≡ Ok x) × Stays version2 x offset at n
       go (Ok x) h q = (x, h, placed_stays (length s) version2 reject-broken optimize x offset at n q)
-      go (Err r) h q = absurd (not_ok _ _ q)
+      go (Err r) h q = absurd (apart _ _ q)
 
   -- where they are copied, it is from their lowest address on, or from 0 on where this is not optimized
   pub copied_lowest : placing s l count version2 reject-broken optimize ≡ Ok (Owned offset at n) → (x : Extent) × (gathered s l count version2 reject-broken ≡ Ok x) × (at ≡ (x.lowest if optimize else 0))
@@ -340,7 +339,7 @@ module _ (s : List ℕ) (l : Layout) (count : ℕ) (version2 reject-broken optim
       go : (g : Result Extent ElfError) → gathered s l count version2 reject-broken ≡ g → placing_by (length s) version2 reject-broken optimize g ≡ Ok (Owned offset at n)
           → (x : Extent) × (gathered s l count version2 reject-broken ≡ Ok x) × (at ≡ (x.lowest if optimize else 0))
       go (Ok x) h q =
-          let e1 = row_rest _ _ _ _ (not_ok _ _) q in
-          let e2 = row_rest _ _ _ _ (not_ok _ _) e1 in
+          let e1 = row_rest _ _ _ _ (apart _ _) q in
+          let e2 = row_rest _ _ _ _ (apart _ _) e1 in
           (x, h, owned_lowest (length s) optimize x offset at n (row_rest _ _ _ _ (not_borrowed version2 x offset at n) e2))
-      go (Err r) h q = absurd (not_ok _ _ q)
+      go (Err r) h q = absurd (apart _ _ q)

@@ -13,7 +13,7 @@ use Rattle.elf_parser.specs.declared.error.ElfParserError.TheVariants.{InvalidFi
 use Rattle.elf_parser.specs.declared.types.Elf64Ehdr.{Elf64Ehdr}
 use Rattle.elf_parser.specs.declared.types.Elf64Shdr.{Elf64Shdr}
 use Rattle.elf_parser.specs.declared.layout.Layout.{Layout}
-use Rattle.elf_parser.specs.Errors.{and_then}
+use Rattle.elf_parser.specs.Errors.{and_then, ◌then◌}
 use Rattle.elf_parser.specs.Loops.{over}
 use Rattle.elf_parser.specs.Names.{section_name}
 use Rattle.elf_parser.specs.Parse.{parsed}
@@ -27,7 +27,6 @@ use Rattle.loader.specs.declared.sections.Survey.{Survey}
 use Rattle.loader.specs.declared.read_only.Extent.{Extent}
 use Rattle.loader.specs.declared.validate.Config.{Config}
 use Rattle.loader.specs.declared.validate.Job.{Job}
-use Rattle.loader.specs.Results.{◌then◌}
 use Rattle.loader.specs.Errors.{from_parser}
 use Rattle.loader.specs.Sections.{section_at, survey}
 use Rattle.loader.specs.ReadOnly.{taken, taken_at, gather_step, nothing, gathered, borrowed, owned, placed, placing_by, placing}

@@ -22,7 +22,8 @@ use Rattle.loader.specs.declared.error.ElfError.TheVariants.{BuiltinsNotAscendin
 use Rattle.loader.specs.declared.sections.Survey.{Survey}
 use Rattle.loader.specs.declared.validate.Config.{Config}
 use Rattle.loader.specs.declared.validate.Job.{Job}
-use Rattle.loader.specs.Results.{not_ok, ◌then◌, then_both, then_ok}
+use Rattle.elf_parser.specs.Errors.{apart, ◌then◌}
+use Rattle.loader.specs.Results.{then_both, then_ok}
 use Rattle.loader.specs.Addresses.{sum_up_to}
 use Rattle.loader.specs.Sections.{section_at, name_of, dot_text, outside_file, survey_step, survey_from, no_survey, survey}
 use Rattle.loader.specs.ReadOnly.{placing}
@@ -75,24 +76,24 @@ survey_lies s l n = from_lies s l n 0 no_survey (λ o t. absurd (t refl))
 size_passes : (len image ro : ℕ) → size_check len image ro ≡ Ok tt → (len ≤ 2 ^ 24) × (len ≤ image) × (len ≤ ro)
 unfolding size_check
 size_passes len image ro e =
-    let e2 = row_rest _ _ _ _ (not_ok _ _) e in
-    let e3 = row_rest _ _ _ _ (not_ok _ _) e2 in
-    (ltb-false _ _ (not_first _ _ _ _ (not_ok _ _) e), ltb-false _ _ (not_first _ _ _ _ (not_ok _ _) e2), ltb-false _ _ (not_first _ _ _ _ (not_ok _ _) e3))
+    let e2 = row_rest _ _ _ _ (apart _ _) e in
+    let e3 = row_rest _ _ _ _ (apart _ _) e2 in
+    (ltb-false _ _ (not_first _ _ _ _ (apart _ _) e), ltb-false _ _ (not_first _ _ _ _ (apart _ _) e2), ltb-false _ _ (not_first _ _ _ _ (apart _ _) e3))
 
 pub sections_pass : (s : List ℕ) (l : Layout) (v : Survey) → sections_check s l v ≡ Ok tt → (v.texts ≡ 1) × (v.outside ≡ false)
 unfolding sections_check
 sections_pass s l v e =
-    let e2 = row_rest _ _ _ _ (not_ok _ _) e in
-    let e3 = row_rest _ _ _ _ (not_ok _ _) e2 in
-    (eqb-true _ _ (not-false _ (not_first _ _ _ _ (not_ok _ _) e)), not_first _ _ _ _ (not_ok _ _) e3)
+    let e2 = row_rest _ _ _ _ (apart _ _) e in
+    let e3 = row_rest _ _ _ _ (apart _ _) e2 in
+    (eqb-true _ _ (not-false _ (not_first _ _ _ _ (apart _ _) e)), not_first _ _ _ _ (apart _ _) e3)
 
 pub text_passes : (version2 reject-broken : Bool) (e_entry : ℕ) (h : Elf64Shdr)
     → text_check version2 reject-broken e_entry h ≡ Ok tt
     → e_entry < h.sh_addr + h.sh_size
 unfolding text_check
 text_passes version2 reject-broken e_entry h e =
-    let e2 = row_rest _ _ _ _ (not_ok _ _) e in
-    let below : e_entry < sum_up_to h.sh_addr h.sh_size = leb-false _ _ (not_first _ _ _ _ (not_ok _ _) e2) in
+    let e2 = row_rest _ _ _ _ (apart _ _) e in
+    let below : e_entry < sum_up_to h.sh_addr h.sh_size = leb-false _ _ (not_first _ _ _ _ (apart _ _) e2) in
     omega (arith, below)
 
 -- ---- the job
@@ -154,7 +155,7 @@ validated_in s c l j q short e = subst (InFile s) done.1 (job_in s c version2 l 
     below = text_passes version2 c.reject_broken_elfs h.e_entry text (then_both (sections_check s l v) (text_check version2 c.reject_broken_elfs h.e_entry text) tt rest).1
 
 parsed_in : (s : List ℕ) (c : Config) (p : Result Layout ElfParserError) (j : Job) → parsed s ≡ p → length s ≤ 2 ^ 24 → parsed_then s c p ≡ Ok j → InFile s j
-parsed_in s c (Err r) j q short e = absurd (not_ok _ _ e)
+parsed_in s c (Err r) j q short e = absurd (apart _ _ e)
 parsed_in s c (Ok l) j q short e = validated_in s c l j q short e
 
 pub readied : (s builtins : List ℕ) (c : Config) (image ro : ℕ) (j : Job)
@@ -164,8 +165,8 @@ unfolding prepared
 readied s builtins c image ro j e =
     let w = then_both (size_check (length s) image ro) (Err BuiltinsNotAscending if not (ascends builtins) else parsed_then s c (parsed s)) j e in
     let sizes = size_passes (length s) image ro w.0 in
-    let up = not-false (ascends builtins) (not_first _ _ _ _ (not_ok _ _) w.1) in
-    let inside = parsed_in s c (parsed s) j refl sizes.0 (row_rest _ _ _ _ (not_ok _ _) w.1) in
+    let up = not-false (ascends builtins) (not_first _ _ _ _ (apart _ _) w.1) in
+    let inside = parsed_in s c (parsed s) j refl sizes.0 (row_rest _ _ _ _ (apart _ _) w.1) in
     (inside, sizes.1, sizes.2, up)
 
 -- ---- how the job's read-only sections are placed
@@ -183,7 +184,7 @@ validated_placed s c l j e =
 
 parsed_placed : (s : List ℕ) (c : Config) (p : Result Layout ElfParserError) (j : Job) → parsed_then s c p ≡ Ok j
     → j.placing ≡ placing s j.layout (file_header s).e_shnum (is_version2 (file_header s)) c.reject_broken_elfs c.optimize_rodata
-parsed_placed s c (Err r) j e = absurd (not_ok _ _ e)
+parsed_placed s c (Err r) j e = absurd (apart _ _ e)
 parsed_placed s c (Ok l) j e = validated_placed s c l j e
 
 pub placed_as : (s builtins : List ℕ) (c : Config) (image ro : ℕ) (j : Job) → prepared s builtins c image ro ≡ Ok j
@@ -191,4 +192,4 @@ pub placed_as : (s builtins : List ℕ) (c : Config) (image ro : ℕ) (j : Job) 
 unfolding prepared
 placed_as s builtins c image ro j e =
     let w = then_both (size_check (length s) image ro) (Err BuiltinsNotAscending if not (ascends builtins) else parsed_then s c (parsed s)) j e in
-    parsed_placed s c (parsed s) j (row_rest _ _ _ _ (not_ok _ _) w.1)
+    parsed_placed s c (parsed s) j (row_rest _ _ _ _ (apart _ _) w.1)

@@ -19,7 +19,7 @@ use Rattle.loader.specs.declared.validate.Job.{Job}
 use Rattle.std.specs.Prelude.{Some, None, Ok, Err, Result}
 use Rattle.loader.specs.declared.error.ElfError.{ElfError}
 use Rattle.loader.specs.declared.error.ElfError.TheVariants.{RelativeJumpOutOfBounds}
-use Rattle.loader.specs.Results.{not_ok}
+use Rattle.elf_parser.specs.Errors.{apart}
 use Rattle.loader.specs.Functions.{row_for}
 use Rattle.loader.specs.Calls.{inside, target, call_of, local_call_in, call_in, call_at, text_of, slot_count, calls}
 use Rattle.loader.specs.Demand.{LocalCall, CallsTo, key_of}
@@ -52,18 +52,18 @@ target_by P count i imm p q =
     (λ g. p (i + 1 + imm - 0x1_0000_0000)))
 
 target_lt : (count i imm to : ℕ) → target count i imm ≡ Ok to → to < count
-target_lt count i imm to = target_by (λ x. x ≡ Ok to → to < count) count i imm (λ u. inside_lt count i u to) (λ e. absurd (not_ok _ _ e))
+target_lt count i imm to = target_by (λ x. x ≡ Ok to → to < count) count i imm (λ u. inside_lt count i u to) (λ e. absurd (apart _ _ e))
 
 target_not : (count i imm : ℕ) (r : ElfError) → target count i imm ≡ Err r → RelativeJumpOutOfBounds i ≡ r
 target_not count i imm r = target_by (λ x. x ≡ Err r → RelativeJumpOutOfBounds i ≡ r) count i imm (λ u. inside_not count i u r) (λ e. cc)
 
 some_called : (x : Result ℕ ElfError) (to : ℕ) → calls x ≡ Ok (Some to) → x ≡ Ok to
 some_called (Ok n) to e = let s : n ≡ to = cc in ap Ok s
-some_called (Err r) to e = absurd (not_ok _ _ e)
+some_called (Err r) to e = absurd (apart _ _ e)
 
 not_called : (x : Result ℕ ElfError) → calls x ≡ Ok None → ⊥
 not_called (Ok n) e = zero_one (cc)
-not_called (Err r) e = not_ok _ _ e
+not_called (Err r) e = apart _ _ e
 
 none_called : (x : Result ℕ ElfError) (r : ElfError) → calls x ≡ Err r → x ≡ Err r
 none_called (Ok n) r e = absurd (zero_one (cc))

@@ -1,5 +1,5 @@
 -- The read-only bytes of an accepted load, and the text among them: `get_ro_section`, `get_text_bytes`.
-use Rattle.std.specs.Prelude.{ℕ, ◌+◌, ◌-◌, ◌≤◌, ◌≡◌, List, [], length, take, drop, ltb, Bool, true, false, is_none, unwrap_or, Result, Ok, Err, refl}
+use Rattle.std.specs.Prelude.{ℕ, ◌+◌, ◌-◌, ◌≤◌, ◌≡◌, List, length, ltb, Bool, true, false, is_none, unwrap_or, Result, Ok, Err, refl}
 use Rattle.std.specs.Borrow.{Bor}
 use Rattle.std.proofs.Common.{arith, ap, ◌∙◌, ltb-false}
 use Rattle.ebpf.specs.Choice.{◌if◌else◌, not_first, row_rest}
@@ -8,7 +8,8 @@ use Rattle.loader.specs.declared.error.ElfError.{ElfError}
 use Rattle.loader.specs.declared.error.ElfError.TheVariants.{TextOutsideReadOnly}
 use Rattle.loader.specs.declared.answer.Accepted.{Accepted}
 use Rattle.elf_parser.specs.declared.parts.Place.{Place}
-use Rattle.loader.specs.Results.{not_ok}
+use Rattle.elf_parser.specs.Parts.{part_of}
+use Rattle.elf_parser.specs.Errors.{apart, ◌then◌}
 use Rattle.loader.specs.Addresses.{MM_PROGRAM_START}
 
 -- the text's place among its read-only bytes: its address, less the program's start, less their offset from there
@@ -50,16 +51,6 @@ ro_of a lent = ro_place lent (ro_start_of a) a.ro_length
 abbrev pub text_place_of : Accepted → ℕ → Result Place ElfError
 text_place_of a lent = text_place lent a.ro_offset (ro_start_of a) a.ro_length a.text_addr a.text.length
 
--- the bytes at a place, none where it is refused
-abbrev pub part_of : List ℕ → Result Place ElfError → List ℕ
-part_of s (Ok p) = take p.length (drop p.start s)
-part_of s (Err r) = []
-
--- a place lies among so many bytes, or is refused
-abbrev pub LiesIn : ℕ → Result Place ElfError → Type 0
-LiesIn lent (Ok p) = p.start + p.length ≤ lent
-LiesIn lent (Err r) = Unit {0}
-
 -- the part that an accepted load's answer gives, of the lent image or of the lent buffer, by its place there
 abbrev pub part_for : Accepted → Shared → Shared → (ℕ → Result Place ElfError) → List ℕ
 part_for a image ro place = part_of (bytes_for a image ro) (place (length (bytes_for a image ro)))
@@ -79,29 +70,32 @@ lent_now a image ro lent is = ap (λ (x : Bor (List ℕ)). x.now) is ∙ now_of 
 pub text_within : (lent offset start n addr size : ℕ) (p : Place) → text_place lent offset start n addr size ≡ Ok p → p.start + p.length ≤ lent
 unfolding text_place
 text_within lent offset start n addr size p e =
-    let e1 = row_rest _ _ _ _ (not_ok _ _) e in
-    let e2 = row_rest _ _ _ _ (not_ok _ _) e1 in
+    let e1 = row_rest _ _ _ _ (apart _ _) e in
+    let e2 = row_rest _ _ _ _ (apart _ _) e1 in
     let at : start + text_at addr offset ≡ p.start = cc in
     let k : size ≡ p.length = cc in
-    let h1 = ltb-false lent (start + n) (not_first _ _ _ _ (not_ok _ _) e) in
-    let h2 = ltb-false n (text_at addr offset + size) (not_first _ _ _ _ (not_ok _ _) e1) in
+    let h1 = ltb-false lent (start + n) (not_first _ _ _ _ (apart _ _) e) in
+    let h2 = ltb-false n (text_at addr offset + size) (not_first _ _ _ _ (apart _ _) e1) in
     omega arith
+
+-- where the read-only bytes have a place, they end in the lent ones
+pub ro_fits : (lent start n : ℕ) (p : Place) → ro_place lent start n ≡ Ok p → start + n ≤ lent
+unfolding ro_place
+ro_fits lent start n p e = omega (arith, ltb-false lent (start + n) (not_first _ _ _ _ (apart _ _) e))
 
 pub ro_within : (lent start n : ℕ) (p : Place) → ro_place lent start n ≡ Ok p → p.start + p.length ≤ lent
 unfolding ro_place
 ro_within lent start n p e =
-    let e1 = row_rest _ _ _ _ (not_ok _ _) e in
+    let e1 = row_rest _ _ _ _ (apart _ _) e in
     let at : start ≡ p.start = cc in
     let k : n ≡ p.length = cc in
-    let h = ltb-false lent (start + n) (not_first _ _ _ _ (not_ok _ _) e) in
-    omega arith
+    omega (arith, ro_fits lent start n p e)
 
-lies_by : (lent : ℕ) (a : Result Place ElfError) → ((p : Place) → a ≡ Ok p → p.start + p.length ≤ lent) → LiesIn lent a
-lies_by lent (Ok p) h = h p refl
-lies_by lent (Err r) h = tt
-
-pub text_lies : (lent offset start n addr size : ℕ) → LiesIn lent (text_place lent offset start n addr size)
-text_lies lent offset start n addr size = lies_by lent (text_place lent offset start n addr size) (text_within lent offset start n addr size)
-
-pub ro_lies : (lent start n : ℕ) → LiesIn lent (ro_place lent start n)
-ro_lies lent start n = lies_by lent (ro_place lent start n) (ro_within lent start n)
+-- the text's place is asked where that of the read-only bytes is given
+pub text_behind : (lent offset start n addr size : ℕ) → text_place lent offset start n addr size ≡ (ro_place lent start n then (Err TextOutsideReadOnly if ltb n (text_at addr offset + size) else bytes_at (start + text_at addr offset) size))
+unfolding text_place ro_place ◌if◌else◌
+text_behind lent offset start n addr size = go (ltb lent (start + n))
+  where
+    go : (b : Bool) → (Err TextOutsideReadOnly if b else Err TextOutsideReadOnly if ltb n (text_at addr offset + size) else bytes_at (start + text_at addr offset) size) ≡ ((Err TextOutsideReadOnly if b else bytes_at start n) then (Err TextOutsideReadOnly if ltb n (text_at addr offset + size) else bytes_at (start + text_at addr offset) size))
+    go true = refl
+    go false = refl

@@ -15,12 +15,11 @@ use Rattle.ebpf.specs.Choice.{◌if◌else◌, no_go, not_first, row_rest, row_c
 use Rattle.elf_parser.specs.declared.layout.Layout.{Layout}
 use Rattle.elf_parser.specs.declared.types.Elf64Shdr.{Elf64Shdr}
 use Rattle.elf_parser.specs.Loops.{over}
-use Rattle.elf_parser.specs.Errors.{went}
+use Rattle.elf_parser.specs.Errors.{went, apart}
 use Rattle.elf_parser.specs.Records.{file_range_of, range_within}
 use Rattle.loader.specs.declared.read_only.Placing.TheVariants.{Owned}
 use Rattle.loader.specs.declared.error.ElfError.{ElfError}
 use Rattle.loader.specs.declared.read_only.Extent.{Extent}
-use Rattle.loader.specs.Results.{not_ok}
 use Rattle.loader.specs.Addresses.{sum_up_to, machine_addr, MM_PROGRAM_START, MM_STACK_START}
 use Rattle.loader.specs.Sections.{section_at, name_of}
 use Rattle.loader.specs.ReadOnly.{read_only, end_of, grown, taken, taken_at, gather_step, nothing, gathered, from_start, borrowed, owned, placed, placing_by, placing, copied_to, copied_at, copy_step}
@@ -56,7 +55,7 @@ module _ (image s : List ℕ) (l : Layout) (lowest : ℕ) where
 
 pub not_borrowed : (version2 : Bool) (x : Extent) (a b n : ℕ) → borrowed version2 x ≡ Ok (Owned a b n) → ⊥
 unfolding borrowed
-not_borrowed version2 x a b n e = row_cases _ _ _ _ _ (λ t q. not_ok _ _ q) (λ t q. let z : ◌≡◌ {A = ℕ} 0 1 = cc in omega arith) e
+not_borrowed version2 x a b n e = row_cases _ _ _ _ _ (λ t q. apart _ _ q) (λ t q. let z : ◌≡◌ {A = ℕ} 0 1 = cc in omega arith) e
 
 -- the bytes copied run from an address that no section lies below to the highest, and are not more than the file's
 pub record Runs (len lowest n : ℕ) (x : Extent) : Type 0 where
@@ -73,18 +72,18 @@ owned_runs : (len : ℕ) (optimize : Bool) (x : Extent) (offset lowest n : ℕ) 
 unfolding owned
 owned_runs len optimize x offset lowest n e =
     let lo : ℕ = x.lowest if optimize else 0 in
-    let e1 : Ok (Owned (from_start lo) lo (x.highest - lo)) ≡ Ok (Owned offset lowest n) = row_rest _ _ _ _ (not_ok _ _) e in
+    let e1 : Ok (Owned (from_start lo) lo (x.highest - lo)) ≡ Ok (Owned offset lowest n) = row_rest _ _ _ _ (apart _ _) e in
     let p : lo ≡ lowest = cc in
     let q : x.highest - lo ≡ n = cc in
-    let f = ltb-false len (x.highest - lo) (not_first _ _ _ _ (not_ok _ _) e) in
+    let f = ltb-false len (x.highest - lo) (not_first _ _ _ _ (apart _ _) e) in
     record { low = rw (← p) (or_zero optimize x.lowest); long = sym q ∙ ap (λ (k : ℕ). x.highest - k) p; fits = rw (← q) f }
 
 placed_runs : (len : ℕ) (version2 reject-broken optimize : Bool) (x : Extent) (offset lowest n : ℕ) → placed len version2 reject-broken optimize x ≡ Ok (Owned offset lowest n)
     → Runs len lowest n x
 unfolding placed
 placed_runs len version2 reject-broken optimize x offset lowest n e =
-    let e1 = row_rest _ _ _ _ (not_ok _ _) e in
-    let e2 = row_rest _ _ _ _ (not_ok _ _) e1 in
+    let e1 = row_rest _ _ _ _ (apart _ _) e in
+    let e2 = row_rest _ _ _ _ (apart _ _) e1 in
     owned_runs len optimize x offset lowest n (row_rest _ _ _ _ (not_borrowed version2 x offset lowest n) e2)
 
 -- ---- what each section has that was passed
@@ -119,10 +118,10 @@ end_ahead version2 addr size m e h =
 taken_inside : (version2 reject-broken : Bool) (i : ℕ) (h : Elf64Shdr) (k : ℕ) (x z : Extent) → taken version2 reject-broken i h k x ≡ Ok z → Wider x z × Inside h k z
 unfolding taken grown
 taken_inside version2 reject-broken i h k x z e =
-    let e1 = row_rest _ _ _ _ (not_ok _ _) e in
-    let e2 : Ok (grown version2 i h.sh_addr h.sh_offset k x) ≡ Ok z = row_rest _ _ _ _ (not_ok _ _) e1 in
+    let e1 = row_rest _ _ _ _ (apart _ _) e in
+    let e2 : Ok (grown version2 i h.sh_addr h.sh_offset k x) ≡ Ok z = row_rest _ _ _ _ (apart _ _) e1 in
     let p : grown version2 i h.sh_addr h.sh_offset k x ≡ z = cc in
-    let f = ltb-false MM_STACK_START (end_of version2 h.sh_addr h.sh_size) (not_first _ _ _ _ (not_ok _ _) e1) in
+    let f = ltb-false MM_STACK_START (end_of version2 h.sh_addr h.sh_size) (not_first _ _ _ _ (apart _ _) e1) in
     rw (← p) (record { lower = omega arith; higher = omega arith }, record { above = omega arith; below = omega arith; ahead = end_ahead version2 h.sh_addr h.sh_size _ refl f })
 
 at_inside : (version2 reject-broken : Bool) (i : ℕ) (h : Elf64Shdr) (x z : Extent) (p : Result Place ElfParserError) → taken_at version2 reject-broken i h x p ≡ Ok z
@@ -130,7 +129,7 @@ at_inside : (version2 reject-broken : Bool) (i : ℕ) (h : Elf64Shdr) (x z : Ext
 at_inside version2 reject-broken i h x z (Ok p) e =
     let t = taken_inside version2 reject-broken i h p.length x z e in
     (t.0, λ q r. let w : p ≡ q = cc in rw (← w) t.1)
-at_inside version2 reject-broken i h x z (Err r) e = absurd (not_ok _ _ e)
+at_inside version2 reject-broken i h x z (Err r) e = absurd (apart _ _ e)
 
 module _ (s : List ℕ) (l : Layout) (version2 reject-broken : Bool) where
   abbrev Has : ℕ → Extent → Type 0
@@ -177,7 +176,7 @@ module _ (s : List ℕ) (l : Layout) (count : ℕ) (version2 reject-broken optim
     where
       go : (g : Result Extent ElfError) → gathered s l count version2 reject-broken ≡ g → placing_by (length s) version2 reject-broken optimize g ≡ Ok (Owned offset lowest n) → n ≤ length s
       go (Ok x) h q = (placed_runs (length s) version2 reject-broken optimize x offset lowest n q).fits
-      go (Err r) h q = absurd (not_ok _ _ q)
+      go (Err r) h q = absurd (apart _ _ q)
 
   pub owned_room : length s ≤ 2 ^ 24
       → placing s l count version2 reject-broken optimize ≡ Ok (Owned offset lowest n)
@@ -199,7 +198,7 @@ module _ (s : List ℕ) (l : Layout) (count : ℕ) (version2 reject-broken optim
           let m = (all_inside s l version2 reject-broken count 0 nothing x h).1 i (omega arith) (omega arith) ro p at in
           let f = range_within s l i p at in
           record { in_file = f; not_below = omega arith; room = omega arith }
-      go (Err r) h q = absurd (not_ok _ _ q)
+      go (Err r) h q = absurd (apart _ _ q)
 
 -- so a turn of the copy is a paste
 pub copy_is_paste : (image s : List ℕ) (l : Layout) (lowest n i : ℕ) (p : Place) (ro : List ℕ)

@@ -15,7 +15,7 @@ use Rattle.loader.specs.declared.error.ElfError.TheVariants.{FailedToParse, Entr
 use Rattle.loader.specs.declared.sections.Survey.{Survey}
 use Rattle.loader.specs.declared.validate.Config.{Config}
 use Rattle.loader.specs.declared.validate.Job.{Job}
-use Rattle.loader.specs.Results.{◌then◌}
+use Rattle.elf_parser.specs.Errors.{◌then◌}
 use Rattle.loader.specs.Errors.{from_parser}
 use Rattle.loader.specs.Sections.{section_at, survey}
 use Rattle.loader.specs.Addresses.{sum_up_to, machine_addr, MM_STACK_START}

@@ -29,6 +29,9 @@ pub enum Deed {
 }
 
 // What a load fills: the image, the table, and the moves up to here.
+// Kept: beside `Inputs`, though ten functions take both. Nine take `Outputs` alone, of which six write, and twelve
+// `Inputs` alone. A struct of the two would be lent for writing as a whole, and each that writes would have to promise
+// besides that file, keys and job are what they were, which no clause need say now.
 #[derive(Drop)]
 pub struct Outputs<'o, 't> {
     pub image: &'o mut [u8],

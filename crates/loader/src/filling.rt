@@ -26,6 +26,7 @@ pub fn clear_words(s: &mut [u32])
 }
 
 // Every lent byte and number zero, and no row used.
+// Kept: five calls for the five columns, which are fields; a loop would go over an array made of them for it.
 pub(crate) fn clear_all(image: &mut [u8], ro: &mut [u8], registry: &mut FunctionRegistry<'_>)
     ensures same { SameColumns registry.old registry.new }
     ensures clears { Clears image ro (columns_of registry.old) (columns_of registry.new) }

@@ -1,12 +1,13 @@
 // The read-only bytes of an accepted load, and the text among them: `get_ro_section` and
 // `get_text_bytes`. They stand in the image, or in the buffer that they were copied to.
 ghost use Rattle.std.specs.Prelude.{◌≡◌, length};
-ghost use Rattle.loader.specs.GetBytes.{text_place, ro_place, lent_for, ro_start_of, ro_of, text_place_of, LiesIn, part_of, part_for};
+ghost use Rattle.elf_parser.specs.Parts.{part_of};
+ghost use Rattle.loader.specs.GetBytes.{text_place, ro_place, lent_for, ro_start_of, ro_of, text_place_of, part_for};
 
 use crate::answer::Accepted;
 use crate::error::ElfError;
 use ebpf::MM_PROGRAM_START;
-use elf_parser::{Place, past};
+use elf_parser::{Place, part_of, past};
 
 // The read-only bytes of a load: their offset from the program's start, where they start in the bytes that hold
 // them, and how many they are.
@@ -15,21 +16,6 @@ pub struct ReadOnly {
     pub offset: u64,
     pub start: u64,
     pub length: u64,
-}
-
-// The bytes at a place that lies among the lent ones; none where it is refused.
-// Kept: beside elf_parser's `part_of`, which tests the place again and takes the reader's refusal.
-fn part_of(lent: &[u8], place: Result<Place, ElfError>) -> &[u8]
-    requires { LiesIn (length lent.now) place }
-    ensures { result.now ≡ part_of lent.now place }
-{
-    match place {
-        Ok(Place { start, length }) => {
-            let end = start + length;
-            &lent[start..end]
-        }
-        Err(_) => &lent[..0],
-    }
 }
 
 impl ReadOnly {
@@ -48,7 +34,6 @@ impl ReadOnly {
     }
 
     // The bytes there; none where they are refused.
-    #[tactic(auto, using(crate::specs::GetBytes::ro_lies))]
     pub fn bytes(self, lent: &[u8]) -> &[u8]
         ensures { result.now ≡ part_of lent.now (ro_place (length lent.now) self.start self.length) }
     {
@@ -56,16 +41,14 @@ impl ReadOnly {
     }
 
     // The place of the text among them, by its address and size.
-    #[tactic(auto, using(ebpf::specs::Choice::choices), unfolding(crate::specs::GetBytes::text_place))]
+    #[tactic(auto, using(ebpf::specs::Choice::choices, crate::specs::GetBytes::text_behind, crate::specs::GetBytes::ro_fits))]
     pub fn text_place(self, lent: u64, addr: u64, size: u64) -> Result<Place, ElfError>
         ensures { result ≡ text_place lent self.offset self.start self.length addr size }
     {
         let at = addr
             .saturating_sub(MM_PROGRAM_START)
             .saturating_sub(self.offset);
-        if past(lent, self.start, self.length) {
-            return Err(ElfError::TextOutsideReadOnly);
-        }
+        self.place(lent)?;
         if past(self.length, at, size) {
             return Err(ElfError::TextOutsideReadOnly);
         }
@@ -76,7 +59,6 @@ impl ReadOnly {
     }
 
     // The text's bytes; none where they are refused.
-    #[tactic(auto, using(crate::specs::GetBytes::text_lies))]
     pub fn text_bytes(self, lent: &[u8], addr: u64, size: u64) -> &[u8]
         ensures { result.now ≡ part_of lent.now (text_place (length lent.now) self.offset self.start self.length addr size) }
     {

@@ -26,6 +26,8 @@ fn label_as(inputs: &Inputs<'_>, name: SymbolName<'_>, index: u32) -> Result<Dee
 }
 
 // A function at `index`.
+// Kept: beside `named_call`, which takes the same steps to a name by the other table. A function for both would take the
+// place's Result, and have to ask of it what each of the two shows of its own: that it lies in the file, and is short.
 #[tactic(auto, using(elf_parser::specs::Names::name_within, elf_parser::specs::Parts::part_within, crate::proofs::Mapped::mapped_ok))]
 fn named_label(inputs: &Inputs<'_>, index: u32, st_name: u32) -> Result<Deed, ElfError>
     ensures { result ≡ named_label inputs.now.file.now inputs.now.builtins.now inputs.now.job index st_name (symbol_name inputs.now.file.now inputs.now.job.layout st_name) }

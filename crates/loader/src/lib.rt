@@ -73,7 +73,8 @@ fn attempt(
 // (`Loaded`, with demand 1); and demand 3, which follows from it. Whatever rows the registry used, it
 // then uses those that the answer says, or none.
 // Kept: image, buffer and registry each by itself. A caller holds them under these names and asks each for
-// its part afterwards; a struct of three lent for writing would be made for the call and taken apart behind it.
+// its part afterwards; a struct of three lent for writing would be made for the call and taken apart behind it. `same`
+// and `lens` speak of the registry at the call and behind it, which no type of a registry can.
 pub fn load(
     file: &[u8],
     loader: BuiltinProgram<'_>,

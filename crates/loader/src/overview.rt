@@ -5,7 +5,7 @@ ghost use Rattle.loader.specs.ReadOnly.{gathered};
 
 use crate::error::ElfError;
 use crate::read_only::{Extent, gather_next, no_extent};
-use crate::sections::{Survey, no_survey, section_at, survey_next};
+use crate::sections::{Survey, section_at, survey_next};
 use crate::validate::Rules;
 use elf_parser::Elf64;
 
@@ -22,7 +22,7 @@ pub(crate) fn look_over(elf: &Elf64<'_>, rules: Rules, count: u32) -> Overview
     ensures { (result.survey ≡ survey elf.now.file.now elf.now.layout count) × (result.gathering ≡ gathered elf.now.file.now elf.now.layout count rules.version2 rules.config.reject_broken_elfs) }
 {
     let len = elf.file.len() as u64;
-    let mut v = no_survey();
+    let mut v = Survey::default();
     let mut g = Ok(no_extent());
     for i in 0..count {
         let h = section_at(elf, i);

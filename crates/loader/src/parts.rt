@@ -1,5 +1,4 @@
-// The parts of a load, joined two by two: a function over outputs and inputs takes long to check, so each
-// holds two calls over them and no more.
+// The parts of a load, joined two by two, as `writing_trace` and `naming_trace` join what they do.
 // Kept: both are two calls; a function that takes the two calls would take two closures over outputs lent for
 // writing, and be no plainer.
 ghost use Rattle.loader.specs.Parts.{writing_trace, naming_trace};

@@ -9,7 +9,7 @@ use crate::sections::section_at;
 use crate::validate::Rules;
 use ebpf::{MM_PROGRAM_START, MM_STACK_START};
 use elf_parser::types::Elf64Shdr;
-use elf_parser::{Elf64, past};
+use elf_parser::{Elf64, Place, past};
 
 #[derive(Clone, Copy, PartialEq, Eq, Debug)]
 pub enum Placing {
@@ -30,6 +30,8 @@ pub enum Placing {
 // What is known of the read-only sections so far: their lowest address and highest end, how many
 // bytes they have in all, whether an offset is invalid, the constant by which addresses are past file
 // offsets, once there is one, and the first, the last and the number of the sections.
+// Kept: `first` as a number, which counts where `many` is not 0. `can_borrow` subtracts it; an Option would need a number
+// there for the case that there is none.
 #[derive(Clone, Copy, PartialEq, Eq, Debug)]
 pub struct Extent {
     pub lowest: u64,
@@ -42,6 +44,8 @@ pub struct Extent {
     pub many: u64,
 }
 
+// Kept: by `==`. A `match` on the four names was tried, and the proof didn't close: it has a way out for each byte of
+// each name, 42 in all, and the check found none.
 #[tactic(auto, using(elf_parser::specs::SectionNames::same_tested), unfolding(crate::specs::ReadOnly::read_only))]
 fn is_read_only(name: &[u8]) -> bool
     ensures { result ≡ read_only name.now }
@@ -56,42 +60,43 @@ fn is_read_only(name: &[u8]) -> bool
 impl Extent {
     // Whether a section gives the constant.
     #[tactic(auto, using(ebpf::specs::Choice::choices), unfolding(crate::specs::ReadOnly::gives))]
-    fn gives_shift(self, version2: bool, addr: u64, offset: u64) -> bool
-        ensures { result ≡ gives version2 addr offset self }
+    fn gives_shift(self, version2: bool, h: Elf64Shdr) -> bool
+        ensures { result ≡ gives version2 h.sh_addr h.sh_offset self }
     {
-        (version2 & (offset <= addr)) & (!self.invalid & self.shift.is_none())
+        (version2 & (h.sh_offset <= h.sh_addr)) & (!self.invalid & self.shift.is_none())
     }
 
     // Whether an offset is invalid, with this section's.
     #[tactic(auto, using(ebpf::specs::Choice::choices), unfolding(crate::specs::ReadOnly::invalid_by))]
-    fn is_invalid(self, version2: bool, addr: u64, offset: u64) -> bool
-        ensures { result ≡ invalid_by version2 addr offset self }
+    fn is_invalid(self, version2: bool, h: Elf64Shdr) -> bool
+        ensures { result ≡ invalid_by version2 h.sh_addr h.sh_offset self }
     {
         if self.invalid {
             return true;
         }
         if !version2 {
-            return addr != offset;
+            return h.sh_addr != h.sh_offset;
         }
-        if addr < offset {
+        if h.sh_addr < h.sh_offset {
             return true;
         }
-        self.shift.is_some_and(|shift| shift != addr - offset)
+        self.shift
+            .is_some_and(|shift| shift != h.sh_addr - h.sh_offset)
     }
 
     // With one section more, of `n` bytes in the file.
     #[tactic(auto, using(ebpf::specs::Choice::choices), unfolding(crate::specs::ReadOnly::grown))]
-    fn grow(self, version2: bool, index: u64, addr: u64, offset: u64, n: u64) -> Extent
-        ensures { result ≡ grown version2 index addr offset n self }
+    fn grow(self, version2: bool, index: u64, h: Elf64Shdr, n: u64) -> Extent
+        ensures { result ≡ grown version2 index h.sh_addr h.sh_offset n self }
     {
-        let gives = self.gives_shift(version2, addr, offset);
+        let gives = self.gives_shift(version2, h);
         Extent {
-            lowest: self.lowest.min(addr),
-            highest: self.highest.max(addr.saturating_add(n)),
+            lowest: self.lowest.min(h.sh_addr),
+            highest: self.highest.max(h.sh_addr.saturating_add(n)),
             filled: self.filled.saturating_add(n),
-            invalid: self.is_invalid(version2, addr, offset),
+            invalid: self.is_invalid(version2, h),
             shift: if gives {
-                Some(addr.saturating_sub(offset))
+                Some(h.sh_addr.saturating_sub(h.sh_offset))
             } else {
                 self.shift
             },
@@ -113,15 +118,15 @@ impl Extent {
     {
         let version2 = rules.version2;
         let reject_broken = rules.config.reject_broken_elfs;
-        let invalid = self.is_invalid(version2, h.sh_addr, h.sh_offset);
-        let end = end_of(version2, h.sh_addr, h.sh_size);
+        let invalid = self.is_invalid(version2, h);
+        let end = end_of(version2, h);
         if reject_broken & invalid {
             return Err(ElfError::ValueOutOfBounds);
         }
         if MM_STACK_START < end {
             return Err(ElfError::ValueOutOfBounds);
         }
-        Ok(self.grow(version2, index, h.sh_addr, h.sh_offset, n))
+        Ok(self.grow(version2, index, h, n))
     }
 
     #[tactic(auto, using(ebpf::specs::Choice::choices), unfolding(crate::specs::ReadOnly::can_borrow))]
@@ -189,12 +194,12 @@ impl Extent {
 
 // Where a section ends in the machine; in version 1 its start counts.
 #[tactic(auto, using(ebpf::specs::Choice::choices), unfolding(crate::specs::ReadOnly::end_of))]
-fn end_of(version2: bool, addr: u64, size: u64) -> u64
-    ensures { result ≡ end_of version2 addr size }
+fn end_of(version2: bool, h: Elf64Shdr) -> u64
+    ensures { result ≡ end_of version2 h.sh_addr h.sh_size }
 {
-    let start = machine_addr(version2, addr);
+    let start = machine_addr(version2, h.sh_addr);
     if version2 {
-        return start.saturating_add(size);
+        return start.saturating_add(h.sh_size);
     }
     start
 }
@@ -266,21 +271,24 @@ pub(crate) fn copy_bytes(to: &mut [u8], from: &[u8], at: usize, start: usize, n:
     to[at..at + n].copy_from_slice(&from[start..start + n]);
 }
 
-// The same, where both lie inside; else nothing changes.
+// The same of the bytes at a place, where both lie inside; else nothing changes.
 #[tactic(auto, using(ebpf::specs::Choice::choices), unfolding(crate::specs::ReadOnly::copied_to))]
-fn copy_inside(ro: &mut [u8], image: &[u8], at: u64, start: usize, n: usize)
-    ensures { ro.new ≡ copied_to ro.old image.now at start n }
+fn copy_inside(ro: &mut [u8], image: &[u8], at: u64, place: Place)
+    ensures { ro.new ≡ copied_to ro.old image.now at place.start place.length }
 {
-    if past(image.len() as u64, start as u64, n as u64) {
+    let n = place.length;
+    if past(image.len() as u64, place.start as u64, n as u64) {
         return;
     }
     if past(ro.len() as u64, at, n as u64) {
         return;
     }
-    copy_bytes(ro, image, at as usize, start, n);
+    copy_bytes(ro, image, at as usize, place.start, n);
 }
 
 // One section, read-only or not.
+// Kept: buffer, image and file beside each other, here, in `copy_sections` and in `copy_placed`. The buffer is lent for
+// writing: a struct of the three would need a clause at each that it still holds the buffer that was lent.
 #[tactic(auto, using(ebpf::specs::Choice::choices), unfolding(crate::specs::ReadOnly::copy_step))]
 fn copy_section(ro: &mut [u8], image: &[u8], elf: &Elf64<'_>, lowest: u64, index: u32)
     ensures { ro.new ≡ copy_step image.now elf.now.file.now elf.now.layout lowest index ro.old }
@@ -291,7 +299,7 @@ fn copy_section(ro: &mut [u8], image: &[u8], elf: &Elf64<'_>, lowest: u64, index
     }
     let at = h.sh_addr.saturating_sub(lowest);
     if let Ok(place) = elf.file_range(index) {
-        copy_inside(ro, image, at, place.start, place.length);
+        copy_inside(ro, image, at, place);
     }
 }
 

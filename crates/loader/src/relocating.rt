@@ -20,6 +20,8 @@ pub(crate) fn apply_relocations(
     let elf = inputs.elf();
     let layout = inputs.job.layout;
     let version2 = inputs.job.version2;
+    // Kept: `writers` counts both tables too. A function for the two crates is public, and may not ask that the sum fits,
+    // which both know of their own layout.
     let count = (layout.dynamic_relocations.count + layout.dynamic_relas.count) as u32;
     let mut header = None;
     // Kept: `writers` goes through both tables in the same way, twice. What the turns share is two calls; an

@@ -1,6 +1,6 @@
 // The sections of a file, their names, and what a load asks of all of them.
 ghost use Rattle.std.specs.Prelude.{◌≡◌, ◌≤◌, ◌<◌};
-ghost use Rattle.loader.specs.Sections.{section_at, starts_with, unsupported, no_survey, survey_named};
+ghost use Rattle.loader.specs.Sections.{section_at, starts_with, unsupported, survey_named};
 
 use elf_parser::types::Elf64Shdr;
 use elf_parser::{Elf64, past};
@@ -13,6 +13,8 @@ pub(crate) fn section_at(elf: &Elf64<'_>, index: u32) -> Elf64Shdr
     elf.section_header(index).unwrap_or_default()
 }
 
+// Kept: a function of its own around std's. With std's at each of the three calls the proof didn't close: the literal's
+// length is computed before the law of the library's test fits.
 #[tactic(auto, using(crate::specs::Sections::front_tested))]
 fn starts_with(name: &[u8], prefix: &[u8]) -> bool
     ensures { result ≡ starts_with name.now prefix.now }
@@ -34,25 +36,14 @@ fn is_unsupported(name: &[u8], sh_flags: u64) -> bool
 
 // What is known of the sections so far: how many are named .text, and the first of them; whether
 // one is not supported, the sh_name of the first such; whether one does not lie in the file.
-#[derive(Clone, Copy, PartialEq, Eq, Debug)]
+// Kept: `text` as a number, 0 where none is named .text. It is asked for where one is, and an Option would be taken apart
+// there, with a number for the case that is not.
+#[derive(Clone, Copy, PartialEq, Eq, Debug, Default)]
 pub struct Survey {
     pub texts: u32,
     pub text: u32,
     pub unsupported: Option<u32>,
     pub outside: bool,
-}
-
-// Before the first section.
-// Kept: written out, beside the definition of the same fields; `Default` would hide them and promise no more.
-pub(crate) fn no_survey() -> Survey
-    ensures { result ≡ no_survey }
-{
-    Survey {
-        texts: 0,
-        text: 0,
-        unsupported: None,
-        outside: false,
-    }
 }
 
 // With one section more, of that header and name, in a file of `len` bytes.

@@ -212,9 +212,13 @@ fn job_of(
         e_entry,
         sh_addr: h.sh_addr,
         sh_size: h.sh_size,
-        text: Place {
-            start: if nobits { 0 } else { h.sh_offset as usize },
-            length: if nobits { 0 } else { h.sh_size as usize },
+        text: if nobits {
+            Place::default()
+        } else {
+            Place {
+                start: h.sh_offset as usize,
+                length: h.sh_size as usize,
+            }
         },
         addr,
         placing,

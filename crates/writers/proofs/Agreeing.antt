@@ -11,7 +11,7 @@ use Rattle.ebpf.specs.Choice.{◌if◌else◌, not_first, row_rest, row_cases}
 use Rattle.program.specs.declared.Row.{Row}
 use Rattle.elf_parser.specs.declared.layout.Layout.{Layout}
 use Rattle.elf_parser.specs.declared.types.Elf64Ehdr.{Elf64Ehdr}
-use Rattle.elf_parser.specs.Errors.{ok_is}
+use Rattle.elf_parser.specs.Errors.{ok_is, apart}
 use Rattle.elf_parser.specs.Parse.{parsed}
 use Rattle.elf_parser.specs.Sound.{parse_steps}
 use Rattle.elf_parser.specs.Types.{file_header}
@@ -21,7 +21,7 @@ use Rattle.loader.specs.declared.error.ElfError.{ElfError}
 use Rattle.loader.specs.declared.answer.Accepted.{Accepted}
 use Rattle.loader.specs.declared.validate.Config.{Config}
 use Rattle.loader.specs.declared.validate.Job.{Job}
-use Rattle.loader.specs.Results.{not_ok, then_both, then_ok}
+use Rattle.loader.specs.Results.{then_both, then_ok}
 use Rattle.loader.specs.InFile.{InFile}
 use Rattle.loader.specs.Load.{accepted_as, held_by, on_trace, on_prepared, load_of, answer_of, image_of}
 use Rattle.loader.specs.Parts.{job_trace}
@@ -52,13 +52,13 @@ pub record Read (s : List ℕ) (j : Job) : Type 0 where
 header_passes : (h : Elf64Ehdr) (c : Config) (version2 : Bool) → header_check h c version2 ≡ Ok tt → (version2 && leb 10 h.e_phnum) ≡ false
 unfolding header_check
 header_passes h c version2 e =
-    let e2 = row_rest _ _ _ _ (not_ok _ _) e in
-    let e3 = row_rest _ _ _ _ (not_ok _ _) e2 in
-    let e4 = row_rest _ _ _ _ (not_ok _ _) e3 in
-    let e5 = row_rest _ _ _ _ (not_ok _ _) e4 in
-    let e6 = row_rest _ _ _ _ (not_ok _ _) e5 in
-    let e7 = row_rest _ _ _ _ (not_ok _ _) e6 in
-    not_first _ _ _ _ (not_ok _ _) e7
+    let e2 = row_rest _ _ _ _ (apart _ _) e in
+    let e3 = row_rest _ _ _ _ (apart _ _) e2 in
+    let e4 = row_rest _ _ _ _ (apart _ _) e3 in
+    let e5 = row_rest _ _ _ _ (apart _ _) e4 in
+    let e6 = row_rest _ _ _ _ (apart _ _) e5 in
+    let e7 = row_rest _ _ _ _ (apart _ _) e6 in
+    not_first _ _ _ _ (apart _ _) e7
 
 validated_read : (s : List ℕ) (c : Config) (l : Layout) (j : Job) → parsed s ≡ Ok l → validated s c l ≡ Ok j → Read s j
 unfolding validated job_of
@@ -72,14 +72,14 @@ validated_read s c l j q e =
     rw (← is) (record { layout_is = q; few = header_passes h c (is_version2 h) (then_both (header_check h c (is_version2 h)) _ tt done.0).0 })
 
 parsed_read : (s : List ℕ) (c : Config) (p : Result Layout ElfParserError) (j : Job) → parsed s ≡ p → parsed_then s c p ≡ Ok j → Read s j
-parsed_read s c (Err r) j q e = absurd (not_ok _ _ e)
+parsed_read s c (Err r) j q e = absurd (apart _ _ e)
 parsed_read s c (Ok l) j q e = validated_read s c l j q e
 
 was_read : (s builtins : List ℕ) (c : Config) (image ro : ℕ) (j : Job) → prepared s builtins c image ro ≡ Ok j → Read s j
 unfolding prepared
 was_read s builtins c image ro j e =
     let w = then_both (size_check (length s) image ro) _ j e in
-    parsed_read s c (parsed s) j refl (row_rest _ _ _ _ (not_ok _ _) w.1)
+    parsed_read s c (parsed s) j refl (row_rest _ _ _ _ (apart _ _) w.1)
 
 -- as many as e_phnum says
 headers_counted : (s : List ℕ) (l : Layout) → parsed s ≡ Ok l → l.program_headers.count ≡ (file_header s).e_phnum
@@ -123,7 +123,7 @@ module _ (file builtins : List ℕ) (c : Config) (n m rows b : ℕ) where
     byte e =
         zeros_behind (n - length im) im b
         ∙ unwritten file builtins j inside im ends b
-        (row_cases (ltb b (length file)) (told_ok j) past_end (Ok File) (writer_of file builtins j b ≡ File) (λ h q. ok_is _ _ q) (λ h q. absurd (not_ok _ _ q)) e)
+        (row_cases (ltb b (length file)) (told_ok j) past_end (Ok File) (writer_of file builtins j b ≡ File) (λ h q. ok_is _ _ q) (λ h q. absurd (apart _ _ q)) e)
 
     placed_told : (p : Result Placing ElfError) → asked file (answer_of (held_by file j m p im held moves)) b ≡ wrote_by file builtins (length file) b (held_by file j m p im held moves) (Ok j)
     placed_told (Ok (Borrowed offset start k)) = told (accepted_as j offset (Some start) k (length held) moves) refl refl
@@ -133,7 +133,7 @@ module _ (file builtins : List ℕ) (c : Config) (n m rows b : ℕ) where
     placed_kept : (p : Result Placing ElfError) → wrote_by file builtins (length file) b (held_by file j m p im held moves) (Ok j) ≡ Ok File → get_or (image_of n (held_by file j m p im held moves)) b 0 ≡ get_or file b 0
     placed_kept (Ok (Borrowed offset start k)) e = byte e
     placed_kept (Ok (Owned offset lowest k)) e = byte e
-    placed_kept (Err r) e = absurd (not_ok _ _ e)
+    placed_kept (Err r) e = absurd (apart _ _ e)
 
   -- THE QUESTION ABOUT A LOAD ALREADY MADE, by that load's answer, is what its parts wrote
   pub agrees : asked file (answer_of (load_of file builtins c n m rows)) b ≡ wrote_of file builtins c n m rows b
@@ -161,11 +161,11 @@ module _ (file builtins : List ℕ) (c : Config) (n m rows b : ℕ) where
           → settle rows (job_trace file builtins j file) [] 0 ≡ s
           → wrote_by file builtins (length file) b (on_trace file j m s) (Ok j) ≡ Ok File
           → get_or (image_of n (on_trace file j m s)) b 0 ≡ get_or file b 0
-      by_settled j e (refused r) q h = absurd (not_ok _ _ h)
+      by_settled j e (refused r) q h = absurd (apart _ _ h)
       by_settled j e (accepted im held moves) q h = placed_kept j e im held moves q j.placing h
 
       by_prepared : (p : Result Job ElfError) → prepared file builtins c n m ≡ p
           → wrote_by file builtins (length file) b (on_prepared file builtins m rows p) p ≡ Ok File
           → get_or (image_of n (on_prepared file builtins m rows p)) b 0 ≡ get_or file b 0
-      by_prepared (Err r) e h = absurd (not_ok _ _ h)
+      by_prepared (Err r) e h = absurd (apart _ _ h)
       by_prepared (Ok j) e h = by_settled j e (settle rows (job_trace file builtins j file) [] 0) refl h

@@ -9,13 +9,12 @@ use borrow.Author.Tests.{ltb-false, le-ltb}
 use Rattle.ebpf.specs.Choice.{◌if◌else◌, no_go, not_first, row_rest}
 use Rattle.program.proofs.Cases.{by_test}
 use Rattle.elf_parser.specs.declared.layout.Layout.{Layout}
-use Rattle.elf_parser.specs.Errors.{ok_is}
+use Rattle.elf_parser.specs.Errors.{ok_is, apart}
 use Rattle.elf_parser.specs.Parse.{parsed}
 use Rattle.loader.specs.declared.error.ElfError.{ElfError}
 use Rattle.elf_parser.specs.declared.error.ElfParserError.TheVariants.{NoSuchIndex}
 use Rattle.loader.specs.declared.error.ElfError.TheVariants.{FailedToParse, BufferShort}
 use Rattle.loader.specs.Relocations.{few_relocations}
-use Rattle.loader.specs.Results.{not_ok}
 use Rattle.writers.specs.declared.text.LoadedText.{LoadedText}
 use Rattle.writers.specs.Named.{by_names}
 use Rattle.writers.specs.Asked.{text_in, text_by, text_of, asked_in, Askable}
@@ -29,20 +28,20 @@ module _ (file : List ℕ) (x : LoadedText) (t : Layout) (short : length file �
   askable_in : (l : Layout) → parsed file ≡ Ok l → text_in l x ≡ Ok t → Askable file t x
   unfolding text_in
   askable_in l q e =
-      let is : l ≡ t = ok_is _ _ (row_rest _ _ _ _ (not_ok _ _) e) in
+      let is : l ≡ t = ok_is _ _ (row_rest _ _ _ _ (apart _ _) e) in
       let few = few_relocations file l q in
       subst (λ (k : Layout). Askable file k x) is (record { short = short; text = inside; relocations = few.0; relas = few.1 })
 
   askable_by : (p : Result Layout ElfParserError) → parsed file ≡ p → text_by p x ≡ Ok t → Askable file t x
-  askable_by (Err r) q e = absurd (not_ok _ _ e)
+  askable_by (Err r) q e = absurd (apart _ _ e)
   askable_by (Ok l) q e = askable_in l q e
 
 pub askable : (file : List ℕ) (x : LoadedText) (t : Layout) → text_of file x ≡ Ok t → Askable file t x
 unfolding text_of
 askable file x t e =
-    let e2 = row_rest _ _ _ _ (not_ok _ _) e in
-    let e3 = row_rest _ _ _ _ (not_ok _ _) e2 in
-    askable_by file x t (ltb-false _ _ (not_first _ _ _ _ (not_ok _ _) e)) (ltb-false _ _ (not_first _ _ _ _ (not_ok _ _) e2)) (parsed file) refl e3
+    let e2 = row_rest _ _ _ _ (apart _ _) e in
+    let e3 = row_rest _ _ _ _ (apart _ _) e2 in
+    askable_by file x t (ltb-false _ _ (not_first _ _ _ _ (apart _ _) e)) (ltb-false _ _ (not_first _ _ _ _ (apart _ _) e2)) (parsed file) refl e3
 
 -- ---- the numbers of n that are lent
 
