@@ -4,3 +4,4 @@ pub mod Fits
 pub mod Few
 pub mod After
 pub mod Meaning
+pub mod Waits

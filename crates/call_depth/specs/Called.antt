@@ -1,5 +1,5 @@
 -- Which function a slot of the image calls: by the text's bytes in the image, and the columns of keys and indices of the used rows.
-use Rattle.std.specs.Prelude.{ℕ, ◌/◌, ◌<◌, ◌≡◌, Bool, List, length, Option, Some, None}
+use Rattle.std.specs.Prelude.{ℕ, ◌/◌, ◌<◌, ◌≡◌, Bool, true, false, List, length, get_or, Option, Some, None, Result, Ok, Err}
 use denote.Triple.Both.{Both}
 use Rattle.ebpf.specs.Choice.{◌if◌else◌}
 use Rattle.ebpf.specs.Instructions.{insn_at}
@@ -7,7 +7,7 @@ use Rattle.ebpf.specs.declared.Insn.{Insn}
 use Rattle.program.specs.Table.{row_ascending_in}
 use Rattle.loader.specs.Calls.{calls_key}
 use Rattle.call_graph.specs.Profile.{Profile, next_above, nth_of}
-use Rattle.call_graph.specs.Words.{Scan}
+use Rattle.call_graph.specs.Words.{Scan, RowTried}
 use Rattle.call_depth.specs.declared.profile.Profile.{Profile as LentProfile}
 
 -- the number of a row, or of all rows where none was found
@@ -55,7 +55,17 @@ pub record WorkLent (text indices w : List ℕ) : Type 0 where
   pub slots : slots_in text < 0x4000_0000
   pub rows : length indices < 0x4000_0000
 
--- a scan's answer: none where a slot calls a row that is not settled, else 1 and the largest depth
-abbrev pub Scanned : (ℕ → ℕ) → List ℕ → ℕ → ℕ → Option ℕ → Type 0
-Scanned callee w from end None = Scan callee w from end 0
-Scanned callee w from end (Some d) = Scan callee w from end d × (0 < d)
+-- a scan's answer: 1 and the largest depth, or a row that a slot calls and that is not settled
+abbrev pub Scanned : (ℕ → ℕ) → ℕ → List ℕ → ℕ → ℕ → Result ℕ ℕ → Type 0
+Scanned callee rows w from end (Ok d) = Scan callee w from end d × (0 < d)
+Scanned callee rows w from end (Err r) = Scan callee w from end 0 × (r < rows)
+
+-- a row tried that was not settled: it is settled now, or waits for a row
+abbrev pub Tried : Profile → List ℕ → List ℕ → ℕ → Option ℕ → Type 0
+Tried P w w' r None = RowTried P w w' r true
+Tried P w w' r (Some called) = RowTried P w w' r false × (called < P.rows)
+
+-- rows that wait: as many numbers as at first, each of which is a row
+pub record Waiting (P : Profile) (w : List ℕ) : Type 0 where
+  pub long : length w ≡ 1024
+  pub below : (k : ℕ) → get_or w k 0 < P.rows

@@ -1,3 +1,4 @@
+pub mod Errors
 pub mod Called
 pub mod Asked
 pub mod Meaning

@@ -62,11 +62,11 @@ impl Profile<'_> {
         self.callee_by(get_insn(self.text, s))
     }
 
-    // None where a slot calls a row that is not settled, else 1 and the largest depth of those called.
+    // 1 and the largest depth of the rows called, or the first that is not settled.
     #[tactic(auto, using(call_graph::proofs::Scans::over_start, call_graph::proofs::Scans::over_next, call_graph::proofs::Scans::over_past, call_graph::proofs::Scans::scan_stop, call_graph::proofs::Scans::scan_end))]
-    pub(crate) fn depth_over(self, work: &[u32], from: usize, end: usize) -> Option<u32>
+    pub(crate) fn depth_over(self, work: &[u32], from: usize, end: usize) -> Result<u32, usize>
         requires { (end ≤ slots_in self.text.now) × (length work.now ≡ length self.indices.now) }
-        ensures { Scanned (callee_in self.entry.text.now self.entry.keys.now self.entry.version2) work.now from end result }
+        ensures { Scanned (callee_in self.entry.text.now self.entry.keys.now self.entry.version2) (length self.entry.keys.now) work.now from end result }
     {
         let mut most = 0;
         for s in from..end {
@@ -75,11 +75,11 @@ impl Profile<'_> {
             };
             let d = work[r];
             if FLAG <= d {
-                return None;
+                return Err(r);
             }
             most = most.max(d);
         }
-        Some(most + 1)
+        Ok(most + 1)
     }
 
     // Marks what some slots call: whether a row is newly marked.

@@ -1,14 +1,15 @@
 -- The end of a function's slots: the smallest start above its index, or the text's end.
 -- Assumes nothing.
-use Prim.Native.Nat.{ℕ, zero, suc, ◌≤◌, ◌<◌}
+use Prim.Native.Nat.{ℕ, zero, suc, min, ◌+◌, ◌≤◌, ◌<◌}
 use mathlib.Core.Path.{◌≡◌, refl}
 use mathlib.Core.Bool.{◌&&◌}
 use mathlib.Core.List.{List, [], ◌∷◌}
 use mathlib.Core.Logic.{◌⊎◌, inl, inr, ⊎_elim}
 use native.Mathlib.Omega.{arith}
-use lib.ListN.{length, get_or}
+use native.Mathlib.Numerals.{add-one}
+use lib.ListN.{length, get_or, drop, drop_of_length-le}
+use lib.Seq.{drop-cons}
 use lib.Dec.{ltb}
-use Rattle.std.specs.List.{fold}
 use Rattle.ebpf.specs.Choice.{◌if◌else◌}
 use Rattle.call_graph.specs.Profile.{next_above}
 use Rattle.program.proofs.Cases.{by_lt}
@@ -27,10 +28,19 @@ next_within i end (x ∷ xs) =
     let g : closer i x end ≤ end = by_closer (λ n. n ≤ end) i x end (λ _ l. omega arith) (λ _. omega arith) (λ _. omega arith) in
     omega arith
 
--- start by start
-pub next_folded : (i end : ℕ) (xs : List ℕ) → next_above i end xs ≡ fold (λ (best x : ℕ). x if ltb i x && ltb x best else best) end xs
-next_folded i end [] = refl
-next_folded i end (x ∷ xs) = next_folded i (closer i x end) xs
+-- by the least of two, where a start that is not above counts as the largest number
+closer_min : (i x best : ℕ) → best ≤ 0xffff_ffff → min best (x if ltb i x else 0xffff_ffff) ≡ closer i x best
+unfolding ◌if◌else◌
+closer_min i x best l = by_lt i x (λ t. min best (x if t else 0xffff_ffff) ≡ (x if t && ltb x best else best))
+    (λ a. by_lt x best (λ t. min best x ≡ (x if t else best)) (λ b. omega arith) (λ b. omega arith))
+    (λ a. omega arith)
+
+pub next_turn : (i best r x : ℕ) (xs : List ℕ) → r < length xs → x ≡ get_or xs r 0 → best ≤ 0xffff_ffff
+    → next_above i best (drop r xs) ≡ next_above i (min best (x if ltb i x else 0xffff_ffff)) (drop (r + 1) xs)
+next_turn i best r x xs l e m = rw (closer_min i x best m, e, add-one, drop-cons xs r 0 l) refl
+
+pub next_end : (i best r : ℕ) (xs : List ℕ) → length xs ≤ r → next_above i best (drop r xs) ≡ best
+next_end i best r xs l = rw (drop_of_length-le xs l) refl
 
 -- what it means: no start lies between, and it is the text's end or a start above
 pub next_least : (i end r : ℕ) (xs : List ℕ) → r < length xs → i < get_or xs r 0 → next_above i end xs ≤ get_or xs r 0

@@ -169,8 +169,8 @@ module _ (P : Profile) (slots : ℕ) (w : List ℕ) (y : WordsReady P slots w) (
 pub stopped_still : (P : Profile) (w u : List ℕ) (a : Bool) (e : ℕ) → Passing P w u P.rows a → a ≡ false → Stopped P e u
 stopped_still P w u a e p z = record { good = p.good; still = λ _. p.stuck z }
 
-pub stopped_settled : (P : Profile) (w u : List ℕ) (r : ℕ) (a : Bool) (e : ℕ) → Passing P w u r a → get_or u e 0 < FLAG → Stopped P e u
-stopped_settled P w u r a e p l = record { good = p.good; still = λ f. absurd (omega arith) }
+pub stopped_settled : (P : Profile) (u : List ℕ) (e : ℕ) → Good P u → get_or u e 0 < FLAG → Stopped P e u
+stopped_settled P u e g l = record { good = g; still = λ f. absurd (omega arith) }
 
 -- a pass that settles something leaves fewer
 pub passing_less : (P : Profile) (w u : List ℕ) (n r : ℕ) (a : Bool) → n ≡ P.rows → Passing P w u r a → a ≡ true → n - settled_in u < n - settled_in w
