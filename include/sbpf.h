@@ -5,7 +5,7 @@
  * is 0, and lent slices do not overlap. The functions demand nothing else, always return, and
  * write nothing but the slices that are lent to them without `const`: a load its image, its
  * read-only buffer, its five columns and its answer, sbpf_who_wrote_all its numbers and its answer,
- * every other function its answer or its name alone. What they answer is said, for every input, in
+ * the two of call depth their `work` besides, every other function its answer or its name alone. What they answer is said, for every input, in
  * crates/exports/specs.
  *
  * An answer is SBPF_WORDS words. The first is a number, which is also the result: 0, or why
@@ -70,6 +70,8 @@ enum {
     SBPF_AddendNegative = 47, /* of a relocation of type 1 or 8 */
     SBPF_BadHashTable = 48, /* of sbpf_find_symbol alone */
     SBPF_StringUnterminated = 49, /* as 4, where the section ends before the limit; its name: as 4's */
+    SBPF_RecursiveCall = 50, /* of call depth alone; value: the function's index */
+    SBPF_TooDeep = 51, /* of call depth alone; value: the longest chain */
 };
 
 /* Words of an accepted parse. A header that was found by name is given by its offset in the
@@ -118,6 +120,10 @@ enum { SBPF_LOAD_WRITER = 15, SBPF_LOAD_WRITER_NUMBER };
  * counted from 0 in the order in which they are applied, those that bring an addend behind all the
  * others. */
 enum { SBPF_BY_FILE, SBPF_BY_CALL, SBPF_BY_RELOCATION };
+
+/* Word of how deep a profile calls. Behind the words of a load it stands further on. */
+enum { SBPF_DEPTH = 4 };
+enum { SBPF_LOAD_DEPTH = 15 };
 
 /* Settings of a load, by bits; others are not looked at. */
 enum {
@@ -265,6 +271,47 @@ uint32_t sbpf_load_who_wrote(const uint8_t *file, size_t file_len, const uint32_
                              uint32_t *kinds, size_t kinds_len, uint32_t *starts,
                              size_t starts_len, uint32_t *lengths, size_t lengths_len,
                              uint64_t offset, uint64_t *answer, size_t answer_len);
+
+/* How deep the profile calls that a load answered for: the longest chain of calls that begins at the
+ * entry, counted in functions, so that an entry that calls nothing is 1. A function has an index of a
+ * row; it owns the slots from there up to the next larger index of a row, or the text's end. It calls
+ * a function, perhaps itself, where one of its slots in the image has the opcode 0x85, in version 2 a
+ * source that is not 0, and as its immediate a key that finds a row with that function's index.
+ *
+ * Lent are the image, the columns and the words that a load has left, those at least up to
+ * SBPF_TEXT_LENGTH; and `work`, with a number for each row lent, used or not. What `work` holds before
+ * does not matter, and what it holds afterwards is left free. `limit` is from 1 to 64; any other is
+ * read as 64. In this order: a load's refusal is given again; 41 where `work` has fewer numbers than
+ * the shortest column; 50 where a function that the entry reaches reaches itself, the value is the
+ * smallest such index; 51 where the longest chain passes the limit, the value is that chain.
+ *
+ * Of what no load has left nothing is demanded either. Behind 41 comes 33 then, where more rows are
+ * used than lent, or 2^30 and more, where the text is longer than 16,777,216 bytes or does not stand in
+ * the image, and where no used row has the entry's index; else keys find their rows as in
+ * sbpf_row_ascending. Words that are missing count as 0; of the entry the lower half counts. */
+uint32_t sbpf_call_depth(const uint8_t *image, size_t image_len, const uint32_t *keys,
+                         size_t keys_len, const uint32_t *indices, size_t indices_len,
+                         const uint32_t *kinds, size_t kinds_len, const uint32_t *starts,
+                         size_t starts_len, const uint32_t *lengths, size_t lengths_len,
+                         const uint64_t *loaded, size_t loaded_len, uint32_t *work,
+                         size_t work_len, uint32_t limit, uint64_t *answer, size_t answer_len);
+
+/* A load and the question at once: all that sbpf_load does, and behind the words of its answer
+ * SBPF_LOAD_DEPTH. A load that is refused answers its refusal and leaves zeros, as sbpf_load. The
+ * question's own 41, 50 and 51 come only after an accepted load and leave its outputs as they are:
+ * image, read-only buffer and columns hold the load's content, and behind the number and the value
+ * stand the words of the accepted load; SBPF_LOAD_DEPTH is 0. So 41 may be the load's own or the
+ * question's: behind the question's SBPF_VERSION is 1 or 2, behind the load's it is 0. To lend such
+ * words to the other functions, set SBPF_NUMBER to 0 first: they take words with another number for
+ * a refusal. */
+uint32_t sbpf_load_call_depth(const uint8_t *file, size_t file_len, const uint32_t *builtins,
+                              size_t builtins_len, uint32_t settings, uint8_t *image,
+                              size_t image_len, uint8_t *ro, size_t ro_len, uint32_t *keys,
+                              size_t keys_len, uint32_t *indices, size_t indices_len,
+                              uint32_t *kinds, size_t kinds_len, uint32_t *starts,
+                              size_t starts_len, uint32_t *lengths, size_t lengths_len,
+                              uint32_t *work, size_t work_len, uint32_t limit,
+                              uint64_t *answer, size_t answer_len);
 
 /* Where the text stands among the read-only bytes of a load, or 44. `lent` is the length of the
  * image, or, where the bytes were copied, of the read-only buffer, and the place is one in it; the

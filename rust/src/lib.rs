@@ -178,6 +178,53 @@ mod c {
             answer: *mut u64,
             answer_len: usize,
         ) -> u32;
+        pub fn sbpf_call_depth(
+            image: *const u8,
+            image_len: usize,
+            keys: *const u32,
+            keys_len: usize,
+            indices: *const u32,
+            indices_len: usize,
+            kinds: *const u32,
+            kinds_len: usize,
+            starts: *const u32,
+            starts_len: usize,
+            lengths: *const u32,
+            lengths_len: usize,
+            loaded: *const u64,
+            loaded_len: usize,
+            work: *mut u32,
+            work_len: usize,
+            limit: u32,
+            answer: *mut u64,
+            answer_len: usize,
+        ) -> u32;
+        pub fn sbpf_load_call_depth(
+            file: *const u8,
+            file_len: usize,
+            builtins: *const u32,
+            builtins_len: usize,
+            settings: u32,
+            image: *mut u8,
+            image_len: usize,
+            ro: *mut u8,
+            ro_len: usize,
+            keys: *mut u32,
+            keys_len: usize,
+            indices: *mut u32,
+            indices_len: usize,
+            kinds: *mut u32,
+            kinds_len: usize,
+            starts: *mut u32,
+            starts_len: usize,
+            lengths: *mut u32,
+            lengths_len: usize,
+            work: *mut u32,
+            work_len: usize,
+            limit: u32,
+            answer: *mut u64,
+            answer_len: usize,
+        ) -> u32;
         pub fn sbpf_text_place(
             lent: u64,
             ro_offset: u64,
@@ -537,9 +584,10 @@ pub struct Accepted {
     pub text_length: usize,
 }
 
-/// How many words of a load's answer are used, and where the writer's two stand behind them.
+/// How many words of a load's answer are used, and where the writer's two, or the chain, stand behind them.
 const LOAD_WORDS: usize = 15;
 const LOAD_WRITER: usize = LOAD_WORDS;
+const LOAD_DEPTH: usize = LOAD_WORDS;
 
 impl Accepted {
     /// From the words of a load's answer.
@@ -741,6 +789,96 @@ pub fn load_who_wrote(
         }
         NO_SUCH_INDEX => Ok((accepted, Err(refusal()))),
         _ => Err(refusal()),
+    }
+}
+
+/// How deep the profile calls whose load answered `a` and left this image and this table: the longest chain of
+/// calls that begins at the entry, counted in functions. `work` has a number for each row lent, used or not (else 41);
+/// what it holds before does not matter, and afterwards it is left free. `limit` is from 1 to 64; any other is read
+/// as 64. 50 where a function that the entry reaches reaches itself, with the smallest such index; 51 where the chain
+/// passes the limit, with the chain. Of what no load has left it is told what include/sbpf.h says.
+pub fn call_depth(
+    image: &[u8],
+    table: Table,
+    a: &Accepted,
+    work: &mut [u32],
+    limit: u32,
+) -> Result<u32, Refusal> {
+    let loaded = a.words();
+    // SAFETY: as said above.
+    let a = answered(&[], |words, n| unsafe {
+        c::sbpf_call_depth(
+            image.as_ptr(),
+            image.len(),
+            table.keys.as_ptr(),
+            table.keys.len(),
+            table.indices.as_ptr(),
+            table.indices.len(),
+            table.kinds.as_ptr(),
+            table.kinds.len(),
+            table.starts.as_ptr(),
+            table.starts.len(),
+            table.lengths.as_ptr(),
+            table.lengths.len(),
+            loaded.as_ptr(),
+            loaded.len(),
+            work.as_mut_ptr(),
+            work.len(),
+            limit,
+            words,
+            n,
+        )
+    })?;
+    Ok(a[4] as u32)
+}
+
+/// A load, as `load`, and how deep the profile calls. Where the question is refused, with 41, 50 or 51, what was
+/// lent holds the accepted load's content all the same.
+pub fn load_call_depth(
+    file: &[u8],
+    builtins: &[u32],
+    settings: Settings,
+    lent: &mut Lent,
+    work: &mut [u32],
+    limit: u32,
+) -> Result<(Accepted, Result<u32, Refusal>), Refusal> {
+    let mut a = [0; WORDS];
+    // SAFETY: as said above.
+    let number = unsafe {
+        c::sbpf_load_call_depth(
+            file.as_ptr(),
+            file.len(),
+            builtins.as_ptr(),
+            builtins.len(),
+            settings.bits(),
+            lent.image.as_mut_ptr(),
+            lent.image.len(),
+            lent.ro.as_mut_ptr(),
+            lent.ro.len(),
+            lent.keys.as_mut_ptr(),
+            lent.keys.len(),
+            lent.indices.as_mut_ptr(),
+            lent.indices.len(),
+            lent.kinds.as_mut_ptr(),
+            lent.kinds.len(),
+            lent.starts.as_mut_ptr(),
+            lent.starts.len(),
+            lent.lengths.as_mut_ptr(),
+            lent.lengths.len(),
+            work.as_mut_ptr(),
+            work.len(),
+            limit,
+            a.as_mut_ptr(),
+            a.len(),
+        )
+    };
+    let accepted = Accepted::of(&a);
+    let refusal = || Refusal::new(number, [a[1], a[2], a[3]], file);
+    match (number, accepted.version) {
+        (0, _) => Ok((accepted, Ok(a[LOAD_DEPTH] as u32))),
+        // a refused load leaves no version
+        (_, 0) => Err(refusal()),
+        _ => Ok((accepted, Err(refusal()))),
     }
 }
 

@@ -88,6 +88,8 @@ reasons! {
     47 AddendNegative,
     48 BadHashTable,
     49 StringUnterminated,
+    50 RecursiveCall " of the function at slot {}",
+    51 TooDeep " with a chain of {}",
 }
 
 /// Why there is nothing, and what goes with it. The name that it speaks of is the part of the file

@@ -359,6 +359,70 @@ fn a_load_tells_who_wrote_a_byte() {
     }
 }
 
+/// The example as version 2 with these slots.
+fn with_slots(slots: [[u8; 8]; 2]) -> Vec<u8> {
+    let mut file = EXAMPLE.to_vec();
+    file[64..80].copy_from_slice(&slots.concat());
+    file
+}
+
+/// A call of another slot, as far behind the one behind it.
+fn call(behind: i32) -> [u8; 8] {
+    let mut slot = [0x85, 0x10, 0, 0, 0, 0, 0, 0];
+    slot[4..].copy_from_slice(&behind.to_le_bytes());
+    slot
+}
+
+#[test]
+fn depths_are_told() {
+    let exit = [0x95, 0, 0, 0, 0, 0, 0, 0];
+    // slot 0 calls slot 1; slot 1 is left, or calls slot 0
+    for (slots, limit, expected) in [
+        ([exit, exit], 1, Ok(1)),
+        ([call(0), exit], 2, Ok(2)),
+        ([call(0), exit], 0, Ok(2)),
+        ([call(0), exit], 1, Err(refusal(51, 2))),
+        ([call(0), call(-2)], 1, Err(refusal(50, 0))),
+    ] {
+        let file = with_slots(slots);
+        let mut plain = Held::new(file.len(), 4);
+        let a = load(&file, &[], Settings::ALL_ON, &mut plain.lend()).expect("it is accepted");
+        let mut work = [0xa5a5_a5a5; 4];
+        let lent = plain.lend();
+        let asked = call_depth(lent.image, lent.table(), &a, &mut work, limit);
+        assert_eq!(asked, expected);
+        let short = call_depth(lent.image, lent.table(), &a, &mut work[..3], limit);
+        assert_eq!(short, Err(refusal(41, 0)));
+
+        // with the load, which leaves what it leaves alone, also behind a refusal
+        let mut held = Held::new(file.len(), 4);
+        let mut ask = |work: &mut [u32]| {
+            let lent = &mut held.lend();
+            load_call_depth(&file, &[], Settings::ALL_ON, lent, work, limit)
+        };
+        assert_eq!(ask(&mut work[..3]), Ok((a, Err(refusal(41, 0)))));
+        assert_eq!(ask(&mut work), Ok((a, expected)));
+        assert_eq!(held.bytes, plain.bytes);
+        assert_eq!(held.columns, plain.columns);
+    }
+
+    // a load that is refused, with 41 too
+    let file = with_slots([exit, exit]);
+    let mut held = Held::new(file.len() - 1, 4);
+    let mut work = [0; 4];
+    let lent = &mut held.lend();
+    let refused = load_call_depth(&file, &[], Settings::ALL_ON, lent, &mut work, 64);
+    assert_eq!(refused, Err(refusal(41, 0)));
+    assert!(held.all_zero());
+    // an answer that no load has given
+    let mut held = Held::new(file.len(), 4);
+    let mut lent = held.lend();
+    let a = load(&file, &[], Settings::ALL_ON, &mut lent).expect("it is accepted");
+    let other = Accepted { entry: 1, ..a };
+    let asked = call_depth(lent.image, lent.table(), &other, &mut work, 64);
+    assert_eq!(asked, Err(refusal(33, 0)));
+}
+
 /// The names of the numbers 0 to 255, as the library gives them.
 fn names() -> Vec<(u32, String)> {
     let named = |n| refusal_name(n).map(|name| (n, name));

@@ -26,16 +26,16 @@ module _ (file builtins im ro : List ℕ) (t : Slices) where
   abbrev whole : Config → Loading
   whole c = load_of file builtins c (length im) (length ro) (capacity t)
 
-  pub both_given : (c d : Config) (e : c ≡ d) (im' ro' : List ℕ) (t' : Slices) (a : Result Accepted ElfError) → Loaded (whole c) im ro t im' ro' t' a
-      → (w v : Result Writer ElfError)
+  pub both_given : {T : Type 0} (tell : Result Accepted ElfError → T → Answer) (c d : Config) (e : c ≡ d) (im' ro' : List ℕ) (t' : Slices) (a : Result Accepted ElfError) → Loaded (whole c) im ro t im' ro' t' a
+      → (w v : T)
       → w ≡ v
       → (b : Answer) (before after : List ℕ) (r : ℕ)
-      → b ≡ load_wrote_answer a w
+      → b ≡ tell a w
       → Given b before after r
-      → Given (load_wrote_answer (answer_of (whole d)) v) before after r
-  both_given c d e im' ro' t' a did w v q b before after r is g =
+      → Given (tell (answer_of (whole d)) v) before after r
+  both_given tell c d e im' ro' t' a did w v q b before after r is g =
       subst (λ (y : Answer). Given y before after r)
-      (is ∙ ap (λ (x : Result Accepted ElfError). load_wrote_answer x w) (did.answers ∙ ap (λ (k : Config). answer_of (whole k)) e) ∙ ap (load_wrote_answer (answer_of (whole d))) q) g
+      (is ∙ ap (λ (x : Result Accepted ElfError). tell x w) (did.answers ∙ ap (λ (k : Config). answer_of (whole k)) e) ∙ ap (tell (answer_of (whole d))) q) g
 
 -- a load's answer and the question's given, with the columns that it left
 pub given : (file builtins : Shared) (settings : ℕ) (image ro keys indices kinds starts lengths : Lent) (offset : ℕ) (answer : Lent) (r : ℕ) (c : Config) → c ≡ config_of settings
@@ -63,5 +63,5 @@ given file builtins settings image ro keys indices kinds starts lengths offset a
         tells = refl;
         kept = λ h. here.kept (wrote ∙ h);
       };
-      gives = both_given file.entry.now builtins.entry.now image.entry.now ro.entry.now before c d e image.exit.now ro.exit.now after a.load here.loads.loaded a.asked (wrote_of file.entry.now builtins.entry.now d n m (capacity before) offset) wrote b answer.entry.now answer.exit.now r is g;
+      gives = both_given file.entry.now builtins.entry.now image.entry.now ro.entry.now before load_wrote_answer c d e image.exit.now ro.exit.now after a.load here.loads.loaded a.asked (wrote_of file.entry.now builtins.entry.now d n m (capacity before) offset) wrote b answer.entry.now answer.exit.now r is g;
     }

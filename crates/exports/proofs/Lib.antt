@@ -4,3 +4,4 @@ mod Giving
 mod Named
 mod Told
 mod GivingBoth
+mod Measuring

@@ -17,7 +17,10 @@ use Rattle.elf_parser.specs.Errors as parser
 use Rattle.loader.specs.declared.error.ElfError.{ElfError}
 use Rattle.loader.specs.declared.error.ElfError.TheVariants.{FailedToParse, EntrypointOutOfBounds, InvalidEntrypoint, UnresolvedSymbol, RelativeJumpOutOfBounds, SymbolHashCollision, WrongAbi, WrongMachine, NotOneTextSection, WritableSectionNotSupported, InvalidVirtualAddress, UnknownRelocation, WrongType, UnknownSymbol, ValueOutOfBounds, UnsupportedSBPFVersion, FileTooLong, BufferShort, BuiltinsNotAscending, TableFull, TextOutsideReadOnly, AddendNegative}
 use Rattle.loader.specs.Errors as load
-use Rattle.exports.specs.Names.{names, bytes, name_in, refusal_name}
+use Rattle.call_depth.specs.declared.error.CallDepthError.{CallDepthError}
+use Rattle.call_depth.specs.declared.error.CallDepthError.TheVariants.{RecursiveCall, TooDeep, Refused}
+use Rattle.call_depth.specs.Errors as depth
+use Rattle.exports.specs.Names.{names, names_from_45, bytes, name_in, refusal_name}
 
 -- one more than the largest number of the table
 unfoldable pub past : List (ℕ × String) → ℕ
@@ -49,7 +52,7 @@ abbrev short : List ℕ → Bool
 short name = ltb (length name) 64
 
 pub name_short : (n : ℕ) → length (refusal_name n) < 64
-unfolding refusal_name names bytes every
+unfolding refusal_name names names_from_45 bytes every
 name_short n = ltb-true _ _ (each short names n refl)
 
 -- a name without a zero byte: a text of C holds it whole
@@ -58,7 +61,7 @@ whole [] = true
 whole (byte ∷ rest) = not (eqb byte 0) && whole rest
 
 pub name_whole : (n : ℕ) → whole (refusal_name n) ≡ true
-unfolding refusal_name names bytes every whole
+unfolding refusal_name names names_from_45 bytes every whole
 name_whole n = each whole names n refl
 
 -- ---- every refusal has a name
@@ -67,7 +70,7 @@ named : (n : ℕ) → ltb 0 (length (refusal_name n)) ≡ true → 0 < length (r
 named n h = ltb-true 0 (length (refusal_name n)) h
 
 pub parse_named : (e : ElfParserError) → 0 < length (refusal_name (parser.report_of e).number)
-unfolding refusal_name names name_in bytes ◌if◌else◌
+unfolding refusal_name names names_from_45 name_in bytes ◌if◌else◌
 parse_named InvalidFileHeader = named 1 refl
 parse_named InvalidProgramHeader = named 2 refl
 parse_named InvalidSectionHeader = named 3 refl
@@ -86,7 +89,7 @@ parse_named NotASection = named 46 refl
 parse_named (StringUnterminated p) = named 49 refl
 
 pub load_named : (e : ElfError) → 0 < length (refusal_name (load.report_of e).number)
-unfolding refusal_name names name_in bytes ◌if◌else◌
+unfolding refusal_name names names_from_45 name_in bytes ◌if◌else◌
 load_named (FailedToParse e) = parse_named e
 load_named EntrypointOutOfBounds = named 20 refl
 load_named InvalidEntrypoint = named 21 refl
@@ -110,6 +113,12 @@ load_named (TableFull rows) = named 43 refl
 load_named TextOutsideReadOnly = named 44 refl
 load_named AddendNegative = named 47 refl
 
+pub depth_named : (e : CallDepthError) → 0 < length (refusal_name (depth.report_of e).number)
+unfolding refusal_name names names_from_45 name_in bytes ◌if◌else◌
+depth_named (RecursiveCall index) = named 50 refl
+depth_named (TooDeep chain) = named 51 refl
+depth_named (Refused e) = load_named e
+
 -- ---- no two refusals share a name
 
 -- the number beside a name, 0 where it stands in no row
@@ -132,7 +141,7 @@ finds ((k, text) ∷ rows) n h i = go (eqb k n) refl (finds rows n (and_right (e
     go false e f j = f j
 
 pub apart : (m n : ℕ) → 0 < length (refusal_name m) → refusal_name m ≡ refusal_name n → m ≡ n
-unfolding refusal_name names bytes number_in back same_bytes ◌if◌else◌
+unfolding refusal_name names names_from_45 bytes number_in back same_bytes ◌if◌else◌
 apart m n h e =
     let f : (k : ℕ) → 0 < length (refusal_name k) → number_in names (refusal_name k) ≡ k = λ k i. finds names k refl i in
     sym (f m h) ∙ ap (number_in names) e ∙ f n (rw e at h)

@@ -5,7 +5,7 @@ use Rattle.std.specs.Int.{from_bool}
 use Rattle.elf_parser.specs.declared.error.ElfParserError.{ElfParserError}
 use Rattle.elf_parser.specs.declared.error.Report.{Report}
 use Rattle.elf_parser.specs.declared.layout.Layout.{Layout}
-use Rattle.elf_parser.specs.Errors.{report_of}
+use Rattle.elf_parser.specs.Errors.{valued, report_of}
 use Rattle.elf_parser.specs.Parse.{parsed}
 use Rattle.hash_table.specs.declared.BadHashTable.{BadHashTable}
 use Rattle.program.specs.Table.{Lent, Shared, table_before, table_after}
@@ -129,13 +129,13 @@ word_or_none None = none_word
 
 -- ---- a load
 
--- an accepted load: its numbers, in the order of `Accepted`, with a number before them and two words behind them
-abbrev pub loaded_with : ℕ → Accepted → ℕ → ℕ → Answer
-loaded_with number a last behind =
-    answer_with number
-    (0
-    ∷ 0
-    ∷ 0
+-- an accepted load: its numbers, in the order of `Accepted`, with a refusal's before them, all 0 where there is none, and two words behind them
+abbrev pub loaded_with : Report → Accepted → ℕ → ℕ → Answer
+loaded_with r a last behind =
+    answer_with r.number
+    (r.value
+    ∷ r.start
+    ∷ r.length
     ∷ version_of a
     ∷ a.entry
     ∷ a.used
@@ -152,7 +152,7 @@ loaded_with number a last behind =
     ∷ [])
 
 abbrev pub load_answer : Result Accepted ElfError → Answer
-load_answer (Ok a) = loaded_with 0 a 0 0
+load_answer (Ok a) = loaded_with (valued 0 0) a 0 0
 load_answer (Err e) = reported (load.report_of e)
 
 -- WHAT `sbpf_load` PROMISES: what `load` promises, with demands 1 and 3, and its answer in words

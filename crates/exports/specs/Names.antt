@@ -6,6 +6,18 @@ use Rattle.ebpf.specs.Choice.{◌if◌else◌}
 use Rattle.program.specs.Table.{Lent}
 use Rattle.exports.specs.Answers.{written}
 
+-- the numbers from 45 on
+unfoldable pub names_from_45 : List (ℕ × String)
+names_from_45 =
+    (45, "NoSuchIndex")
+    ∷ (46, "NotASection")
+    ∷ (47, "AddendNegative")
+    ∷ (48, "BadHashTable")
+    ∷ (49, "StringUnterminated")
+    ∷ (50, "RecursiveCall")
+    ∷ (51, "TooDeep")
+    ∷ []
+
 -- THE NAMES, each beside its number. A new one is a line here, in src/names.rt, in include/sbpf.h and in rust/src/refusal.rs
 unfoldable pub names : List (ℕ × String)
 names =
@@ -42,12 +54,7 @@ names =
     ∷ (42, "BuiltinsNotAscending")
     ∷ (43, "TableFull")
     ∷ (44, "TextOutsideReadOnly")
-    ∷ (45, "NoSuchIndex")
-    ∷ (46, "NotASection")
-    ∷ (47, "AddendNegative")
-    ∷ (48, "BadHashTable")
-    ∷ (49, "StringUnterminated")
-    ∷ []
+    ∷ names_from_45
 
 -- the bytes of a text whose characters are one byte long
 unfoldable pub bytes : String → List ℕ
@@ -74,24 +81,29 @@ Named name lent r = NameGiven name lent.entry.now lent.exit.now r
 
 -- Overlap
 name_of_7 : refusal_name 7 ≡ 79 ∷ 118 ∷ 101 ∷ 114 ∷ 108 ∷ 97 ∷ 112 ∷ []
-unfolding refusal_name names name_in bytes ◌if◌else◌
+unfolding refusal_name names names_from_45 name_in bytes ◌if◌else◌
 name_of_7 = refl
 
 -- UnresolvedSymbol
 name_of_22 : refusal_name 22 ≡ 85 ∷ 110 ∷ 114 ∷ 101 ∷ 115 ∷ 111 ∷ 108 ∷ 118 ∷ 101 ∷ 100 ∷ 83 ∷ 121 ∷ 109 ∷ 98 ∷ 111 ∷ 108 ∷ []
-unfolding refusal_name names name_in bytes ◌if◌else◌
+unfolding refusal_name names names_from_45 name_in bytes ◌if◌else◌
 name_of_22 = refl
 
 -- NoSuchIndex
 name_of_45 : refusal_name 45 ≡ 78 ∷ 111 ∷ 83 ∷ 117 ∷ 99 ∷ 104 ∷ 73 ∷ 110 ∷ 100 ∷ 101 ∷ 120 ∷ []
-unfolding refusal_name names name_in bytes ◌if◌else◌
+unfolding refusal_name names names_from_45 name_in bytes ◌if◌else◌
 name_of_45 = refl
+
+-- RecursiveCall
+name_of_50 : refusal_name 50 ≡ 82 ∷ 101 ∷ 99 ∷ 117 ∷ 114 ∷ 115 ∷ 105 ∷ 118 ∷ 101 ∷ 67 ∷ 97 ∷ 108 ∷ 108 ∷ []
+unfolding refusal_name names names_from_45 name_in bytes ◌if◌else◌
+name_of_50 = refl
 
 -- no refusal has these numbers
 no_name_of_0 : refusal_name 0 ≡ []
-unfolding refusal_name names name_in ◌if◌else◌
+unfolding refusal_name names names_from_45 name_in ◌if◌else◌
 no_name_of_0 = refl
 
 no_name_of_14 : refusal_name 14 ≡ []
-unfolding refusal_name names name_in ◌if◌else◌
+unfolding refusal_name names names_from_45 name_in ◌if◌else◌
 no_name_of_14 = refl

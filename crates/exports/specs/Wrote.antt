@@ -1,8 +1,9 @@
 -- Who wrote a byte, in words.
-use Rattle.std.specs.Prelude.{ℕ, ◌%◌, ◌^◌, ◌≡◌, Bool, List, [], ◌∷◌, length, get_or, ltb, eqb, Result, Ok, Err}
+use Rattle.std.specs.Prelude.{ℕ, ◌≡◌, List, [], ◌∷◌, length, get_or, ltb, eqb, Result, Ok, Err}
 use Rattle.ebpf.specs.Choice.{◌if◌else◌}
 use Rattle.program.specs.Table.{Slices, Lent, Shared, table_before, table_after, capacity}
 use Rattle.elf_parser.specs.declared.error.ElfParserError.TheVariants.{NoSuchIndex}
+use Rattle.elf_parser.specs.Errors.{valued}
 use Rattle.loader.specs.declared.error.ElfError.{ElfError}
 use Rattle.loader.specs.declared.error.ElfError.TheVariants.{FailedToParse}
 use Rattle.loader.specs.declared.answer.Accepted.{Accepted}
@@ -11,15 +12,15 @@ use Rattle.loader.specs.Errors as load
 use Rattle.loader.specs.Load.{load_of_lent, answer_of}
 use Rattle.loader.specs.declared.answer.LoadAnd.{LoadAnd}
 use Rattle.writers.specs.declared.Writer.{Writer}
-use Rattle.writers.specs.declared.text.LoadedText.{LoadedText}
 use Rattle.writers.specs.declared.Writer.TheVariants.{File, Call, Relocation}
-use Rattle.writers.specs.Asked.{text_of, asked_by}
+use Rattle.writers.specs.Asked.{text_loaded, text_of, asked_by}
 use Rattle.writers.specs.Loads.{LoadsAndTells}
 use Rattle.writers.specs.Whole.{code_by, filled_in}
 use Rattle.writers.specs.Writers.{wrote_of}
 use Rattle.exports.specs.declared.answers.Answer.{Answer}
 use Rattle.exports.specs.Answers.{answer_with, reported, accepted, loaded_with, Gives}
 use Rattle.loader.specs.Settings.{config_of}
+use Rattle.exports.specs.Told.{refusal_in, refused_in, accepted_told}
 
 -- 0 the file, 1 a call, 2 a relocation; and the number of the slot or of the relocation
 abbrev pub kind_of : Writer → ℕ
@@ -36,24 +37,10 @@ abbrev pub wrote_answer : Result Writer ElfError → Answer
 wrote_answer (Ok w) = accepted (kind_of w ∷ number_in w ∷ [])
 wrote_answer (Err e) = reported (load.report_of e)
 
--- ---- by the words of a load's answer, as `load_answer` lays them out
-
--- the number of the refusal that it is, or 0; and that refusal again
-abbrev pub refusal_in : List ℕ → ℕ
-refusal_in loaded = get_or loaded 0 0 % 2 ^ 32
-
-abbrev pub refused_in : List ℕ → Answer
-refused_in loaded = answer_with (refusal_in loaded) (get_or loaded 1 0 ∷ get_or loaded 2 0 ∷ get_or loaded 3 0 ∷ [])
-
--- the version, and the text's start and length
-abbrev pub version2_in : List ℕ → Bool
-version2_in loaded = eqb (get_or loaded 4 0) 2
-
-abbrev pub text_told : List ℕ → LoadedText
-text_told loaded = record { version2 = version2_in loaded; place = record { start = get_or loaded 13 0; length = get_or loaded 14 0 } }
+-- ---- by the words of a load's answer
 
 abbrev pub wrote_in : List ℕ → List ℕ → ℕ → Result Writer ElfError
-wrote_in file loaded b = asked_by file (text_told loaded) b
+wrote_in file loaded b = asked_by file (text_loaded (accepted_told loaded)) b
 
 -- WHO WROTE THE BYTE b
 unfoldable pub who_wrote_answer : List ℕ → List ℕ → ℕ → Answer
@@ -65,7 +52,7 @@ filled_answer (Err e) = reported (load.report_of e)
 
 -- WHO WROTE EACH BYTE, in n numbers: the answer, and the number at b
 unfoldable pub all_answer : List ℕ → List ℕ → ℕ → Answer
-all_answer file loaded n = filled_answer (filled_in (length file) n (text_of file (text_told loaded))) if eqb (refusal_in loaded) 0 else refused_in loaded
+all_answer file loaded n = filled_answer (filled_in (length file) n (text_of file (text_loaded (accepted_told loaded)))) if eqb (refusal_in loaded) 0 else refused_in loaded
 
 unfoldable pub all_number : List ℕ → List ℕ → ℕ → ℕ → ℕ
 all_number file loaded n b = (0 if ltb n (length file) else code_by (wrote_in file loaded b)) if eqb (refusal_in loaded) 0 else 0
@@ -86,8 +73,8 @@ pub record GivesNumbers (file loaded : Shared) (numbers answer : Lent) (r : ℕ)
 -- ---- with a load: the load's words as they are, and behind them the writer's two; 45 keeps the load's
 
 abbrev pub accepted_wrote : Accepted → Result Writer ElfError → Answer
-accepted_wrote a (Ok w) = loaded_with 0 a (kind_of w) (number_in w)
-accepted_wrote a (Err (FailedToParse NoSuchIndex)) = loaded_with 45 a 0 0
+accepted_wrote a (Ok w) = loaded_with (valued 0 0) a (kind_of w) (number_in w)
+accepted_wrote a (Err (FailedToParse NoSuchIndex)) = loaded_with (valued 45 0) a 0 0
 accepted_wrote a (Err e) = reported (load.report_of e)
 
 abbrev pub load_wrote_answer : Result Accepted ElfError → Result Writer ElfError → Answer

@@ -13,11 +13,15 @@ ghost use Rattle.program.specs.Table.{lookup_in, lookup_ascending_in, row_ascend
 ghost use Rattle.loader.specs.GetBytes.{text_place};
 ghost use Rattle.exports.specs.Answers.{Gives, GivesAsked, GivesPlaceBy, GivesLoad, text_answer, parse_answer, place_answer, table_answer, symbol_answer, row_answer, word_or_none};
 ghost use Rattle.exports.specs.Wrote.{who_wrote_answer, GivesNumbers, GivesLoadWrote};
+ghost use Rattle.exports.specs.Depth.{GivesDepth, GivesLoadDepth};
 ghost use Rattle.exports.specs.Names.{Named, refusal_name};
 
 use answers::{
-    answered, give, give_row, parse_answer, place_answer, symbol_answer, table_answer, word_or_none,
+    answered, give, give_row, parse_answer, place_answer, symbol_answer, table_answer, word_in,
+    word_or_none,
 };
+use call_depth::load_call_depth;
+use depth::{load_depth_answer, measured};
 use ebpf::hash_symbol_name;
 use elf_parser::{Elf64, ElfParserError, Place, parse};
 use hash_table::find_symbol;
@@ -29,6 +33,7 @@ use writers::load_who_wrote;
 use wrote::{load_wrote_answer, numbers_answer, who_wrote_answer};
 
 mod answers;
+mod depth;
 mod loading;
 mod names;
 mod wrote;
@@ -244,7 +249,7 @@ pub fn sbpf_who_wrote_all(
 
 // A load, as `sbpf_load`, and who wrote a byte of its image: the words of the load's answer, and behind
 // them the writer's two.
-// Kept: the columns one by one, as C lends them; and the registry and the settings written out in both loads,
+// Kept: the columns one by one, as C lends them; and the registry and the settings written out in each load,
 // since a function that makes them would take the same seven parameters.
 #[tactic(auto, using(crate::proofs::Giving::one_by_one, crate::proofs::GivingBoth::given))]
 pub fn sbpf_load_who_wrote(
@@ -277,6 +282,74 @@ pub fn sbpf_load_who_wrote(
     };
     let a = load_who_wrote(file, loader, image, ro, &mut registry, offset);
     give(answer, load_wrote_answer(a))
+}
+
+// How deep the profile calls that a load answered for: by the words of that answer, and by the image and
+// the columns that it left. 0, and in the word 4 the longest chain from the entry; 41, where `work` has
+// fewer numbers than rows are lent; 50, and as the value the index; 51, and as the value the chain.
+// Kept: the columns one by one, as C lends them.
+#[tactic(auto, using(crate::proofs::Measuring::measured_given))]
+pub fn sbpf_call_depth(
+    image: &[u8],
+    keys: &[u32],
+    indices: &[u32],
+    kinds: &[u32],
+    starts: &[u32],
+    lengths: &[u32],
+    loaded: &[u64],
+    work: &mut [u32],
+    limit: u32,
+    answer: &mut [u64],
+) -> u32
+    ensures { GivesDepth work image (slices keys.now indices.now kinds.now starts.now lengths.now) loaded.now limit answer result }
+{
+    let table = FunctionTable {
+        keys,
+        indices,
+        kinds,
+        starts,
+        lengths,
+        used: word_in(loaded, 6) as usize,
+    };
+    let a = measured(work, image, table, loaded, limit);
+    give(answer, a)
+}
+
+// A load, as `sbpf_load`, and how deep the profile calls: the words of the load's answer, and behind
+// them the chain. Where the question is refused, the load's words stay behind that refusal.
+// Kept: the columns one by one, as C lends them; the rest as in the load above.
+#[tactic(auto, using(crate::proofs::Giving::one_by_one, crate::proofs::Measuring::given))]
+pub fn sbpf_load_call_depth(
+    file: &[u8],
+    builtins: &[u32],
+    settings: u32,
+    image: &mut [u8],
+    ro: &mut [u8],
+    keys: &mut [u32],
+    indices: &mut [u32],
+    kinds: &mut [u32],
+    starts: &mut [u32],
+    lengths: &mut [u32],
+    work: &mut [u32],
+    limit: u32,
+    answer: &mut [u64],
+) -> u32
+    ensures { GivesLoadDepth file builtins settings image ro keys indices kinds starts lengths work limit answer result }
+{
+    let mut registry = FunctionRegistry {
+        keys,
+        indices,
+        kinds,
+        starts,
+        lengths,
+        used: 0,
+    };
+    let loader = BuiltinProgram {
+        functions: builtins,
+        config: Config::from(settings),
+    };
+    let a = load_call_depth(file, loader, image, ro, &mut registry, work, limit);
+    give(answer, load_depth_answer(a))
 }
 
 // Where the text stands among the read-only bytes of a load: by how many bytes are lent that hold

@@ -1,7 +1,7 @@
 // The names of the refusals, for people.
 ghost use Rattle.std.specs.Prelude.{◌≡◌, length};
 ghost use Rattle.exports.specs.Answers.{written};
-ghost use Rattle.exports.specs.Names.{Named, refusal_name};
+ghost use Rattle.exports.specs.Names.{Named, name_in, names_from_45, refusal_name};
 
 // Fills a slice: the bytes, as many as there is room for, and zeros behind them.
 // Kept: apart from `fill` of answers.rt. One `fill` for any `T: Copy` was tried: std's `fill` then asks of `T` that
@@ -16,7 +16,26 @@ fn fill_bytes(to: &mut [u8], bytes: &[u8])
     to[held..].fill(0);
 }
 
+// The name of the refusal with a number from 45 on, empty where no refusal has it. Apart from the others, since the
+// check proves no match of forty numbers.
+#[tactic(auto, using(ebpf::specs::Choice::choices), unfolding(crate::specs::Names::names_from_45, crate::specs::Names::name_in, crate::specs::Names::bytes))]
+fn name_from_45(number: u32) -> &'static [u8]
+    ensures { result.now ≡ name_in names_from_45 number }
+{
+    match number {
+        45 => b"NoSuchIndex".as_slice(),
+        46 => b"NotASection".as_slice(),
+        47 => b"AddendNegative".as_slice(),
+        48 => b"BadHashTable".as_slice(),
+        49 => b"StringUnterminated".as_slice(),
+        50 => b"RecursiveCall".as_slice(),
+        51 => b"TooDeep".as_slice(),
+        _ => b"".as_slice(),
+    }
+}
+
 // The name of the refusal with a number, empty where no refusal has it.
+// Kept: by numbers, which C gives, and not by the enums that `Report::from` takes, since C has no other word for them.
 #[tactic(auto, using(ebpf::specs::Choice::choices), unfolding(crate::specs::Names::names, crate::specs::Names::name_in, crate::specs::Names::bytes, crate::specs::Names::refusal_name))]
 fn name_of(number: u32) -> &'static [u8]
     ensures { result.now ≡ refusal_name number }
@@ -55,12 +74,7 @@ fn name_of(number: u32) -> &'static [u8]
         42 => b"BuiltinsNotAscending".as_slice(),
         43 => b"TableFull".as_slice(),
         44 => b"TextOutsideReadOnly".as_slice(),
-        45 => b"NoSuchIndex".as_slice(),
-        46 => b"NotASection".as_slice(),
-        47 => b"AddendNegative".as_slice(),
-        48 => b"BadHashTable".as_slice(),
-        49 => b"StringUnterminated".as_slice(),
-        _ => b"".as_slice(),
+        _ => name_from_45(number),
     }
 }
 

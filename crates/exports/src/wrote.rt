@@ -1,10 +1,10 @@
-// Who wrote a byte, in words; and the words of a load's answer, which the questions take.
+// Who wrote a byte, in words.
 ghost use Rattle.std.specs.Prelude.{◌≡◌};
-ghost use Rattle.exports.specs.Wrote.{kind_of, number_in, wrote_answer, refusal_in, refused_in, text_told, who_wrote_answer, filled_answer, Numbers, accepted_wrote, load_wrote_answer};
+ghost use Rattle.exports.specs.Wrote.{kind_of, number_in, wrote_answer, who_wrote_answer, filled_answer, Numbers, accepted_wrote, load_wrote_answer};
 
-use crate::answers::{Answer, answer_with, answered, reported, word_in};
-use crate::loading::loaded_with;
-use elf_parser::{ElfParserError, Place, Report};
+use crate::answers::{Answer, answer_with, answered, reported};
+use crate::loading::{loaded_with, told};
+use elf_parser::{ElfParserError, Report};
 use loader::{Accepted, ElfError, LoadAnd, clear_words};
 use writers::{LoadedText, Writer, who_wrote_all_by, who_wrote_by};
 
@@ -37,43 +37,14 @@ fn wrote_answer(wrote: Result<Writer, ElfError>) -> Answer
     })
 }
 
-// The number of the refusal that a load's answer is, or 0.
-fn refusal_in(loaded: &[u64]) -> u32
-    ensures { result ≡ refusal_in loaded.now }
-{
-    (word_in(loaded, 0) % 0x1_0000_0000) as u32
-}
-
-// That refusal, with its value and its name.
-fn refused_in(loaded: &[u64]) -> Answer
-    ensures { result ≡ refused_in loaded.now }
-{
-    let words = [word_in(loaded, 1), word_in(loaded, 2), word_in(loaded, 3)];
-    answer_with(refusal_in(loaded), &words)
-}
-
-// What they say of the text.
-fn text_told(loaded: &[u64]) -> LoadedText
-    ensures { result ≡ text_told loaded.now }
-{
-    LoadedText {
-        version2: word_in(loaded, 4) == 2,
-        place: Place {
-            start: word_in(loaded, 13) as usize,
-            length: word_in(loaded, 14) as usize,
-        },
-    }
-}
-
 // Who wrote a byte, by the words of a load's answer.
 #[tactic(auto, using(ebpf::specs::Choice::choices), unfolding(crate::specs::Wrote::who_wrote_answer))]
 pub(crate) fn who_wrote_answer(file: &[u8], loaded: &[u64], offset: u64) -> Answer
     ensures { result ≡ who_wrote_answer file.now loaded.now offset }
 {
-    if refusal_in(loaded) != 0 {
-        return refused_in(loaded);
-    }
-    wrote_answer(who_wrote_by(file, text_told(loaded), offset))
+    answered(told(loaded), |a| {
+        wrote_answer(who_wrote_by(file, LoadedText::from(a), offset))
+    })
 }
 
 fn filled_answer(filled: Result<(), ElfError>) -> Answer
@@ -87,11 +58,13 @@ fn filled_answer(filled: Result<(), ElfError>) -> Answer
 pub(crate) fn numbers_answer(numbers: &mut [u32], file: &[u8], loaded: &[u64]) -> Answer
     ensures { Numbers file loaded numbers result }
 {
-    if refusal_in(loaded) != 0 {
-        clear_words(numbers);
-        return refused_in(loaded);
+    match told(loaded) {
+        Err(r) => {
+            clear_words(numbers);
+            reported(r)
+        }
+        Ok(a) => filled_answer(who_wrote_all_by(numbers, file, LoadedText::from(a))),
     }
-    filled_answer(who_wrote_all_by(numbers, file, text_told(loaded)))
 }
 
 // The answer of an accepted load, with who wrote the byte behind it. An offset past the file's end
@@ -102,9 +75,14 @@ fn accepted_wrote(a: Accepted, wrote: Result<Writer, ElfError>) -> Answer
     match wrote {
         Ok(w) => {
             let WriterWords { kind, number } = WriterWords::from(w);
-            loaded_with(0, a, kind, number)
+            loaded_with(Report::with_value(0, 0), a, kind, number)
         }
-        Err(ElfError::FailedToParse(ElfParserError::NoSuchIndex)) => loaded_with(45, a, 0, 0),
+        Err(ElfError::FailedToParse(ElfParserError::NoSuchIndex)) => loaded_with(
+            Report::with_value(45, 0),
+            a,
+            0,
+            0,
+        ),
         Err(e) => reported(Report::from(e)),
     }
 }

@@ -13,6 +13,7 @@ ghost use Rattle.program.specs.Table.{lookup_in, lookup_ascending_in, row_ascend
 ghost use Rattle.loader.specs.GetBytes.{text_place};
 ghost use Rattle.exports.specs.Answers.{Gives, GivesAsked, GivesLoad, text_answer, parse_answer, place_answer, table_answer, symbol_answer, row_answer, word_or_none};
 ghost use Rattle.exports.specs.Wrote.{who_wrote_answer, GivesNumbers, GivesLoadWrote};
+ghost use Rattle.exports.specs.Depth.{GivesDepth, GivesLoadDepth};
 ghost use Rattle.exports.specs.Names.{Named, refusal_name};
 
 // The hash of a name.
@@ -211,6 +212,55 @@ pub extern "C" fn sbpf_load_who_wrote(
 {
     exports::sbpf_load_who_wrote(
         file, builtins, settings, image, ro, keys, indices, kinds, starts, lengths, offset, answer,
+    )
+}
+
+// How deep the profile calls that a load answered for: by the words of that answer, and by the image and
+// the columns that it left. 0, and in the word 4 the longest chain from the entry; 41, where `work` has
+// fewer numbers than rows are lent; 50, and as the value the index; 51, and as the value the chain.
+#[unsafe(no_mangle)]
+pub extern "C" fn sbpf_call_depth(
+    image: &[u8],
+    keys: &[u32],
+    indices: &[u32],
+    kinds: &[u32],
+    starts: &[u32],
+    lengths: &[u32],
+    loaded: &[u64],
+    work: &mut [u32],
+    limit: u32,
+    answer: &mut [u64],
+) -> u32
+    ensures { GivesDepth work image (slices keys.now indices.now kinds.now starts.now lengths.now) loaded.now limit answer result }
+{
+    exports::sbpf_call_depth(
+        image, keys, indices, kinds, starts, lengths, loaded, work, limit, answer,
+    )
+}
+
+// A load, as `sbpf_load`, and how deep the profile calls: the words of the load's answer, and behind
+// them the chain. Where the question is refused, the load's words stay behind that refusal.
+#[unsafe(no_mangle)]
+pub extern "C" fn sbpf_load_call_depth(
+    file: &[u8],
+    builtins: &[u32],
+    settings: u32,
+    image: &mut [u8],
+    ro: &mut [u8],
+    keys: &mut [u32],
+    indices: &mut [u32],
+    kinds: &mut [u32],
+    starts: &mut [u32],
+    lengths: &mut [u32],
+    work: &mut [u32],
+    limit: u32,
+    answer: &mut [u64],
+) -> u32
+    ensures { GivesLoadDepth file builtins settings image ro keys indices kinds starts lengths work limit answer result }
+{
+    exports::sbpf_load_call_depth(
+        file, builtins, settings, image, ro, keys, indices, kinds, starts, lengths, work, limit,
+        answer,
     )
 }
 
