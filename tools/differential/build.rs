@@ -4,13 +4,14 @@
 //!
 //! What the library has is read from its symbols, so that one source builds with each state of
 //! it: cfg `port` says that there is a library, `load` that it has `sbpf_load`, `text_place` that
-//! it has `sbpf_text_place`, `writers` that it has `sbpf_load_who_wrote`. A command that needs what is not there says so and stops.
+//! it has `sbpf_text_place`, `writers` that it has `sbpf_load_who_wrote`, `call_depth` that it has
+//! `sbpf_load_call_depth`. A command that needs what is not there says so and stops.
 use std::{env, fs, path::PathBuf};
 
 fn main() {
     println!("cargo:rerun-if-env-changed=EXPORTS_LIB");
     println!("cargo:rerun-if-changed=build.rs");
-    println!("cargo:rustc-check-cfg=cfg(port, load, text_place, writers)");
+    println!("cargo:rustc-check-cfg=cfg(port, load, text_place, writers, call_depth)");
     if env::var_os("EXPORTS_LIB").is_some_and(|folder| folder == "none") {
         return;
     }
@@ -35,6 +36,7 @@ fn main() {
         ("sbpf_load", "load"),
         ("sbpf_text_place", "text_place"),
         ("sbpf_load_who_wrote", "writers"),
+        ("sbpf_load_call_depth", "call_depth"),
     ] {
         // the whole name, as symbol tables hold it: with a zero byte behind, and nothing of a
         // longer name before

@@ -2,7 +2,7 @@
 // words of the answer from the version on, then key, index, and the name's kind, start and length of
 // each row, and the words of the image that are not the file's, with their places. The line of a
 // question: `refused` likewise, or how many bytes and where they start, or whether there is a symbol and
-// its number, or who wrote a byte.
+// its number, or who wrote a byte, or how deep the file calls.
 use ebpf::little_endian::read;
 use program::FunctionTable;
 use std::io;
@@ -83,6 +83,21 @@ pub(crate) fn print_writer(
             loaded[15], loaded[16], asked[4], asked[5]
         )
     })
+}
+
+// How deep a file calls: number, value and chain, with the load and by its answer.
+pub(crate) fn print_depth(
+    rt: &impl Print,
+    loaded: &[u64; 24],
+    asked: &[u64; 24],
+) -> io::Result<()> {
+    if loaded[4] == 0 {
+        return print_refused(rt, loaded);
+    }
+    println!(rt;
+        "depth {} {} {}, {} {} {}",
+        loaded[0], loaded[1], loaded[15], asked[0], asked[1], asked[4]
+    )
 }
 
 pub(crate) fn print_load(

@@ -6,14 +6,16 @@
 // file's length, the settings by their bits, how many built-ins there are, one at most, the built-in,
 // the rows, what is asked, 0 for a load, and the number that a question has; and the file. Question 5, for
 // a symbol by its name, has the name behind the file, and its length as the number; question 6 asks who wrote
-// the byte with that number. What is lent holds anything but zeros before.
+// the byte with that number, question 7 how deep the file calls, with that limit. What is lent holds anything but
+// zeros before.
 use ebpf::little_endian::read;
 use exports::{
-    sbpf_dynamic_symbol_name, sbpf_find_symbol, sbpf_load, sbpf_load_who_wrote, sbpf_section_name,
-    sbpf_section_place, sbpf_symbol_name, sbpf_who_wrote, sbpf_who_wrote_all,
+    sbpf_call_depth, sbpf_dynamic_symbol_name, sbpf_find_symbol, sbpf_load, sbpf_load_call_depth,
+    sbpf_load_who_wrote, sbpf_section_name, sbpf_section_place, sbpf_symbol_name, sbpf_who_wrote,
+    sbpf_who_wrote_all,
 };
 use input::{RecordError, read_full};
-use lines::{FILE, ROWS, print_answer, print_load, print_writer};
+use lines::{FILE, ROWS, print_answer, print_depth, print_load, print_writer};
 use program::FunctionTable;
 use std::io;
 use std::io::Read;
@@ -157,6 +159,50 @@ fn load_and_print_wrote(rt: &impl Print, file: &[u8], record: Record) -> Result<
     Ok(())
 }
 
+// Loads, with the question how deep it calls, asks again by the words of the load's answer, and prints both.
+fn load_and_print_depth(rt: &impl Print, file: &[u8], record: Record) -> Result<(), RecordError> {
+    let builtin = builtin_of(record)?;
+    let mut lent = lend();
+    let lengths = lent.lengths.get_mut(..record.rows).ok_or(RecordError::Bad)?;
+    let mut work = [0xabab_abab; ROWS];
+    let work = work.get_mut(..record.rows).ok_or(RecordError::Bad)?;
+    sbpf_load_call_depth(
+        file,
+        builtin.as_slice(),
+        record.settings,
+        &mut lent.image,
+        &mut lent.ro,
+        &mut lent.keys,
+        &mut lent.indices,
+        &mut lent.kinds,
+        &mut lent.starts,
+        lengths,
+        work,
+        record.number,
+        &mut lent.answer,
+    );
+    // the words of the accepted load, also behind a refusal of the question
+    let mut loaded = lent.answer;
+    if 0 < loaded[4] {
+        loaded[0] = 0;
+    }
+    let mut asked = [0xa9a9_a9a9u64; 24];
+    sbpf_call_depth(
+        &lent.image,
+        &lent.keys,
+        &lent.indices,
+        &lent.kinds,
+        &lent.starts,
+        lengths,
+        &loaded,
+        work,
+        record.number,
+        &mut asked,
+    );
+    print_depth(rt, &lent.answer, &asked)?;
+    Ok(())
+}
+
 // Asks the file for a place, and prints what was answered.
 fn ask_and_print<F: FnOnce(&mut [u64]) -> u32>(rt: &impl Print, ask: F) -> Result<(), RecordError>
     requires { F.IsAlwaysCallable ask }
@@ -212,6 +258,7 @@ fn run(
         4 => ask_and_print(rt, |answer| sbpf_dynamic_symbol_name(file, number, answer)),
         5 => find_and_print(rt, input, file, name, number as usize),
         6 => load_and_print_wrote(rt, file, record),
+        7 => load_and_print_depth(rt, file, record),
         _ => Err(RecordError::Bad),
     }
 }

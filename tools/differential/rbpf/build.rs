@@ -35,7 +35,10 @@ fn main() {
             path = out_dir.join("aligned_memory.rs");
             fs::write(&path, given + "\nmod tests_were_cut_off {}\n").unwrap();
         }
-        text += &format!("#[path = {:?}]\npub mod {module};\n", path.display().to_string());
+        text += &format!(
+            "#[path = {:?}]\npub mod {module};\n",
+            path.display().to_string()
+        );
     }
     println!("cargo:rerun-if-changed={}", folder.display());
     fs::write(out_dir.join("given.rs"), text).unwrap();

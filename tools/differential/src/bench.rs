@@ -1,5 +1,6 @@
 //! Files of a given size and number of functions, for measuring. Plain: one text that calls each
-//! function four times from places all over it, and a label for each function. And files full of relocations.
+//! function four times from places all over it, and a label for each function. Files full of relocations. And files
+//! whose functions call each other in a way that is given.
 
 use crate::{
     elf::{put, PROGRAM_START},
@@ -104,6 +105,74 @@ pub fn relocated(size: usize, count: usize, version2: bool, addends: bool) -> Ve
         (25, 3, b"\0.text\0.rel.dyn\0.dynamic\0.shstrtab\0"),
     ];
     assembled(size, version2, &parts, 1)
+}
+
+/// Which functions each function calls. The first is the entry.
+pub type Graph = Vec<Vec<usize>>;
+
+/// The entry calls all of the first of `levels - 1` levels, and each function four of the next level, so that all of
+/// that are called.
+pub fn levels(functions: usize, levels: usize) -> Graph {
+    let r = &mut Random::new(5, functions as u64);
+    let level = |k: usize| 1 + (k - 1) * (levels - 1) / (functions - 1);
+    let members = |l: usize| -> Vec<usize> { (1..functions).filter(|k| level(*k) == l).collect() };
+    let mut graph = vec![members(1)];
+    for l in 1..levels {
+        let (here, next) = (members(l).len(), members(l + 1));
+        for j in 0..here {
+            let mut to: Vec<usize> = next.iter().skip(j).step_by(here).copied().collect();
+            while to.len() < 4 && !next.is_empty() {
+                to.push(next[r.index(next.len())]);
+            }
+            graph.push(to);
+        }
+    }
+    graph
+}
+
+/// Each function calls the next. The last calls the one before it, or none.
+pub fn chain(functions: usize, circle: bool) -> Graph {
+    (0..functions)
+        .map(|k| match k + 1 < functions {
+            true => vec![k + 1],
+            false if circle => vec![k - 1],
+            false => Vec::new(),
+        })
+        .collect()
+}
+
+/// A file of `size` bytes whose functions call each other as `graph` says, and stand in its order, or the other way
+/// round, so that what is called stands before its caller.
+pub fn calling(size: usize, graph: &Graph, called_first: bool, version2: bool) -> Vec<u8> {
+    let calls: usize = graph.iter().map(Vec::len).sum();
+    let slots = (size - TEXT_AT - 5 * 64) / 8;
+    let spare = (slots - calls) / graph.len();
+    let mut order: Vec<usize> = (0..graph.len()).collect();
+    if called_first {
+        order.reverse();
+    }
+    let mut starts = vec![0; graph.len()];
+    let mut at = 0;
+    for f in &order {
+        starts[*f] = at;
+        at += graph[*f].len() + spare;
+    }
+    let mut text = vec![[0xb7, 0x01, 0, 0, 1, 0, 0, 0]; at];
+    for (f, to) in graph.iter().enumerate() {
+        for (k, g) in to.iter().enumerate() {
+            // evenly among the function's slots
+            let at = starts[f] + (k + 1) * (to.len() + spare) / (to.len() + 1);
+            let immediate = (starts[*g] as i64 - at as i64 - 1) as i32;
+            text[at] = [0x85, 0x10, 0, 0, 0, 0, 0, 0];
+            text[at][4..].copy_from_slice(&immediate.to_le_bytes());
+        }
+    }
+    let text = text.concat();
+    let parts = [(1, 1, &text[..]), (7, 3, b"\0.text\0.shstrtab\0")];
+    let mut file = assembled(size, version2, &parts, 0);
+    let entry = base(version2) + (TEXT_AT + 8 * starts[0]) as u64;
+    put(&mut file, 24, entry, 8);
+    file
 }
 
 /// The file of these sections: where a name starts in the last of them, type and bytes. The first is the text,

@@ -118,7 +118,8 @@ impl Case {
     }
 
     /// The cases of a comparison: every other one has relocations that bring an addend, and of four in a row
-    /// the last two a hash table; of four such rows the last has open names.
+    /// the last two a hash table; of four such rows the last has open names, and of
+    /// sixteen the last four have long chains of calls.
     pub fn compared(seed: u64, number: u64) -> Case {
         let beyond = Beyond {
             addends: match number % 2 {
@@ -127,6 +128,7 @@ impl Case {
             },
             hash_table: number % 4 > 1,
             open_names: number / 4 % 4 == 3,
+            chains: number / 16 % 4 == 3,
         };
         Case::of_any_size(seed, number, beyond)
     }

@@ -600,7 +600,7 @@ impl Comparer {
 
 /// Where the binary search comes to, whatever the numbers are: they are halved until one is left, and it is that
 /// one's place, or the next where that one is below the key.
-fn binary_search(keys: &[u32], key: u32) -> usize {
+pub fn binary_search(keys: &[u32], key: u32) -> usize {
     let (mut base, mut size) = (0, keys.len());
     while 1 < size {
         let half = size / 2;

@@ -168,6 +168,8 @@ pub struct Beyond {
     pub hash_table: bool,
     /// Each table of names ends in a name without its zero byte, about as long as a name may be.
     pub open_names: bool,
+    /// Most slots call one of the next, so that calls make long chains.
+    pub chains: bool,
 }
 
 impl Beyond {
@@ -182,6 +184,7 @@ impl Beyond {
         addends: Addends::No,
         hash_table: false,
         open_names: false,
+        chains: false,
     };
 }
 
@@ -248,6 +251,28 @@ fn text(r: &mut Random, slots: usize, style: Style) -> (Vec<u8>, Vec<u64>) {
         bytes.resize(bytes.len() + more, 0x85);
     }
     (bytes, loads)
+}
+
+/// Instructions that call one of the next three slots, seldom one before; exits between them.
+fn chains(r: &mut Random, slots: usize) -> Vec<u8> {
+    let mut bytes = Vec::new();
+    for here in 0..slots {
+        let next = (slots - here - 1).min(3) as u64;
+        let back = r.odd(4 * slots as u64);
+        let target = match next {
+            _ if back => r.below(here as u64 + 1) as i64,
+            0 => here as i64,
+            _ => here as i64 + r.range(1, next) as i64,
+        };
+        // one that calls itself is no call
+        if r.one_in(5) || (next == 0 && !back) {
+            bytes.extend_from_slice(&[0x95, 0, 0, 0, 0, 0, 0, 0]);
+        } else {
+            bytes.extend_from_slice(&[0x85, 0x10, 0, 0]);
+            bytes.extend_from_slice(&((target - here as i64 - 1) as i32).to_le_bytes());
+        }
+    }
+    bytes
 }
 
 /// What is drawn for the whole file.
@@ -454,7 +479,10 @@ pub fn file(r: &mut Random, style: Style, beyond: Beyond) -> Made {
     // the sections, in the order of the file
     let mut sections = vec![section(b"", SHT_NULL, 0, Vec::new())];
     let alloc = 2;
-    let (code, loads) = text(r, slots, style);
+    let (code, loads) = match beyond.chains {
+        true => (chains(r, slots), Vec::new()),
+        false => text(r, slots, style),
+    };
     let mut parts = vec![section(b".text", SHT_PROGBITS, alloc | 4, code)];
     if r.odd(16) {
         parts[0].kind = SHT_NOBITS;

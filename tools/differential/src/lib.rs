@@ -1,17 +1,19 @@
 //! The proved functions and the Rust, side by side. `outcome` has the Rust's answers
 //! in the scope's numbers: solana_rbpf 0.8.5, compiled unchanged from RBPF_SRC. `port` calls
 //! the proved functions. `cases` makes the inputs, `compare` asks both, and `loads` does for whole
-//! loads, whose answers `expected` has in full, and `wrote` for who wrote their bytes. `worked` has the
-//! scope's examples.
+//! loads, whose answers `expected` has in full, `wrote` for who wrote their bytes, and `measured` for how
+//! deep they call. `worked` has the scope's examples.
 
 pub mod bench;
 pub mod cases;
 pub mod compare;
+pub mod depth;
 pub mod dynamic;
 pub mod elf;
 pub mod expected;
 pub mod finding;
 pub mod loads;
+pub mod measured;
 pub mod model;
 pub mod mutate;
 pub mod outcome;
@@ -115,6 +117,8 @@ pub fn number_name(number: u32) -> &'static str {
         47 => "AddendNegative",
         48 => "BadHashTable",
         49 => "StringUnterminated",
+        50 => "RecursiveCall",
+        51 => "TooDeep",
         _ => "?",
     }
 }

@@ -4,7 +4,7 @@ use crate::{
     cases::Case,
     compare::{written, Placed},
     expected::{expected, text_in, Expected, LONGEST},
-    number_name,
+    measured, number_name,
     outcome::Text,
     port::{self, WORDS},
     writers, wrote,
@@ -84,6 +84,8 @@ pub struct Counts {
     pub longest_accepted: u64,
     /// Who wrote their bytes.
     pub wrote: wrote::Counts,
+    /// How deep they call.
+    pub measured: measured::Counts,
 }
 
 impl Counts {
@@ -209,6 +211,9 @@ pub fn compare(case: &Case, counts: &mut Counts) -> Result<(), String> {
     ro.check("the read-only buffer", &e.ro)?;
     if port::HAS_WRITERS {
         wrote::compare(case, &e, file.bytes(), answer.held(), &mut counts.wrote)?;
+    }
+    if port::HAS_CALL_DEPTH {
+        measured::compare(case, &e, file.bytes(), &mut counts.measured)?;
     }
 
     // the text part, by the port's own answer and bytes

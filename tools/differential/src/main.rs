@@ -141,6 +141,9 @@ fn compare(ask: Ask, cases: u64, seed: u64, first: u64) {
         if ask.loads && port::HAS_WRITERS {
             counts.wrote.print();
         }
+        if ask.loads && port::HAS_CALL_DEPTH {
+            counts.measured.print();
+        }
     }
     println!("{differences} differences");
     if differences > 0 {

@@ -136,12 +136,44 @@ proved! { writers:
     ) -> u32;
 }
 
+proved! { call_depth:
+    fn sbpf_call_depth(
+        image: *const u8, image_len: usize,
+        keys: *const u32, keys_len: usize,
+        indices: *const u32, indices_len: usize,
+        kinds: *const u32, kinds_len: usize,
+        starts: *const u32, starts_len: usize,
+        lengths: *const u32, lengths_len: usize,
+        loaded: *const u64, loaded_len: usize,
+        work: *mut u32, work_len: usize,
+        limit: u32,
+        answer: *mut u64, answer_len: usize,
+    ) -> u32;
+    fn sbpf_load_call_depth(
+        file: *const u8, file_len: usize,
+        builtins: *const u32, builtins_len: usize,
+        settings: u32,
+        image: *mut u8, image_len: usize,
+        ro: *mut u8, ro_len: usize,
+        keys: *mut u32, keys_len: usize,
+        indices: *mut u32, indices_len: usize,
+        kinds: *mut u32, kinds_len: usize,
+        starts: *mut u32, starts_len: usize,
+        lengths: *mut u32, lengths_len: usize,
+        work: *mut u32, work_len: usize,
+        limit: u32,
+        answer: *mut u64, answer_len: usize,
+    ) -> u32;
+}
+
 /// Whether the library has a load.
 pub const HAS_LOAD: bool = cfg!(load);
 /// Whether it has the text part on its own.
 pub const HAS_TEXT_PLACE: bool = cfg!(text_place);
 /// Whether it can be asked who wrote a byte.
 pub const HAS_WRITERS: bool = cfg!(writers);
+/// Whether it can be asked how deep a profile calls.
+pub const HAS_CALL_DEPTH: bool = cfg!(call_depth);
 /// Whether there is a library.
 pub const HAS_PORT: bool = cfg!(port);
 
@@ -401,6 +433,99 @@ pub fn load_who_wrote(
             lengths.as_mut_ptr(),
             lengths.len(),
             offset,
+            answer.as_mut_ptr(),
+            answer.len(),
+        )
+    }
+}
+
+/// How deep the profile of a load calls, by the words of its answer, and what it left.
+pub fn call_depth(
+    image: &[u8],
+    t: &Columns,
+    loaded: &[u64],
+    work: &mut [u32],
+    limit: u32,
+    room: usize,
+) -> Answer {
+    with_words(room, |words| {
+        call_depth_into(image, t, loaded, work, limit, words)
+    })
+}
+
+/// The same into words that are lent.
+pub fn call_depth_into(
+    image: &[u8],
+    t: &Columns,
+    loaded: &[u64],
+    work: &mut [u32],
+    limit: u32,
+    words: &mut [u64],
+) -> u32 {
+    let [keys, indices, kinds, starts, lengths] = t;
+    unsafe {
+        sbpf_call_depth(
+            image.as_ptr(),
+            image.len(),
+            keys.as_ptr(),
+            keys.len(),
+            indices.as_ptr(),
+            indices.len(),
+            kinds.as_ptr(),
+            kinds.len(),
+            starts.as_ptr(),
+            starts.len(),
+            lengths.as_ptr(),
+            lengths.len(),
+            loaded.as_ptr(),
+            loaded.len(),
+            work.as_mut_ptr(),
+            work.len(),
+            limit,
+            words.as_mut_ptr(),
+            words.len(),
+        )
+    }
+}
+
+/// A load, and how deep the profile calls.
+#[allow(clippy::too_many_arguments)]
+pub fn load_call_depth(
+    file: &[u8],
+    builtins: &[u32],
+    settings: u32,
+    image: &mut [u8],
+    ro: &mut [u8],
+    table: [&mut [u32]; 5],
+    work: &mut [u32],
+    limit: u32,
+    answer: &mut [u64],
+) -> u32 {
+    let [keys, indices, kinds, starts, lengths] = table;
+    unsafe {
+        sbpf_load_call_depth(
+            file.as_ptr(),
+            file.len(),
+            builtins.as_ptr(),
+            builtins.len(),
+            settings,
+            image.as_mut_ptr(),
+            image.len(),
+            ro.as_mut_ptr(),
+            ro.len(),
+            keys.as_mut_ptr(),
+            keys.len(),
+            indices.as_mut_ptr(),
+            indices.len(),
+            kinds.as_mut_ptr(),
+            kinds.len(),
+            starts.as_mut_ptr(),
+            starts.len(),
+            lengths.as_mut_ptr(),
+            lengths.len(),
+            work.as_mut_ptr(),
+            work.len(),
+            limit,
             answer.as_mut_ptr(),
             answer.len(),
         )

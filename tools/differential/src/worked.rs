@@ -7,10 +7,12 @@
 use crate::{
     cases::Case,
     compare::Placed,
-    dynamic,
+    depth, dynamic,
     elf::{PROGRAM_START, STACK_START},
     expected::{expected, Expected, LONGEST},
-    finding, loads, outcome,
+    finding, loads,
+    model::{only, Stop},
+    outcome,
     port::{self, Columns, Question},
     writers::{self, Writer},
     Outcome, Settings,
@@ -35,6 +37,8 @@ enum Told {
     Symbol(u64, u64),
     /// Who wrote a byte: kind and number, with the load and by its answer, and the code among all bytes.
     Wrote([u64; 2], [u64; 2], u32),
+    /// Number, value and chain, as the load and as the question by its answer tell them.
+    Depth([u64; 3], [u64; 3]),
 }
 
 /// The words of `image` that are not the file's.
@@ -82,6 +86,9 @@ impl fmt::Display for Told {
                 told_numbers(load),
                 told_numbers(asked)
             ),
+            Told::Depth(load, asked) => {
+                write!(f, "depth {}, {}", told_numbers(load), told_numbers(asked))
+            }
         }
     }
 }
@@ -128,7 +135,9 @@ impl Told {
                 }
                 text + &told_written(words)
             }
-            Told::Place(..) | Told::Symbol(..) | Told::Wrote(..) => self.to_string(),
+            Told::Place(..) | Told::Symbol(..) | Told::Wrote(..) | Told::Depth(..) => {
+                self.to_string()
+            }
         }
     }
 }
@@ -139,6 +148,7 @@ fn rust(e: &Example) -> String {
         Asked::Load => rust_load(&e.case),
         Asked::Symbol(name) => symbol_by_name(&e.case.file, name),
         Asked::Wrote(offset) => wrote_by_model(&e.case, offset as usize),
+        Asked::Depth(limit) => depth_by_model(&e.case, limit),
         Asked::File(question, number) => match outcome::ask(&e.case.file, question, number) {
             Ok((start, length)) => Told::Place(start, length).to_string(),
             Err(r) => format!("refused {} {}", r.number, r.value),
@@ -169,7 +179,9 @@ fn told_writer(w: Writer) -> Told {
 }
 
 fn wrote_by_model(case: &Case, offset: usize) -> String {
-    let loaded = expected(case).expect("the model agrees with the Rust").words;
+    let loaded = expected(case)
+        .expect("the model agrees with the Rust")
+        .words;
     match writers::asked(&case.file, &loaded) {
         Err(stop) => format!("refused {} {}", stop.number, stop.value),
         Ok(written) => match writers::last(case.file.len(), &written.writes).get(offset) {
@@ -177,6 +189,30 @@ fn wrote_by_model(case: &Case, offset: usize) -> String {
             None => "refused 45 0".to_string(),
         },
     }
+}
+
+/// The same with the load and without.
+fn told_depth(told: Result<u64, Stop>) -> Told {
+    let words = match told {
+        Ok(chain) => [0, 0, chain],
+        Err(stop) => [stop.number as u64, stop.value, 0],
+    };
+    Told::Depth(words, words)
+}
+
+fn depth_by_model(case: &Case, limit: u32) -> String {
+    let e = expected(case).expect("the model agrees with the Rust");
+    if e.words[0] != 0 {
+        return format!("refused {} {}", e.words[0], e.words[1]);
+    }
+    told_depth(depth::asked(
+        &e.image,
+        &e.table,
+        &e.words,
+        case.rows(),
+        limit,
+    ))
+    .to_string()
 }
 
 fn rust_load(case: &Case) -> String {
@@ -215,6 +251,7 @@ fn port(e: &Example) -> Told {
             }
         }
         Asked::Wrote(offset) => port_wrote(&e.case, offset),
+        Asked::Depth(limit) => port_depth(&e.case, limit),
         Asked::File(question, number) => {
             let words = port::ask(question, &e.case.file, number, port::WORDS).1;
             match words[0] {
@@ -268,6 +305,31 @@ fn port_wrote(case: &Case, offset: u32) -> Told {
         ),
         _ => Told::Refused([asked[0], asked[1], asked[2], asked[3]]),
     }
+}
+
+fn port_depth(case: &Case, limit: u32) -> Told {
+    let (mut image, mut ro) = (vec![1; case.image], vec![1; case.ro]);
+    let mut table = case.columns.map(|n| vec![1; n]);
+    let mut work = vec![1; case.rows()];
+    let mut a = [1; port::WORDS];
+    port::load_call_depth(
+        &case.file,
+        &case.builtins,
+        case.settings.bits() as u32,
+        &mut image,
+        &mut ro,
+        table.each_mut().map(|c| &mut c[..]),
+        &mut work,
+        limit,
+        &mut a,
+    );
+    if a[4] == 0 {
+        return Told::Refused([a[0], a[1], a[2], a[3]]);
+    }
+    let load = [a[0], a[1], a[15]];
+    a[0] = 0;
+    let asked = port::call_depth(&image, &table, &a, &mut work, limit, port::WORDS).1;
+    Told::Depth(load, [asked[0], asked[1], asked[4]])
 }
 
 /// A relocation, with its symbol.
@@ -575,6 +637,8 @@ enum Asked {
     Symbol(&'static [u8]),
     /// Who wrote the byte with this offset.
     Wrote(u32),
+    /// How deep it calls, with this limit.
+    Depth(u32),
 }
 
 struct Example {
@@ -1543,6 +1607,153 @@ fn symbol_examples() -> Vec<Example> {
     ]
 }
 
+/// How deep profiles call.
+fn depth_examples() -> Vec<Example> {
+    let asked = |what, case, limit, expected| Example {
+        what,
+        asked: Asked::Depth(limit),
+        case,
+        expected,
+        asks_rust: true,
+    };
+    let chain = |n| told_depth(Ok(n));
+    let stopped = |number, value| {
+        told_depth(Err(Stop {
+            value,
+            ..only(number)
+        }))
+    };
+    // calls: from a slot, with this source register, of a slot
+    let text = |version2, slots: usize, calls: &[(usize, u8, usize)]| {
+        let small = Small {
+            version2,
+            text_length: 8 * slots,
+            ..PLAIN
+        };
+        let mut case = small.case();
+        for (from, source, to) in calls {
+            let slot = &mut case.file[64 + 8 * from..][..8];
+            slot[..2].copy_from_slice(&[0x85, source << 4]);
+            slot[4..].copy_from_slice(&(*to as i32 - *from as i32 - 1).to_le_bytes());
+        }
+        case
+    };
+    let chain_of_3 = || text(true, 3, &[(0, 1, 1), (1, 1, 2)]);
+    // slot 0 is a call without a target in the file, of a symbol
+    let named = |is_function| {
+        let relocation = Relocation {
+            kind: 10,
+            value: if is_function { 72 } else { 0 },
+            name: Some("abort"),
+            behind: None,
+            addend: None,
+        };
+        let small = Small {
+            version2: false,
+            slot: Some((0, 0x1085 | 0xffff_ffff << 32)),
+            relocation: Some(relocation),
+            ..PLAIN
+        };
+        let mut case = small.case();
+        if is_function {
+            // of a section, which makes it no built-in
+            (case.file[84], case.file[86]) = (0x12, 1);
+        }
+        case
+    };
+    // one slot calls the function at slot 1, which a label names as well
+    let labelled = Small {
+        version2: false,
+        slot: Some((0, 0x1085)),
+        label: Some("lift"),
+        ..PLAIN
+    };
+    vec![
+        asked("depth of a lone entry", PLAIN.case(), 1, chain(1)),
+        asked("depth of a chain of 3, limit 3", chain_of_3(), 3, chain(3)),
+        asked(
+            "depth of a chain of 3, limit 2",
+            chain_of_3(),
+            2,
+            stopped(51, 3),
+        ),
+        asked("depth of a chain of 3, limit 0", chain_of_3(), 0, chain(3)),
+        asked(
+            "depth of a chain of 3, limit 65",
+            chain_of_3(),
+            65,
+            chain(3),
+        ),
+        asked(
+            "depth of a chain of functions of two slots",
+            text(true, 4, &[(0, 1, 2), (2, 1, 3)]),
+            64,
+            chain(3),
+        ),
+        // the function at 1 has the slots 1 and 2
+        asked(
+            "depth of a function that calls itself",
+            text(true, 3, &[(0, 1, 1), (2, 1, 1)]),
+            64,
+            stopped(50, 1),
+        ),
+        asked(
+            "depth of a circle with the entry, limit 1",
+            text(true, 2, &[(0, 1, 1), (1, 1, 0)]),
+            1,
+            stopped(50, 0),
+        ),
+        asked(
+            "depth of a circle whose smaller index is met last",
+            text(true, 5, &[(0, 1, 4), (4, 1, 2), (2, 1, 4)]),
+            64,
+            stopped(50, 2),
+        ),
+        asked(
+            "depth of a circle that is not reached",
+            text(true, 3, &[(1, 1, 2), (2, 1, 1)]),
+            64,
+            chain(1),
+        ),
+        asked(
+            "depth of a call with source 0, version 2",
+            text(true, 2, &[(0, 0, 1)]),
+            64,
+            chain(1),
+        ),
+        asked(
+            "depth of a call with source 0, version 1",
+            text(false, 2, &[(0, 0, 1)]),
+            64,
+            chain(2),
+        ),
+        asked(
+            "depth of a call that a relocation writes",
+            named(true),
+            64,
+            chain(2),
+        ),
+        asked(
+            "depth of a call of a built-in",
+            with(named(false), ALL, 0xb6fc_1a11),
+            64,
+            chain(1),
+        ),
+        asked(
+            "depth with two rows of one index, version 1",
+            labelled.case(),
+            64,
+            chain(2),
+        ),
+        asked(
+            "depth of a load that is refused",
+            with_rows(chain_of_3(), 2),
+            64,
+            refused(43, 2),
+        ),
+    ]
+}
+
 /// How long a title is with the spaces behind it.
 const TITLE: usize = 80;
 
@@ -1564,12 +1775,14 @@ fn record(e: &Example) -> Vec<u8> {
             Asked::File(question, _) => 1 + question as u32,
             Asked::Symbol(_) => 5,
             Asked::Wrote(_) => 6,
+            Asked::Depth(_) => 7,
         },
         match e.asked {
             Asked::Load => 0,
             Asked::File(_, number) => number,
             Asked::Symbol(name) => name.len() as u32,
             Asked::Wrote(offset) => offset,
+            Asked::Depth(limit) => limit,
         },
     ];
     bytes.extend(numbers.iter().flat_map(|n| n.to_le_bytes()));
@@ -1587,7 +1800,7 @@ fn line(e: &Example) -> String {
             e,
             &expected(&e.case).expect("the model agrees with the Rust"),
         ),
-        Asked::File(..) | Asked::Symbol(_) | Asked::Wrote(_) => {
+        Asked::File(..) | Asked::Symbol(_) | Asked::Wrote(_) | Asked::Depth(_) => {
             assert!(
                 !e.asks_rust || rust(e) == e.expected.without_added(&e.case.file),
                 "{}",
@@ -1613,11 +1826,17 @@ fn load_line(e: &Example, x: &Expected) -> String {
     }
 }
 
+fn all_examples() -> impl Iterator<Item = Example> {
+    [examples(), symbol_examples(), depth_examples()]
+        .into_iter()
+        .flatten()
+}
+
 /// Writes `stdin` and `stdout` of the program: the examples that it can hold, and what the Rust answers
 /// (the scope where the Rust says nothing), which must be what was worked out by hand.
 pub fn write(folder: &str) {
     let (mut input, mut output) = (Vec::new(), String::new());
-    for e in examples().into_iter().chain(symbol_examples()) {
+    for e in all_examples() {
         if e.case.file.len() <= LENT {
             input.extend(record(&e));
             output += &line(&e);
@@ -1666,7 +1885,7 @@ pub fn run() -> usize {
         LOADLIST == PLAIN.file(),
         "the input of loadlist and the file built here".into(),
     );
-    for e in examples().into_iter().chain(symbol_examples()) {
+    for e in all_examples() {
         let got = port(&e);
         let (rust, asked) = match e.asks_rust {
             true => (rust(&e), e.expected.without_added(&e.case.file)),

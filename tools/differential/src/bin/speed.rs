@@ -1,4 +1,5 @@
-//! speed [ROUNDS], speed lookups [ROUNDS], speed writers [ROUNDS]: the third measures who wrote all bytes of a
+//! speed [ROUNDS], speed lookups [ROUNDS], speed writers [ROUNDS], speed depth [ROUNDS]: the fourth measures how deep a
+//! profile calls, beside the port's load of the same file, labels off. The third measures who wrote all bytes of a
 //! file, and who wrote one, beside the port's load of the same file, labels off. The second compares lookups by key, a hit and a miss, with the
 //! Rust's `lookup_by_key` on a registry of the same keys: by the scan, by the binary search, of the
 //! index alone, and by the row's number, at which the caller reads the index in its own column, through the C interface, the first two with the nine words lent that a row has. The first: the Rust's `Executable::load` and the port's on the same files, in one process,
@@ -45,11 +46,15 @@ fn main() {
     let mut args = env::args().skip(1).peekable();
     let lookups = args.next_if(|a| a == "lookups").is_some();
     let writers = args.next_if(|a| a == "writers").is_some();
+    let depth = args.next_if(|a| a == "depth").is_some();
     let rounds: usize = args
         .next()
         .map_or(41, |a| a.parse().expect("a number of rounds"));
     if writers {
         return writers_table(rounds);
+    }
+    if depth {
+        return depth_table(rounds);
     }
     if lookups {
         println!("| Keys asked | Rows | Key | Rust ns | Scan/Rust | Search ns | Search/Rust (quartiles) | Index ns | Index/Rust (quartiles) | Number ns | Number/Rust (quartiles) |");
@@ -290,6 +295,79 @@ fn writers_row(name: &str, file: Vec<u8>, rows: usize, rounds: usize) {
         ratio(&all),
         middle(&one),
         ratio(&one),
+    );
+}
+
+/// How deep profiles call, for three sizes.
+fn depth_table(rounds: usize) {
+    println!("| File | Functions | Calls | Version | Load µs | Depth µs | Depth/load (quartiles) | Answer |");
+    println!("|---|---|---|---|---|---|---|---|");
+    for (size, functions) in [(64 * KIB, 200), (MIB, 1_000), (MIB, 5_000)] {
+        let graphs = [
+            ("20 levels", bench::levels(functions, 20)),
+            ("64 levels", bench::levels(functions, 64)),
+            ("a chain of all", bench::chain(functions, false)),
+            (
+                "a chain, at its end a circle",
+                bench::chain(functions, true),
+            ),
+        ];
+        for (name, graph) in graphs {
+            for version2 in [false, true] {
+                // in version 1 rows stand in the order of hashes
+                let orders: &[(&str, bool)] = match version2 {
+                    true => &[(", called first", true), (", callers first", false)],
+                    false => &[("", false)],
+                };
+                for (order, called_first) in orders {
+                    let file = bench::calling(size, &graph, *called_first, version2);
+                    let calls = format!("{name}{order}");
+                    depth_row(&size_name(size), &calls, file, functions + 8, rounds);
+                }
+            }
+        }
+    }
+}
+
+/// How deep the profile of one file calls, beside its load.
+fn depth_row(name: &str, calls: &str, file: Vec<u8>, rows: usize, rounds: usize) {
+    let (case, e) = measured(file, rows, false);
+    let (file, settings) = (&case.file, case.settings.bits() as u32);
+    let (mut image, mut ro) = (vec![0; file.len()], vec![0; file.len()]);
+    let mut table = case.columns.map(|n| vec![0; n]);
+    let mut loaded = [0; port::WORDS];
+    let mut load_once = || {
+        let table = table.each_mut().map(|c| &mut c[..]);
+        let file = black_box(&file[..]);
+        port::load(file, &[], settings, &mut image, &mut ro, table, &mut loaded);
+        black_box(&image);
+    };
+    let mut work = vec![0; rows];
+    let mut answer = [0; port::WORDS];
+    let mut depth_once = || {
+        let image = black_box(&e.image[..]);
+        port::call_depth_into(image, &e.table, &e.words, &mut work, 64, &mut answer);
+        black_box(&answer);
+    };
+    let n = |once: f64| (2_000.0 / once).clamp(1.0, 10_000.0) as u32;
+    let (loads, asks) = (n(time(3, &mut load_once)), n(time(1, &mut depth_once)));
+    let (mut load, mut depth) = (vec![], vec![]);
+    for _ in 0..rounds {
+        load.push(time(loads, &mut load_once));
+        depth.push(time(asks, &mut depth_once));
+    }
+    let ratio = depth.iter().zip(&load).map(|(a, b)| a / b).collect();
+    let [low, middle, high] = quartiles(ratio);
+    println!(
+        "| {name} | {} | {calls} | {} | {:.1} | {:.1} | {middle:.2} ({low:.2} to {high:.2}) | {} |",
+        e.words[6],
+        e.words[4],
+        quartiles(load)[1],
+        quartiles(depth)[1],
+        match answer[0] {
+            0 => answer[4].to_string(),
+            number => format!("{number}, {}", answer[1]),
+        },
     );
 }
 
