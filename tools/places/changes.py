@@ -254,7 +254,7 @@ def helper_laws(crate, old, new, everywhere, names, cited, why_gone):
 
 def crate_lists(crate, old, new, everywhere, names, cited, open_items):
     renamed, gone, spelled = names
-    out, spelling = [], {}
+    out, spelling, shown = [], {}, set()
 
     def why_gone(name, where):
         if (crate, name) not in gone:
@@ -281,6 +281,7 @@ def crate_lists(crate, old, new, everywhere, names, cited, open_items):
                 found = [x for c in everywhere.values() for k in kinds for x in c[k].get(now, []) if words(x[1]) == words(places[0][1])]
             if not found:
                 missing.append((places, why_gone(name, places[0][0])))
+                shown.add(name)
                 continue
             left = list(found)
             for place, text in places:
@@ -297,6 +298,7 @@ def crate_lists(crate, old, new, everywhere, names, cited, open_items):
                     continue
                 after = left.pop(0)[1] if left else '\n'.join(w for _, w in found)
                 label = name if now == name else '%s, now %s' % (name, now)
+                shown.add(name)
                 beside.append(columns(label, place + (': ' + why if why else ''), text, after))
         if beside or missing:
             out += ['#### %s' % title, '']
@@ -313,6 +315,10 @@ def crate_lists(crate, old, new, everywhere, names, cited, open_items):
     laws = helper_laws(crate, old, new, everywhere, names, cited, why_gone)
     if laws:
         out += ['Helper laws of `proofs/` that are gone: ' + '; '.join('%s (%s)' % (', '.join('`%s`' % n for n in of), why) for why, of in laws) + '.', '']
+    moved = sorted(n for c, n in renamed if c == crate and n not in shown and any(n in old[k] and n not in new[k] for k in old))
+    if moved:
+        out += ['Under another name or in another crate, with the same words but for names, or private: '
+                + '; '.join('`%s` is `%s` (%s)' % ((n,) + renamed[crate, n]) for n in moved) + '.', '']
     if spelling:
         out += ['#### Respelled only', '', '| Spelling | In |', '|---|---|']
         for rules, where in sorted(spelling.items(), key=lambda x: (len(x[0]), x[0])):
