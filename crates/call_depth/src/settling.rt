@@ -76,6 +76,7 @@ impl Profile<'_> {
 
     // From row `entry` on, first what a row waits for, then the row, as far as the last 1,024 rows that wait are
     // remembered: whether the way ends, which it does not in a circle.
+    // Kept: an array with its place and its count beside it. There is no heap, and std's rings stand on it.
     fn settle_from(self, work: &mut [u32], entry: usize) -> bool
         requires { WordsReady (profile_now self) (slots_in self.text.now) work.old × (entry < length self.indices.now) }
         ensures { Good (profile_of self) work.new }

@@ -5,8 +5,8 @@ ghost use Rattle.ebpf.specs.LittleEndian.{le, bytes_at};
 
 // The first bytes of a slice that may have fewer, with zeros past its end.
 // Kept: `array::from_fn` was tried, and the proof didn't close: of what its closure holds at a later call nothing is
-// known without an induction of its own. `copy_from_slice` of as many bytes as there are was tried, and misses the time
-// of a hash, whose last bytes are read here: of a name of ten bytes it takes 17.5 ns in place of 6.4.
+// known without an induction of its own. `copy_from_slice` of as many bytes as there are was tried, and misses the bar
+// that no hash takes longer (README, "Speed"): that of a name of ten bytes takes 17.5 ns in place of 6.4.
 fn padded<const N: usize>(s: &[u8]) -> [u8; N]
     ensures { result ≡ bytes_at N s.now 0 }
 {
@@ -23,8 +23,8 @@ fn padded<const N: usize>(s: &[u8]) -> [u8; N]
 fn bytes_at<const N: usize>(s: &[u8], at: usize) -> [u8; N]
     ensures { result ≡ bytes_at N s.now at }
 {
-    // Kept: `s.get(at..)` in place of the test was tried, and misses the time of a parse: that of `two_slots.so` takes
-    // 66.0 ns in place of 64.2, of `addends.so` 238.0 in place of 234.3.
+    // Kept: `s.get(at..)` in place of the test was tried, and misses the bar that no parse takes longer (README,
+    // "Speed"): that of `two_slots.so` takes 66.0 ns in place of 64.2, of `addends.so` 238.0 in place of 234.3.
     if s.len() <= at {
         return [0; N];
     }

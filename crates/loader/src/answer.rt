@@ -26,8 +26,8 @@ pub struct Accepted {
 
 impl Accepted {
     // The number of its version.
-    // Kept: a bool says which of two versions it is, here, in `Job` and in `Rules`. Every place asks it by `if`; an enum of
-    // two would be compared or matched at each.
+    // Kept: a bool says which of two versions it is, here and in `Job`, `Rules`, `HashedLegacy`, `LoadedText` and `Profile`.
+    // It is asked by `if`, a guard, `&` or `!`; an enum of two would be compared or matched at each place.
     #[tactic(auto, using(ebpf::specs::Choice::choices))]
     pub fn version(self) -> u32
         ensures { result ≡ version_of self }

@@ -113,8 +113,8 @@ const COPIED: usize = 512;
 // Whether a call's target is remembered as one that was registered. Most calls repeat a target, and
 // then the table need not be searched.
 // Kept: a place holds a target plus 1, and 0 for none. With `Option<u32>`, proved as well, the array takes twice the bytes,
-// and a load of 1 MiB with 5,000 functions in version 1 takes 1.04 times as long as the Rust's in place of 0.99; one
-// of 1 KiB 0.49 in place of 0.47. The bar is the Rust's time on the same file (README, "Speed").
+// which are cleared for each load: one of 1 MiB with 5,000 functions in version 1 takes 1.04 times as long as the
+// Rust's in place of 0.99, one of 1 KiB 0.49 in place of 0.47. The bar is that no load takes longer (README, "Speed").
 fn is_seen(seen: &[u32; SEEN], index: u32) -> bool
     requires { index < 2 ^ 24 }
     ensures { result ≡ eqb (get_or seen.now (index % 1024) 0) (index + 1) }

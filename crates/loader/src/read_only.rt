@@ -45,7 +45,7 @@ pub struct Extent {
 }
 
 // Kept: by `==`. A `match` on the four names was tried, and the proof didn't close: it has a way out for each byte of
-// each name, 42 in all, and the check found none.
+// each name, and the check found none of them.
 #[tactic(auto, using(elf_parser::specs::SectionNames::same_tested), unfolding(crate::specs::ReadOnly::read_only))]
 fn is_read_only(name: &[u8]) -> bool
     ensures { result ≡ read_only name.now }

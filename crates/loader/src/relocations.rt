@@ -295,6 +295,8 @@ impl PlacedRelocation<'_> {
     }
 
     // Type 8 in the text: an instruction's two halves.
+    // Kept: beside `halves_deed`, whose refusal stands before the test of the address here. By `halves_deed(..)?` the
+    // proof of the way out didn't close.
     #[tactic(auto, using(ebpf::specs::Choice::choices), unfolding(crate::specs::Relocations::relative_text))]
     fn relative_text(&self, low: u64, high: u64, address: u64) -> Result<Deed, ElfError>
         ensures { result ≡ relative_text (length self.now.image.now) low high address }
@@ -404,6 +406,7 @@ impl PlacedRelocation<'_> {
     }
 
     // A call of a symbol.
+    // Kept: beside `named_label`, as it says.
     #[tactic(auto, using(elf_parser::specs::Names::name_within, elf_parser::specs::Parts::part_within, crate::proofs::Mapped::mapped_ok))]
     fn named_call(&self, y: Elf64Sym) -> Result<Deed, ElfError>
         ensures { let p = self.now in let i = p.inputs.now in result ≡ named_call i.file.now i.builtins.now i.job (length p.image.now) p.r y (dynamic_symbol_name i.file.now i.job.layout y.st_name) }

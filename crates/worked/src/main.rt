@@ -31,8 +31,8 @@ const NAME: usize = 64;
 const MOST: usize = 1000;
 
 // The numbers of a record.
-// Kept: how many built-ins there are stands beside the built-in, as the record has them. Only a load reads them, by
-// `builtin_of`; a question is answered whatever they are.
+// Kept: how many built-ins there are stands beside the built-in, as the record has them. Only what loads reads them, by
+// `builtin_of`; the other questions are answered whatever they are.
 #[derive(Clone, Copy, PartialEq, Eq, Debug)]
 struct Record {
     length: usize,
