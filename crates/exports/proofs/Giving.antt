@@ -8,7 +8,7 @@ use Rattle.program.specs.Table.{Slices, slices, Lent, Shared, table_before, tabl
 use Rattle.loader.specs.declared.error.ElfError.{ElfError}
 use Rattle.loader.specs.declared.answer.Accepted.{Accepted}
 use Rattle.loader.specs.declared.validate.Config.{Config}
-use Rattle.loader.specs.Load.{Loading, load_of, answer_of, Loaded}
+use Rattle.loader.specs.Load.{Loading, load_of, load_of_lent, answer_of, Loaded}
 use Rattle.loader.specs.Demand.{Demand3}
 use Rattle.loader.specs.Loads.{OnUsed, Loads}
 use Rattle.exports.specs.declared.answers.Answer.{Answer}
@@ -36,6 +36,18 @@ module _ (file builtins im ro : List ℕ) (t : Slices) where
 pub one_by_one : (r : Slices) (k i d s l : List ℕ) → r.keys ≡ k → r.indices ≡ i → r.kinds ≡ d → r.starts ≡ s → r.lengths ≡ l → r ≡ slices k i d s l
 one_by_one r k i d s l ek ei ed es el = λ x. record { keys = ek x; indices = ei x; kinds = ed x; starts = es x; lengths = el x }
 
+-- what a load promises, under the settings that are the same and with the columns that it left
+module _ (file builtins : Shared) (image ro : Lent) (t u : Slices) (c d : Config) (e : c ≡ d) (a : Result Accepted ElfError) (did : Loads file builtins.entry.now c image ro t u a) where
+  abbrev loaded : Loaded (load_of_lent file builtins.entry.now c image ro t) image.entry.now ro.entry.now t image.exit.now ro.exit.now u a
+  loaded = did.loaded
+
+  pub loads_given : Loads file builtins.entry.now d image ro t u (answer_of (load_of_lent file builtins.entry.now d image ro t))
+  loads_given = record {
+    loaded = loaded_by file.entry.now builtins.entry.now image.entry.now ro.entry.now t c d e image.exit.now ro.exit.now u a loaded;
+    keyed = keyed_by file.entry.now builtins.entry.now image.entry.now ro.entry.now t c d e image.exit.now ro.exit.now u a loaded did.keyed;
+    ascending = used_by file.entry.now builtins.entry.now image.entry.now ro.entry.now t c d e image.exit.now ro.exit.now u a loaded _ did.ascending;
+  }
+
 -- a load's answer given, with the columns that it left
 pub given : (file builtins : Shared) (settings : ℕ) (image ro keys indices kinds starts lengths answer : Lent) (r : ℕ) (c : Config) → c ≡ config_of settings
     → (t : Slices) (a : Result Accepted ElfError) → Loads file builtins.entry.now c image ro (table_before keys indices kinds starts lengths) t a
@@ -50,10 +62,6 @@ given file builtins settings image ro keys indices kinds starts lengths answer r
     let d = config_of settings in
     let here : Loads file builtins.entry.now c image ro before after a = subst (λ (u : Slices). Loads file builtins.entry.now c image ro before u a) left did in
     record {
-      loads = record {
-        loaded = loaded_by file.entry.now builtins.entry.now image.entry.now ro.entry.now before c d e image.exit.now ro.exit.now after a here.loaded;
-        keyed = keyed_by file.entry.now builtins.entry.now image.entry.now ro.entry.now before c d e image.exit.now ro.exit.now after a here.loaded here.keyed;
-        ascending = used_by file.entry.now builtins.entry.now image.entry.now ro.entry.now before c d e image.exit.now ro.exit.now after a here.loaded _ here.ascending;
-      };
+      loads = loads_given file builtins image ro before after c d e a here;
       gives = given_by file.entry.now builtins.entry.now image.entry.now ro.entry.now before c d e image.exit.now ro.exit.now after a here.loaded b answer.entry.now answer.exit.now r is g;
     }

@@ -17,7 +17,7 @@ use Rattle.exports.specs.declared.answers.Answer.{Answer}
 use Rattle.exports.specs.Answers.{Given, Gives}
 use Rattle.loader.specs.Settings.{config_of}
 use Rattle.exports.specs.Wrote.{load_wrote_answer, GivesLoadWrote}
-use Rattle.exports.proofs.Giving.{loaded_by, keyed_by, used_by}
+use Rattle.exports.proofs.Giving.{loads_given}
 
 pub wrote_by : (file builtins : List ℕ) (n m rows : ℕ) (c d : Config) → c ≡ d → (offset : ℕ) (w : Result Writer ElfError) → w ≡ wrote_of file builtins c n m rows offset → w ≡ wrote_of file builtins d n m rows offset
 wrote_by file builtins n m rows c d e offset w is = is ∙ ap (λ (k : Config). wrote_of file builtins k n m rows offset) e
@@ -55,11 +55,7 @@ given file builtins settings image ro keys indices kinds starts lengths offset a
     let wrote : a.asked ≡ wrote_of file.entry.now builtins.entry.now d n m (capacity before) offset = wrote_by file.entry.now builtins.entry.now n m (capacity before) c d e offset a.asked here.tells in
     record {
       loads = record {
-        loads = record {
-          loaded = loaded_by file.entry.now builtins.entry.now image.entry.now ro.entry.now before c d e image.exit.now ro.exit.now after a.load here.loads.loaded;
-          keyed = keyed_by file.entry.now builtins.entry.now image.entry.now ro.entry.now before c d e image.exit.now ro.exit.now after a.load here.loads.loaded here.loads.keyed;
-          ascending = used_by file.entry.now builtins.entry.now image.entry.now ro.entry.now before c d e image.exit.now ro.exit.now after a.load here.loads.loaded _ here.loads.ascending;
-        };
+        loads = loads_given file builtins image ro before after c d e a.load here.loads;
         tells = refl;
         kept = λ h. here.kept (wrote ∙ h);
       };

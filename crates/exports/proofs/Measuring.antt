@@ -25,7 +25,7 @@ use Rattle.exports.specs.declared.answers.Answer.{Answer}
 use Rattle.exports.specs.Answers.{reported, Gives}
 use Rattle.exports.specs.Told.{refusal_in, report_in, accepted_told, told}
 use Rattle.exports.specs.Depth.{depth_answer, Measured, GivesDepth, load_depth_answer, load_depth_of, GivesLoadDepth}
-use Rattle.exports.proofs.Giving.{loaded_by, keyed_by, used_by}
+use Rattle.exports.proofs.Giving.{loads_given}
 use Rattle.exports.proofs.GivingBoth.{both_given}
 
 -- by the words of a load's answer, a refusal and an accepted load
@@ -80,11 +80,7 @@ given file builtins settings image ro keys indices kinds starts lengths work lim
     here.measures ∙ ap (λ (x : Result Accepted ElfError). depth_asked (length work.entry.now) (capacity before) image.exit.now after.keys after.indices x limit) answers in
     record {
       loads = record {
-        loads = record {
-          loaded = loaded_by file.entry.now builtins.entry.now image.entry.now ro.entry.now before c d e image.exit.now ro.exit.now after a.load here.loads.loaded;
-          keyed = keyed_by file.entry.now builtins.entry.now image.entry.now ro.entry.now before c d e image.exit.now ro.exit.now after a.load here.loads.loaded here.loads.keyed;
-          ascending = used_by file.entry.now builtins.entry.now image.entry.now ro.entry.now before c d e image.exit.now ro.exit.now after a.load here.loads.loaded _ here.loads.ascending;
-        };
+        loads = loads_given file builtins image ro before after c d e a.load here.loads;
         measures = refl;
         means = subst (λ (x : Result ℕ CallDepthError). MeansOf (answer_of (load_of_lent file builtins.entry.now d image ro before)) image.exit.now after (capacity before) (length work.entry.now) limit x) asked
             (subst (λ (x : Result Accepted ElfError). MeansOf x image.exit.now after (capacity before) (length work.entry.now) limit a.asked) answers here.means);
