@@ -285,8 +285,9 @@ uint32_t sbpf_load_who_wrote(const uint8_t *file, size_t file_len, const uint32_
  * the shortest column; 50 where a function that the entry reaches reaches itself, the value is the
  * smallest such index; 51 where the longest chain passes the limit, the value is that chain.
  *
- * It takes at most a few loads where no circle is reached. Where one is, behind a long chain, the time
- * grows with the square of the functions, of which a table has no more than rows: README has times.
+ * The time grows with the square of the functions, of which a table has no more than rows: slowly, to
+ * about ten loads for 5,000 of them, or, where a circle stands behind a long chain, to thousands of
+ * loads. README has times.
  *
  * Of what no load has left nothing is demanded either. Behind 41 comes 33 then, where more rows are
  * used than lent, or 2^30 and more, where the text is longer than 16,777,216 bytes or does not stand in

@@ -118,7 +118,7 @@ fn depth_by(
 
 // HOW DEEP THE PROFILE CALLS that a load answered for: by its answer, which may be a refusal, and by the
 // image and the table that it left. `work` has a number for each row lent; what it holds afterwards is
-// left free. What the answer means is said of any image and table.
+// left free. The rows used are the answer's, not the table's. What the answer means is said of any image and table.
 pub fn call_depth(
     work: &mut [u32],
     image: &[u8],

@@ -76,6 +76,8 @@ impl Profile<'_> {
 
     // From row `entry` on, first what a row waits for, then the row, as far as the last 1,024 rows that wait are
     // remembered: whether the way ends, which it does not in a circle.
+    // A way that ends takes at most three steps a row: each settles a row, or goes to one that is called, and of the
+    // latter no more stand open than there are rows.
     // Kept: an array with its place and its count beside it. There is no heap, and std's rings stand on it.
     fn settle_from(self, work: &mut [u32], entry: usize) -> bool
         requires { WordsReady (profile_now self) (slots_in self.text.now) work.old × (entry < length self.indices.now) }

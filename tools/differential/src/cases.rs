@@ -119,7 +119,7 @@ impl Case {
 
     /// The cases of a comparison: every other one has relocations that bring an addend, and of four in a row
     /// the last two a hash table; of four such rows the last has open names, and of
-    /// sixteen the last four have long chains of calls.
+    /// sixteen the last four have long chains of calls, so that of sixty-four cases the last sixteen have.
     pub fn compared(seed: u64, number: u64) -> Case {
         let beyond = Beyond {
             addends: match number % 2 {
