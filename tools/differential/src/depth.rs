@@ -152,15 +152,7 @@ pub fn asked(
     work: usize,
     limit: u32,
 ) -> Result<u64, Stop> {
-    let word = |k: usize| loaded.get(k).copied().unwrap_or(0);
-    if word(0) as u32 != 0 {
-        return Err(Stop {
-            number: word(0) as u32,
-            value: word(1),
-            start: word(2),
-            length: word(3),
-        });
-    }
+    Stop::told(loaded)?;
     if work < t.iter().map(Vec::len).min().unwrap() {
         return Err(only(41));
     }

@@ -2,7 +2,7 @@
 
 use crate::{
     cases::Case,
-    compare::{written, Placed},
+    compare::{same, written, Placed},
     expected::{expected, text_in, Expected, LONGEST},
     measured, number_name,
     outcome::Text,
@@ -59,6 +59,45 @@ impl<T: Copy + PartialEq + Debug> Guarded<T> {
             &self.held()[at..end],
             &expected[at..end]
         ))
+    }
+}
+
+/// What is lent to a load with a question.
+pub struct Lent {
+    pub image: Guarded<u8>,
+    pub ro: Guarded<u8>,
+    pub table: [Guarded<u32>; 5],
+    pub answer: Guarded<u64>,
+}
+
+impl Lent {
+    pub fn new(case: &Case) -> Lent {
+        let fill = !case.garbage | 0x0101_0101_0101_0101;
+        Lent {
+            image: Guarded::new(case.image, fill as u8),
+            ro: Guarded::new(case.ro, (fill >> 8) as u8),
+            table: case.columns.map(|n| Guarded::new(n, (fill >> 16) as u32)),
+            answer: Guarded::new(case.room, fill),
+        }
+    }
+
+    /// That the answer has these words, and that all else is what the load alone leaves.
+    pub fn check(
+        &self,
+        case: &Case,
+        e: &Expected,
+        result: u32,
+        words: [u64; WORDS],
+    ) -> Result<(), String> {
+        let got = (result, self.answer.held().to_vec());
+        same("the answer", &got, words, case.room)?;
+        self.answer
+            .check("the answer", &written(&words, case.room))?;
+        for (column, expected) in self.table.iter().zip(&e.table) {
+            column.check("a column", expected)?;
+        }
+        self.image.check("the image", &e.image)?;
+        self.ro.check("the read-only buffer", &e.ro)
     }
 }
 

@@ -2,10 +2,10 @@
 
 use crate::{
     cases::Case,
-    compare::{same, written},
+    compare::same,
     depth,
     expected::Expected,
-    loads::Guarded,
+    loads::{Guarded, Lent},
     model::Stop,
     port::{self, Columns, WORDS},
     random::Random,
@@ -146,37 +146,25 @@ fn with_load(
             Err(stop) => words[..2].copy_from_slice(&[stop.number as u64, stop.value]),
         }
     }
-    let fill = !case.garbage | 0x0101_0101_0101_0101;
-    let mut image = Guarded::new(case.image, fill as u8);
-    let mut ro = Guarded::new(case.ro, (fill >> 8) as u8);
-    let mut table = case.columns.map(|n| Guarded::new(n, (fill >> 16) as u32));
-    let mut lent = Guarded::new(work, (fill >> 24) as u32);
-    let mut answer = Guarded::new(case.room, fill);
+    let mut lent = Lent::new(case);
+    let mut numbers = Guarded::new(work, case.garbage as u32 | 1);
     let result = port::load_call_depth(
         file,
         &case.builtins,
         case.settings.bits() as u32,
-        image.lend(),
-        ro.lend(),
-        table.each_mut().map(|c| c.lend()),
-        lent.lend(),
+        lent.image.lend(),
+        lent.ro.lend(),
+        lent.table.each_mut().map(|c| c.lend()),
+        numbers.lend(),
         limit,
-        answer.lend(),
+        lent.answer.lend(),
     );
-    let left = || {
-        let got = (result, answer.held().to_vec());
-        same("the answer", &got, words, case.room)?;
-        answer.check("the answer", &written(&words, case.room))?;
-        for (column, expected) in table.iter().zip(&e.table) {
-            column.check("a column", expected)?;
-        }
-        lent.check("the numbers lent", &lent.held().to_vec())?;
-        image.check("the image", &e.image)?;
-        ro.check("the read-only buffer", &e.ro)
-    };
-    left().map_err(|text| {
-        format!("the load with how deep it calls, in {work} numbers, limit {limit}: {text}")
-    })?;
+    let left = numbers.held().to_vec();
+    lent.check(case, e, result, words)
+        .and_then(|()| numbers.check("the numbers lent", &left))
+        .map_err(|text| {
+            format!("the load with how deep it calls, in {work} numbers, limit {limit}: {text}")
+        })?;
     Ok(told)
 }
 

@@ -32,6 +32,20 @@ pub struct Stop {
 }
 
 impl Stop {
+    /// The refusal that the words of a load's answer are; words that are missing count as 0.
+    pub fn told(loaded: &[u64]) -> Result<(), Stop> {
+        let word = |k: usize| loaded.get(k).copied().unwrap_or(0);
+        match word(0) as u32 {
+            0 => Ok(()),
+            number => Err(Stop {
+                number,
+                value: word(1),
+                start: word(2),
+                length: word(3),
+            }),
+        }
+    }
+
     /// The words of an answer.
     pub fn words(&self) -> [u64; WORDS] {
         let mut words = [0; WORDS];

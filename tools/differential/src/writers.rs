@@ -112,15 +112,8 @@ pub struct Written {
 /// What the question goes by, for the words of a load's answer or any others: the load's refusal, or why no
 /// load of this file can have given these.
 pub fn asked(file: &[u8], loaded: &[u64]) -> Result<Written, Stop> {
+    Stop::told(loaded)?;
     let word = |k: usize| loaded.get(k).copied().unwrap_or(0);
-    if word(0) as u32 != 0 {
-        return Err(Stop {
-            number: word(0) as u32,
-            value: word(1),
-            start: word(2),
-            length: word(3),
-        });
-    }
     if file.len() > LONGEST {
         return Err(only(40));
     }

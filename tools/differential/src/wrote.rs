@@ -3,10 +3,10 @@
 
 use crate::{
     cases::Case,
-    compare::{same, written},
+    compare::same,
     dynamic,
     expected::{Expected, LONGEST},
-    loads::Guarded,
+    loads::{Guarded, Lent},
     model::{only, Stop},
     port::{self, WORDS},
     random::Random,
@@ -240,32 +240,19 @@ fn with_load(case: &Case, e: &Expected, asked: &Asked, offset: u64) -> Result<u6
         words[0] = told[0];
         words[LOAD_WORDS..LOAD_WORDS + 2].copy_from_slice(&told[4..6]);
     }
-    let fill = !case.garbage | 0x0101_0101_0101_0101;
-    let mut image = Guarded::new(case.image, fill as u8);
-    let mut ro = Guarded::new(case.ro, (fill >> 8) as u8);
-    let mut table = case.columns.map(|n| Guarded::new(n, (fill >> 16) as u32));
-    let mut answer = Guarded::new(case.room, fill);
+    let mut lent = Lent::new(case);
     let result = port::load_who_wrote(
         asked.file,
         &case.builtins,
         case.settings.bits() as u32,
-        image.lend(),
-        ro.lend(),
-        table.each_mut().map(|c| c.lend()),
+        lent.image.lend(),
+        lent.ro.lend(),
+        lent.table.each_mut().map(|c| c.lend()),
         offset,
-        answer.lend(),
+        lent.answer.lend(),
     );
-    let left = || {
-        let got = (result, answer.held().to_vec());
-        same("the answer", &got, words, case.room)?;
-        answer.check("the answer", &written(&words, case.room))?;
-        for (column, expected) in table.iter().zip(&e.table) {
-            column.check("a column", expected)?;
-        }
-        image.check("the image", &e.image)?;
-        ro.check("the read-only buffer", &e.ro)
-    };
-    left().map_err(|text| format!("the load with who wrote byte {offset}: {text}"))?;
+    lent.check(case, e, result, words)
+        .map_err(|text| format!("the load with who wrote byte {offset}: {text}"))?;
     Ok(words[0])
 }
 

@@ -248,19 +248,25 @@ fn applied(e: &Expected) -> (usize, u32) {
     )
 }
 
-/// Who wrote all bytes of a file, and who wrote the one in its middle, beside its load.
-fn writers_row(name: &str, file: Vec<u8>, rows: usize, rounds: usize) {
-    let (case, e) = measured(file, rows, false);
+/// The port's load of a case, into buffers that the load before has left.
+fn loading(case: &Case) -> impl FnMut() + '_ {
     let (file, settings) = (&case.file, case.settings.bits() as u32);
     let (mut image, mut ro) = (vec![0; file.len()], vec![0; file.len()]);
     let mut table = case.columns.map(|n| vec![0; n]);
     let mut loaded = [0; port::WORDS];
-    let mut load_once = || {
+    move || {
         let table = table.each_mut().map(|c| &mut c[..]);
         let file = black_box(&file[..]);
         port::load(file, &[], settings, &mut image, &mut ro, table, &mut loaded);
         black_box(&image);
-    };
+    }
+}
+
+/// Who wrote all bytes of a file, and who wrote the one in its middle, beside its load.
+fn writers_row(name: &str, file: Vec<u8>, rows: usize, rounds: usize) {
+    let (case, e) = measured(file, rows, false);
+    let file = &case.file;
+    let mut load_once = loading(&case);
     let load = time(3, &mut load_once);
     let n = (2_000.0 / load).clamp(1.0, 10_000.0) as u32;
     let mut numbers = vec![0; file.len()];
@@ -332,16 +338,7 @@ fn depth_table(rounds: usize) {
 /// How deep the profile of one file calls, beside its load.
 fn depth_row(name: &str, calls: &str, file: Vec<u8>, rows: usize, rounds: usize) {
     let (case, e) = measured(file, rows, false);
-    let (file, settings) = (&case.file, case.settings.bits() as u32);
-    let (mut image, mut ro) = (vec![0; file.len()], vec![0; file.len()]);
-    let mut table = case.columns.map(|n| vec![0; n]);
-    let mut loaded = [0; port::WORDS];
-    let mut load_once = || {
-        let table = table.each_mut().map(|c| &mut c[..]);
-        let file = black_box(&file[..]);
-        port::load(file, &[], settings, &mut image, &mut ro, table, &mut loaded);
-        black_box(&image);
-    };
+    let mut load_once = loading(&case);
     let mut work = vec![0; rows];
     let mut answer = [0; port::WORDS];
     let mut depth_once = || {
