@@ -294,7 +294,7 @@ fn copy_section(ro: &mut [u8], image: &[u8], elf: &Elf64<'_>, lowest: u64, index
     ensures { ro.new ≡ copy_step image.now elf.now.file.now elf.now.layout lowest index ro.old }
 {
     let h = section_at(elf, index);
-    if !is_read_only(elf.part_of(elf.section_name(h.sh_name))) {
+    if !is_read_only(elf.section_name_part(h.sh_name)) {
         return;
     }
     let at = h.sh_addr.saturating_sub(lowest);
