@@ -264,11 +264,15 @@ pub(crate) fn place_gathered(
 }
 
 // The bytes of `from` from `start` on, `n` of them, go to `at`.
+// Kept: byte by byte. By `copy_from_slice` the C interface would need `memmove` from where it is linked.
+#[tactic(auto, using(crate::proofs::Copies::paste_start))]
 pub(crate) fn copy_bytes(to: &mut [u8], from: &[u8], at: usize, start: usize, n: usize)
     requires { (at + n ≤ length to.old) × (start + n ≤ length from.now) }
     ensures { to.new ≡ paste to.old at (drop start from.now) n }
 {
-    to[at..at + n].copy_from_slice(&from[start..start + n]);
+    for i in 0..n {
+        to[at + i] = from[start + i];
+    }
 }
 
 // The same of the bytes at a place, where both lie inside; else nothing changes.
