@@ -35,8 +35,8 @@ use Rattle.loader.proofs.Readied.{readied}
 use Rattle.loader.proofs.Traces.{settle_ends}
 use Rattle.writers.specs.declared.Writer.{Writer}
 use Rattle.writers.specs.declared.Writer.TheVariants.{File}
-use Rattle.elf_parser.specs.declared.error.ElfParserError.TheVariants.{NoSuchIndex}
-use Rattle.loader.specs.declared.error.ElfError.TheVariants.{FailedToParse}
+use Rattle.writers.specs.declared.error.WhoWroteError.{WhoWroteError}
+use Rattle.writers.specs.declared.error.WhoWroteError.TheVariants.{NoSuchIndex}
 use Rattle.writers.specs.Asked.{text_loaded, text_in, text_of, asked}
 use Rattle.writers.specs.Writers.{writer_of, wrote_by, wrote_of}
 use Rattle.writers.proofs.Writing.{text_is, writer_named, unwritten}
@@ -101,11 +101,11 @@ loaded_told j a v p = rw (v, p) refl
 
 module _ (file builtins : List ℕ) (c : Config) (n m rows b : ℕ) where
   -- the answer for a byte of the file, and for an offset past its end
-  abbrev told_ok : Job → Result Writer ElfError
+  abbrev told_ok : Job → Result Writer WhoWroteError
   told_ok j = Ok (writer_of file builtins j b)
 
-  abbrev past_end : Result Writer ElfError
-  past_end = Err (FailedToParse NoSuchIndex)
+  abbrev past_end : Result Writer WhoWroteError
+  past_end = Err NoSuchIndex
 
   -- of an accepted load
   module _ (j : Job) (ready : prepared file builtins c n m ≡ Ok j) (im : List ℕ) (held : List Row) (moves : ℕ) (settles : settle rows (job_trace file builtins j file) [] 0 ≡ accepted im held moves) where
