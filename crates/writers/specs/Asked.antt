@@ -1,5 +1,5 @@
 -- The question about a load already made: its answer and the file. On every input, an answer too that no load of this file gave.
-use Rattle.std.specs.Prelude.{ℕ, ◌+◌, ◌*◌, ◌≤◌, ◌^◌, ◌&&◌, List, length, ltb, leb, Result, Ok, Err}
+use Rattle.std.specs.Prelude.{ℕ, ◌+◌, ◌*◌, ◌≤◌, ◌^◌, ◌&&◌, List, length, eqb, ltb, leb, Result, Ok, Err}
 use Rattle.ebpf.specs.Choice.{◌if◌else◌}
 use Rattle.elf_parser.specs.declared.error.ElfParserError.TheVariants.{InvalidProgramHeader}
 use Rattle.elf_parser.specs.declared.layout.Layout.{Layout}
@@ -17,7 +17,7 @@ use Rattle.elf_parser.specs.declared.error.ElfParserError.{ElfParserError}
 
 -- what a load's answer says of the text
 abbrev pub text_loaded : Accepted → LoadedText
-text_loaded a = record { version2 = a.version2; place = a.text }
+text_loaded a = record { version2 = eqb a.version 2; place = a.text }
 
 -- version 2 has at most nine program headers
 unfoldable pub text_in : Layout → LoadedText → Result Layout ElfError
