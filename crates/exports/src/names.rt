@@ -8,7 +8,7 @@ ghost use Rattle.exports.specs.Names.{Named, name_in, names_from_45, refusal_nam
 // a clone can't fail, and tells of clones and not of the value; and `written`, which every answer is stated by,
 // would take a type and its zero wherever it stands, to save these three lines. And byte by byte: by `copy_from_slice`
 // the C interface would need `memmove` from where it is linked.
-#[tactic(auto, using(crate::proofs::Writing::so_far_start, crate::proofs::Writing::so_far_next, crate::proofs::Writing::so_far_end))]
+#[tactic(auto, using(crate::proofs::Writing::so_far_start))]
 fn fill_bytes(to: &mut [u8], bytes: &[u8])
     ensures { to.new ≡ written (length to.old) bytes.now }
 {
