@@ -70,8 +70,8 @@ module _ (file builtins : List ℕ) (c : Config) (n m rows : ℕ) where
         }
 
     placed_kept : (p : Result Placing ElfError) (a : Accepted) → answer_of (held_by file j m p im held moves) ≡ Ok a → Kept file n rows j a
-    placed_kept (Ok (Borrowed offset start k)) a e = let q : accepted_as j offset (Some start) k (length held) moves ≡ a = cc in rw (← q) (kept_as _ refl refl refl)
-    placed_kept (Ok (Owned offset lowest k)) a e = let q : accepted_as j offset None k (length held) moves ≡ a = cc in rw (← q) (kept_as _ refl refl refl)
+    placed_kept (Ok (Borrowed offset start k)) a e = let q : accepted_as j false offset start k (length held) moves ≡ a = cc in rw (← q) (kept_as _ refl refl refl)
+    placed_kept (Ok (Owned offset lowest k)) a e = let q : accepted_as j true offset 0 k (length held) moves ≡ a = cc in rw (← q) (kept_as _ refl refl refl)
     placed_kept (Err r) a e = absurd (zero_one (cc))
 
     -- the entry's registration is one of the load's

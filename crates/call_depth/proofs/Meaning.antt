@@ -75,10 +75,10 @@ module _ (a : Accepted) (im : List ℕ) (t : Slices) (table : IsTable t a.used) 
       let used : length (take a.used t.indices) ≡ a.used = length-take-le a.used t.indices in_indices in
       (row_at t r, sym (lookups_agree t a.used table key) ∙ row_agrees t a.used table key ∙ ap (row_of_found t) e, sym (get_or-take a.used t.indices r 0 (omega (arith, used, l))) ∙ x)
 
-  by_key : (insn : Insn) (j : ℕ) (b : Bool) → calls_key a.version2 insn ≡ b
-      → row_or (length (take a.used t.keys)) (callee_by (take a.used t.keys) a.version2 (Some insn)) < P.rows
-      → P.index (row_or (length (take a.used t.keys)) (callee_by (take a.used t.keys) a.version2 (Some insn))) ≡ j
-      → (calls_key a.version2 insn ≡ true) × Finds (lookup_in t a.used) insn.imm j
+  by_key : (insn : Insn) (j : ℕ) (b : Bool) → calls_key (eqb a.version 2) insn ≡ b
+      → row_or (length (take a.used t.keys)) (callee_by (take a.used t.keys) (eqb a.version 2) (Some insn)) < P.rows
+      → P.index (row_or (length (take a.used t.keys)) (callee_by (take a.used t.keys) (eqb a.version 2) (Some insn))) ≡ j
+      → (calls_key (eqb a.version 2) insn ≡ true) × Finds (lookup_in t a.used) insn.imm j
   unfolding ◌if◌else◌
   by_key insn j true e l x =
       let w = row_front t.keys a.used insn.imm in_keys in
@@ -86,11 +86,11 @@ module _ (a : Accepted) (im : List ℕ) (t : Slices) (table : IsTable t a.used) 
   by_key insn j false e l x = absurd (let h : length (take a.used t.keys) < P.rows = rw e at l in omega (arith, many))
 
   by_slot : (s j : ℕ) (x : Option Insn) → insn_at (text_of_image a im) s ≡ x
-      → row_or (length (take a.used t.keys)) (callee_by (take a.used t.keys) a.version2 x) < P.rows
-      → P.index (row_or (length (take a.used t.keys)) (callee_by (take a.used t.keys) a.version2 x)) ≡ j
+      → row_or (length (take a.used t.keys)) (callee_by (take a.used t.keys) (eqb a.version 2) x) < P.rows
+      → P.index (row_or (length (take a.used t.keys)) (callee_by (take a.used t.keys) (eqb a.version 2) x)) ≡ j
       → SlotCalls a im t s j
   by_slot s j None e l x = absurd (omega (arith, many))
-  by_slot s j (Some insn) e l x = let k = by_key insn j (calls_key a.version2 insn) refl l x in (insn, e, k.0, k.1)
+  by_slot s j (Some insn) e l x = let k = by_key insn j (calls_key (eqb a.version 2) insn) refl l x in (insn, e, k.0, k.1)
 
   -- THE PROFILE'S CALLS are those that a lookup finds
   pub calls_to : (i j : ℕ) → CallsFunction P i j → FunctionCalls a im t i j

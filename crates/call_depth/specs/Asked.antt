@@ -39,7 +39,7 @@ unfoldable pub depth_by : ℕ → ℕ → List ℕ → List ℕ → List ℕ →
 depth_by work rows image keys indices a limit =
     Err (Refused BufferShort) if ltb work rows else
     Err (Refused ValueOutOfBounds) if not (fits_in rows (length image) a.used a.text.start a.text.length) else
-    depth_in (take a.text.length (drop a.text.start image)) (take a.used keys) (take a.used indices) a.version2 a.entry limit
+    depth_in (take a.text.length (drop a.text.start image)) (take a.used keys) (take a.used indices) (eqb a.version 2) a.entry limit
 
 -- HOW DEEP THE PROFILE CALLS, by a load's answer
 abbrev pub depth_asked : ℕ → ℕ → List ℕ → List ℕ → List ℕ → Result Accepted ElfError → ℕ → CallDepth

@@ -1,5 +1,5 @@
 -- Worked examples, each by computation.
-use Rattle.std.specs.Prelude.{ℕ, true, false, List, [], ◌∷◌, ◌++◌, ◌≡◌, refl, Some, Ok, Err}
+use Rattle.std.specs.Prelude.{ℕ, true, false, List, [], ◌∷◌, ◌++◌, ◌≡◌, refl, Ok, Err}
 use Rattle.ebpf.specs.Choice.{◌if◌else◌}
 use Rattle.ebpf.specs.Instructions.{slot_at, insn_at}
 use Rattle.ebpf.specs.LittleEndian.{le, bytes_of}
@@ -83,19 +83,23 @@ edges : depth_in (call 1) (0 ∷ 1 ∷ []) (0 ∷ 1 ∷ []) true 0 64 ∷ depth_
 unfolding depth_in limit_of depth_of callee_in calls_key row_ascending_in number_at binary_search narrowed insn_at slot_at le bytes_of ◌if◌else◌
 edges = refl
 
--- ---- by an answer: version 2, entry, used rows, and a text of 24 bytes from byte 8 on, in an image of 32 bytes and a table of 4 rows
-abbrev answer : ℕ → ℕ → ℕ → Accepted
-answer entry used start = record {
-  version2 = true;
+-- ---- by an answer: version, entry, used rows, and a text of 24 bytes from byte 8 on, in an image of 32 bytes and a table of 4 rows
+abbrev answer_in : ℕ → ℕ → ℕ → ℕ → Accepted
+answer_in version entry used start = record {
+  version = version;
   entry = entry;
   used = used;
   moves = 0;
+  ro_copied = false;
   ro_offset = 0;
-  ro_start = Some 0;
+  ro_start = 0;
   ro_length = 0;
   text_addr = 0x1_0000_0000;
   text = record { start = start; length = 24 };
 }
+
+abbrev answer : ℕ → ℕ → ℕ → Accepted
+answer = answer_in 2
 
 abbrev ask : ℕ → Accepted → CallDepth
 ask work a = depth_asked work 4 (exit ++ call 1 ++ call 2 ++ exit) (0 ∷ 1 ∷ 2 ∷ 0 ∷ []) (0 ∷ 1 ∷ 2 ∷ 0 ∷ []) (Ok a) 64
@@ -105,6 +109,14 @@ asked : ask 4 (answer 0 3 8) ∷ ask 3 (answer 0 3 8) ∷ ask 4 (answer 3 3 8) �
     ≡ Ok 3 ∷ Err (Refused BufferShort) ∷ Err (Refused ValueOutOfBounds) ∷ Err (Refused ValueOutOfBounds) ∷ Err (Refused ValueOutOfBounds) ∷ []
 unfolding depth_by fits_in depth_in limit_of depth_of callee_in calls_key row_ascending_in number_at binary_search narrowed insn_at slot_at le bytes_of ◌if◌else◌
 asked = refl
+
+-- source 0, by an answer of version 1, 2 and 3: no call in version 2, and one in any other
+abbrev ask_near : ℕ → CallDepth
+ask_near version = depth_asked 4 4 (exit ++ near 1 ++ exit ++ exit) (0 ∷ 1 ∷ 2 ∷ 0 ∷ []) (0 ∷ 1 ∷ 2 ∷ 0 ∷ []) (Ok (answer_in version 0 3 8)) 64
+
+versions : ask_near 1 ∷ ask_near 2 ∷ ask_near 3 ∷ [] ≡ Ok 2 ∷ Ok 1 ∷ Ok 2 ∷ []
+unfolding depth_by fits_in depth_in limit_of depth_of callee_in calls_key row_ascending_in number_at binary_search narrowed insn_at slot_at le bytes_of ◌if◌else◌
+versions = refl
 
 -- a refused load's own refusal, whatever `work` is
 refused : depth_asked 0 4 [] [] [] (Err WrongAbi) 64 ≡ Err (Refused WrongAbi)

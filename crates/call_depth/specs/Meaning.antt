@@ -1,5 +1,5 @@
 -- What the answers say of an accepted load, in the words of the request.
-use Rattle.std.specs.Prelude.{ℕ, ◌≤◌, ◌<◌, ◌≡◌, true, List, take, drop, Some, Result, Ok, Err}
+use Rattle.std.specs.Prelude.{ℕ, ◌≤◌, ◌<◌, ◌≡◌, true, List, take, drop, eqb, Some, Result, Ok, Err}
 use Rattle.ebpf.specs.Instructions.{insn_at}
 use Rattle.ebpf.specs.declared.Insn.{Insn}
 use Rattle.program.specs.Table.{Slices, lookup_in}
@@ -22,11 +22,11 @@ used_indices a t = take a.used t.indices
 
 -- the functions of a load and their calls, by its answer, image and table
 abbrev pub profile_after : Accepted → List ℕ → Slices → Profile
-profile_after a im t = profile_in (text_of_image a im) (take a.used t.keys) (used_indices a t) a.version2
+profile_after a im t = profile_in (text_of_image a im) (take a.used t.keys) (used_indices a t) (eqb a.version 2)
 
 -- slot number s of the image calls the function at j: its opcode is 0x85, its source is not 0 in version 2, and its immediate is a key that finds j
 abbrev pub SlotCalls : Accepted → List ℕ → Slices → ℕ → ℕ → Type 0
-SlotCalls a im t s j = (insn : Insn) × (insn_at (text_of_image a im) s ≡ Some insn) × (calls_key a.version2 insn ≡ true) × Finds (lookup_in t a.used) insn.imm j
+SlotCalls a im t s j = (insn : Insn) × (insn_at (text_of_image a im) s ≡ Some insn) × (calls_key (eqb a.version 2) insn ≡ true) × Finds (lookup_in t a.used) insn.imm j
 
 -- a function owns the slots from its index up to the next larger index of a row, or the text's end
 abbrev pub Owns : Accepted → List ℕ → Slices → ℕ → ℕ → Type 0

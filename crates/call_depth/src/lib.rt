@@ -111,7 +111,7 @@ fn depth_by(
         text: &image[a.text.start..a.text.start + a.text.length],
         keys: &table.keys[..used],
         indices: &table.indices[..used],
-        version2: a.version2,
+        version2: a.version == 2,
     };
     profile.depth_in(&mut work[..used], a.entry, limit)
 }

@@ -78,6 +78,9 @@ impl Profile<'_> {
     // remembered: whether the way ends, which it does not in a circle.
     // A way that ends takes at most three steps a row: each settles a row, or goes to one that is called, and of the
     // latter no more stand open than there are rows.
+    // Each try goes through a row's slots anew, as often as it waits for another row. So the way is given up where its
+    // tries would go through more than eight slots for each that there is: a function that calls many others one
+    // by one is left to the passes, which go through it once a pass.
     // Kept: an array with its place and its count beside it. There is no heap, and std's rings stand on it.
     fn settle_from(self, work: &mut [u32], entry: usize) -> bool
         requires { WordsReady (profile_now self) (slots_in self.text.now) work.old × (entry < length self.indices.now) }
@@ -87,8 +90,15 @@ impl Profile<'_> {
         let mut held = 0;
         let mut at = 0;
         let mut row = entry;
+        let mut left = self.text.len();
         for _ in 0..3 * self.indices.len() {
             if FLAG <= work[row] {
+                let end = (work[row] - FLAG) as usize;
+                let slots = end.saturating_sub(self.indices[row] as usize);
+                if left < slots {
+                    return false;
+                }
+                left -= slots;
                 if let Some(called) = self.settle_row(work, row) {
                     waiting[at] = row as u32;
                     at = (at + 1) % WAITING;

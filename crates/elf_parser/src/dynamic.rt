@@ -31,16 +31,18 @@ pub struct Linked {
     pub hash_table: Option<u64>,
 }
 
-// Sets the value of a tag; a tag of DT_NUM or more is skipped.
-// Kept: `get_mut` was tried, and the proof didn't close: what the lent values are behind a write through what it
-// answers is not known at the return.
+// The values with that of a tag set; a tag of DT_NUM or more is skipped.
+// Kept: the array by value, in and out, as the scope names it.
 #[tactic(auto, using(ebpf::specs::Choice::choices), unfolding(crate::specs::Dynamic::with_tag))]
-fn set_tag(values: &mut [u64; DT_NUM], d: Elf64Dyn)
-    ensures { values.new ≡ with_tag values.old d.d_tag d.d_val }
+fn with_tag(values: [u64; DT_NUM], d: Elf64Dyn) -> [u64; DT_NUM]
+    ensures { result ≡ with_tag values d.d_tag d.d_val }
 {
     if d.d_tag < DT_NUM as u64 {
-        values[d.d_tag as usize] = d.d_val;
+        let mut next = values;
+        next[d.d_tag as usize] = d.d_val;
+        return next;
     }
+    values
 }
 
 // The values of a table's entries, up to the first DT_NULL.
@@ -54,7 +56,8 @@ fn dynamic_values(table: &Table<'_, Elf64Dyn>) -> [u64; DT_NUM]
         if d.d_tag == DT_NULL {
             return values;
         }
-        set_tag(&mut values, d);
+        let next = with_tag(values, d);
+        values = next;
     }
     values
 }

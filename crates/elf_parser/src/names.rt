@@ -1,6 +1,7 @@
-// Names by string offset: where they stand.
+// Names by string offset: where they stand, and as parts of the file.
 ghost use Rattle.std.specs.Prelude.{◌≡◌};
 ghost use Rattle.elf_parser.specs.Names.{name_by, section_name, symbol_name, dynamic_symbol_name};
+ghost use Rattle.elf_parser.specs.Parts.{part_of};
 
 use crate::consts::{SECTION_NAME_LENGTH_MAXIMUM, SYMBOL_NAME_LENGTH_MAXIMUM};
 use crate::elf64::Elf64;
@@ -62,5 +63,27 @@ impl Elf64<'_> {
             SYMBOL_NAME_LENGTH_MAXIMUM,
             ElfParserError::NoDynamicStringTable,
         )
+    }
+}
+
+// The same names as parts of the file, empty where they are refused.
+// Kept: three over `part_of`, as there are three of names.
+impl<'a> Elf64<'a> {
+    pub fn section_name_part(&self, sh_name: u32) -> &'a [u8]
+        ensures { result.now ≡ part_of self.now.file.now (section_name self.now.file.now self.now.layout sh_name) }
+    {
+        self.part_of(self.section_name(sh_name))
+    }
+
+    pub fn symbol_name_part(&self, st_name: u32) -> &'a [u8]
+        ensures { result.now ≡ part_of self.now.file.now (symbol_name self.now.file.now self.now.layout st_name) }
+    {
+        self.part_of(self.symbol_name(st_name))
+    }
+
+    pub fn dynamic_symbol_name_part(&self, st_name: u32) -> &'a [u8]
+        ensures { result.now ≡ part_of self.now.file.now (dynamic_symbol_name self.now.file.now self.now.layout st_name) }
+    {
+        self.part_of(self.dynamic_symbol_name(st_name))
     }
 }

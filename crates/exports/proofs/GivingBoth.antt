@@ -11,6 +11,7 @@ use Rattle.loader.specs.declared.validate.Config.{Config}
 use Rattle.loader.specs.Load.{Loading, load_of, answer_of, Loaded}
 use Rattle.loader.specs.declared.answer.LoadAnd.{LoadAnd}
 use Rattle.writers.specs.declared.Writer.{Writer}
+use Rattle.writers.specs.declared.error.WhoWroteError.{WhoWroteError}
 use Rattle.writers.specs.Loads.{LoadsAndTells}
 use Rattle.writers.specs.Writers.{wrote_of}
 use Rattle.exports.specs.declared.answers.Answer.{Answer}
@@ -19,7 +20,7 @@ use Rattle.loader.specs.Settings.{config_of}
 use Rattle.exports.specs.Wrote.{load_wrote_answer, GivesLoadWrote}
 use Rattle.exports.proofs.Giving.{loads_given}
 
-pub wrote_by : (file builtins : List ℕ) (n m rows : ℕ) (c d : Config) → c ≡ d → (offset : ℕ) (w : Result Writer ElfError) → w ≡ wrote_of file builtins c n m rows offset → w ≡ wrote_of file builtins d n m rows offset
+pub wrote_by : (file builtins : List ℕ) (n m rows : ℕ) (c d : Config) → c ≡ d → (offset : ℕ) (w : Result Writer WhoWroteError) → w ≡ wrote_of file builtins c n m rows offset → w ≡ wrote_of file builtins d n m rows offset
 wrote_by file builtins n m rows c d e offset w is = is ∙ ap (λ (k : Config). wrote_of file builtins k n m rows offset) e
 
 module _ (file builtins im ro : List ℕ) (t : Slices) where
@@ -39,7 +40,7 @@ module _ (file builtins im ro : List ℕ) (t : Slices) where
 
 -- a load's answer and the question's given, with the columns that it left
 pub given : (file builtins : Shared) (settings : ℕ) (image ro keys indices kinds starts lengths : Lent) (offset : ℕ) (answer : Lent) (r : ℕ) (c : Config) → c ≡ config_of settings
-    → (t : Slices) (a : LoadAnd (Result Writer ElfError)) → LoadsAndTells file builtins.entry.now c image ro (table_before keys indices kinds starts lengths) t offset a
+    → (t : Slices) (a : LoadAnd (Result Writer WhoWroteError)) → LoadsAndTells file builtins.entry.now c image ro (table_before keys indices kinds starts lengths) t offset a
     → t ≡ table_after keys indices kinds starts lengths
     → (b : Answer)
     → b ≡ load_wrote_answer a.load a.asked

@@ -17,6 +17,9 @@ use Rattle.elf_parser.specs.Errors as parser
 use Rattle.loader.specs.declared.error.ElfError.{ElfError}
 use Rattle.loader.specs.declared.error.ElfError.TheVariants.{FailedToParse, EntrypointOutOfBounds, InvalidEntrypoint, UnresolvedSymbol, RelativeJumpOutOfBounds, SymbolHashCollision, WrongAbi, WrongMachine, NotOneTextSection, WritableSectionNotSupported, InvalidVirtualAddress, UnknownRelocation, WrongType, UnknownSymbol, ValueOutOfBounds, UnsupportedSBPFVersion, FileTooLong, BufferShort, BuiltinsNotAscending, TableFull, TextOutsideReadOnly, AddendNegative}
 use Rattle.loader.specs.Errors as load
+use Rattle.writers.specs.declared.error.WhoWroteError.{WhoWroteError}
+use Rattle.writers.specs.declared.error.WhoWroteError.TheVariants.{NoSuchIndex as NoByte, Refused as NotTold}
+use Rattle.writers.specs.Errors as writers
 use Rattle.call_depth.specs.declared.error.CallDepthError.{CallDepthError}
 use Rattle.call_depth.specs.declared.error.CallDepthError.TheVariants.{RecursiveCall, TooDeep, Refused}
 use Rattle.call_depth.specs.Errors as depth
@@ -112,6 +115,11 @@ load_named BuiltinsNotAscending = named 42 refl
 load_named (TableFull rows) = named 43 refl
 load_named TextOutsideReadOnly = named 44 refl
 load_named AddendNegative = named 47 refl
+
+pub wrote_named : (e : WhoWroteError) → 0 < length (refusal_name (writers.report_of e).number)
+unfolding refusal_name names names_from_45 name_in bytes ◌if◌else◌
+wrote_named NoByte = named 45 refl
+wrote_named (NotTold e) = load_named e
 
 pub depth_named : (e : CallDepthError) → 0 < length (refusal_name (depth.report_of e).number)
 unfolding refusal_name names names_from_45 name_in bytes ◌if◌else◌

@@ -4,28 +4,36 @@ use Rattle.std.specs.Prelude.{Result, Ok, Err}
 use Rattle.loader.specs.declared.error.ElfError.{ElfError}
 use Rattle.loader.specs.declared.answer.Accepted.{Accepted}
 use mathlib.Core.Path.{◌≡◌, refl, ap}
-use mathlib.Core.Bool.{Bool, true, false}
-use lib.Dec.{eqb}
-use Prim.Native.Nat.{ℕ, ◌%◌, ◌<◌, ◌^◌}
+use mathlib.Core.Bool.{Bool, true, false, not}
+use lib.Dec.{eqb, ltb}
+use Prim.Native.Nat.{ℕ, ◌-◌, ◌%◌, ◌≤◌, ◌<◌, ◌^◌}
 use mathlib.Core.List.{List}
 use native.Mathlib.Omega.{arith}
-use lib.ListN.{length}
-use borrow.Author.Tests.{ne_eqb}
-use Rattle.std.specs.Prelude.{Option, Some, None, is_none, unwrap_or}
+use lib.ListN.{length, get_or}
+use borrow.Author.Tests.{ne_eqb, lt-ltb}
+use Rattle.std.specs.Prelude.{Option, Some, None}
 use Rattle.std.specs.Int.{from_bool}
 use Rattle.elf_parser.specs.declared.error.Report.{Report}
 use Rattle.elf_parser.specs.Errors.{valued}
 use Rattle.ebpf.specs.Choice.{◌if◌else◌}
 use Rattle.program.specs.Table.{Slices, capacity, row_ascending_in}
 use Rattle.program.proofs.Steps.{row_below}
-use Rattle.program.proofs.Cases.{by_lt}
+use Rattle.program.proofs.Cases.{by_lt, zero_one}
 use Rattle.loader.specs.Errors as load
+use Rattle.loader.specs.declared.read_only.Placing.TheVariants.{Borrowed, Owned}
+use Rattle.loader.specs.declared.read_only.Placing.{Placing}
+use Rattle.loader.specs.declared.validate.Config.{Config}
+use Rattle.loader.specs.declared.validate.Job.{Job}
+use Rattle.loader.specs.Load.{accepted_as, answer_by, on_prepared, load_of, answer_of}
+use Rattle.loader.specs.Validate.{prepared}
+use Rattle.loader.proofs.Answered.{by_load}
+use Rattle.loader.proofs.Readied.{readied}
 use Rattle.writers.specs.Asked.{asked_by, asked}
-use Rattle.call_depth.specs.Asked.{depth_asked}
+use Rattle.call_depth.specs.Asked.{depth_by, depth_asked}
 use Rattle.exports.specs.Answers.{none_word, word_or_none, written, words_of, loaded_with, load_answer}
 use Rattle.exports.specs.Names.{names, names_from_45, bytes, name_in, refusal_name}
 use Rattle.exports.specs.Wrote.{wrote_answer, who_wrote_answer}
-use Rattle.exports.specs.Told.{read_only_start, accepted_told}
+use Rattle.exports.specs.Told.{version_in, accepted_told}
 use Rattle.exports.specs.Depth.{depth_answer, call_depth_answer}
 use Rattle.exports.proofs.Named.{past, no_name, load_named}
 
@@ -45,39 +53,69 @@ number_some : (n : ℕ) → 0 < length (refusal_name n) → n ≡ 0 → ⊥
 unfolding refusal_name names names_from_45 name_in bytes ◌if◌else◌
 number_some n h e = let k : length (refusal_name 0) ≡ 0 = refl in omega (arith, rw e at h)
 
--- the version's number says which version it is
-version_told : (version2 : Bool) → eqb (2 if version2 else 1) 2 ≡ version2
+-- a version that has room is told as it is, and of every word whether it is 2
+version_told : (n : ℕ) → n < 2 ^ 32 → (n if ltb n (2 ^ 32) else 0) ≡ n
 unfolding ◌if◌else◌
-version_told true = refl
-version_told false = refl
+version_told n h = rw (lt-ltb n (2 ^ 32) h) refl
 
--- where the read-only bytes start, by whether they were copied
-start_told : (x : Option ℕ) → read_only_start (from_bool (is_none x)) (unwrap_or x 0) ≡ x
+is_2_told : (n : ℕ) → eqb (n if ltb n (2 ^ 32) else 0) 2 ≡ eqb n 2
 unfolding ◌if◌else◌
-start_told (Some start) = refl
-start_told None = refl
+is_2_told n = by_lt n (2 ^ 32) (λ (x : Bool). eqb (n if x else 0) 2 ≡ eqb n 2) (λ l. refl) (λ l. rw (ne_eqb n 2 (λ e. omega (arith, e))) refl)
+
+-- VERSION 2 IS TOLD EXACTLY WHERE THE WORD IS 2
+pub version_2_told : (loaded : List ℕ) → eqb (version_in loaded) 2 ≡ eqb (get_or loaded 4 0) 2
+unfolding version_in
+version_2_told loaded = is_2_told (get_or loaded 4 0)
+
+copied_told : (copied : Bool) → not (eqb (from_bool copied) 0) ≡ copied
+copied_told true = refl
+copied_told false = refl
+
+version_small : (version2 : Bool) → (2 if version2 else 1) < 2 ^ 32
+unfolding ◌if◌else◌
+version_small true = omega arith
+version_small false = omega arith
 
 -- THE WORDS OF AN ACCEPTED LOAD TELL THAT LOAD, whatever refusal and whatever words stand around them
-pub told_again : (r : Report) (a : Accepted) (last behind : ℕ) → a.entry < 2 ^ 32 → accepted_told (words_of (loaded_with r a last behind)) ≡ a
-unfolding written
-told_again r a last behind h =
+pub told_again : (r : Report) (a : Accepted) (last behind : ℕ) → a.version < 2 ^ 32 → a.entry < 2 ^ 32 → accepted_told (words_of (loaded_with r a last behind)) ≡ a
+unfolding written version_in
+told_again r a last behind v h =
     let small : a.entry % 2 ^ 32 ≡ a.entry = omega arith in
     λ x. record {
-      version2 = version_told a.version2 x;
+      version = version_told a.version v x;
       entry = small x;
       used = a.used;
       moves = a.moves;
+      ro_copied = copied_told a.ro_copied x;
       ro_offset = a.ro_offset;
-      ro_start = start_told a.ro_start x;
+      ro_start = a.ro_start;
       ro_length = a.ro_length;
       text_addr = a.text_addr;
       text = a.text;
     }
 
+-- what a load answers has room in the words
+answer_small : (j : Job) (p : Result Placing ElfError) (used moves : ℕ) (a : Accepted) → j.e_entry - j.sh_addr ≤ 2 ^ 24 → answer_by j p used moves ≡ Ok a → (a.version < 2 ^ 32) × (a.entry < 2 ^ 32)
+answer_small j (Ok (Borrowed offset start k)) used moves a h e = let q : accepted_as j false offset start k used moves ≡ a = cc in rw (← q) (version_small j.version2, omega arith)
+answer_small j (Ok (Owned offset lowest k)) used moves a h e = let q : accepted_as j true offset 0 k used moves ≡ a = cc in rw (← q) (version_small j.version2, omega arith)
+answer_small j (Err r) used moves a h e = absurd (zero_one (cc))
+
+-- SO THE WORDS OF A LOAD'S OWN ANSWER TELL IT
+pub loaded_again : (file builtins : List ℕ) (c : Config) (n m rows : ℕ) (a : Accepted) → answer_of (load_of file builtins c n m rows) ≡ Ok a → accepted_told (words_of (load_answer (Ok a))) ≡ a
+unfolding load_of
+loaded_again file builtins c n m rows a e = by_prepared (prepared file builtins c n m) refl e
+  where
+    by_prepared : (p : Result Job ElfError) → prepared file builtins c n m ≡ p → answer_of (on_prepared file builtins m rows p) ≡ Ok a → accepted_told (words_of (load_answer (Ok a))) ≡ a
+    by_prepared (Err r) q h = absurd (zero_one (cc))
+    by_prepared (Ok j) q h =
+        let w = by_load file builtins c n m rows j a q e in
+        let s = answer_small j j.placing (length w.rows) w.moves a (readied file builtins c n m j q).0.entry w.answers in
+        told_again (valued 0 0) a 0 0 s.0 s.1
+
 -- THE WORDS OF A LOAD'S ANSWER, all 24, ask who wrote a byte as the answer does
 pub wrote_told : (file : List ℕ) (a : Result Accepted ElfError) (b : ℕ) → who_wrote_answer file (words_of (load_answer a)) b ≡ wrote_answer (asked file a b)
-unfolding who_wrote_answer written ◌if◌else◌
-wrote_told file (Ok a) b = ap (λ (v : Bool). wrote_answer (asked_by file (record { version2 = v; place = a.text }) b)) (version_told a.version2)
+unfolding who_wrote_answer written version_in ◌if◌else◌
+wrote_told file (Ok a) b = ap (λ (v : Bool). wrote_answer (asked_by file (record { version2 = v; place = a.text }) b)) (is_2_told a.version)
 wrote_told file (Err e) b =
     let n = (load.report_of e).number in
     let small = number_small n (load_named e) in
@@ -89,10 +127,18 @@ abbrev pub EntrySmall : Result Accepted ElfError → Type 0
 EntrySmall (Ok a) = a.entry < 2 ^ 32
 EntrySmall (Err e) = Unit {0}
 
+-- of an answer's version the question asks only whether it is 2
+depth_as : (work rows : ℕ) (image keys indices : List ℕ) (limit : ℕ) (a b : Accepted) → eqb a.version 2 ≡ eqb b.version 2 → a.entry ≡ b.entry → a.used ≡ b.used → a.text ≡ b.text
+    → depth_by work rows image keys indices a limit ≡ depth_by work rows image keys indices b limit
+unfolding depth_by
+depth_as work rows image keys indices limit a b v e u t = rw (v, e, u, t) refl
+
 pub depth_told_by : (work : ℕ) (image : List ℕ) (t : Slices) (limit : ℕ) (a : Result Accepted ElfError) → EntrySmall a
     → call_depth_answer work image t (words_of (load_answer a)) limit ≡ depth_answer (depth_asked work (capacity t) image t.keys t.indices a limit)
-unfolding written ◌if◌else◌
-depth_told_by work image t limit (Ok a) h = ap (λ (x : Accepted). depth_answer (depth_asked work (capacity t) image t.keys t.indices (Ok x) limit)) (told_again (valued 0 0) a 0 0 h)
+unfolding written version_in ◌if◌else◌
+depth_told_by work image t limit (Ok a) h =
+    let small : a.entry % 2 ^ 32 ≡ a.entry = omega arith in
+    ap depth_answer (depth_as work (capacity t) image t.keys t.indices limit (accepted_told (words_of (load_answer (Ok a)))) a (is_2_told a.version) small refl refl)
 depth_told_by work image t limit (Err e) h =
     let n = (load.report_of e).number in
     let small = number_small n (load_named e) in

@@ -8,9 +8,9 @@ use mathlib.Core.Path.{◌≡◌, refl, sym, ap, ◌∙◌}
 use mathlib.Core.List.{List, [], ◌∷◌, ◌++◌, append-nil}
 use Prim.Native.Nat.{ℕ, zero, suc, ◌-◌, ◌<◌, ◌≤◌, ◌+◌, min}
 use native.Mathlib.Nat.{le_of_suc-le-suc, not-suc-le-zero}
-use native.Mathlib.Numerals.{sub-one}
+use native.Mathlib.Numerals.{sub-one, add-one}
 use native.Mathlib.Omega.{arith}
-use lib.ListN.{length, length-set, length-drop, take, drop, set, replicate}
+use lib.ListN.{length, length-set, length-drop, take, drop, get_or, set, replicate}
 use lib.Seq.{take-length, drop-length}
 use borrow.Rule.Slice.PartMut.{mid_of, put_mid, same_len_mid}
 use Rattle.std.specs.Prelude.{Some, None}
@@ -67,6 +67,32 @@ module _ (s ws : List ℕ) (m : ℕ) (e : m ≡ min (length s) (length ws)) wher
 
     pub filled_all : z ≡ replicate (length (mid_of m left copied)) 0 → put_mid m left copied z ≡ written (length s) ws
     filled_all q = rw (none_past, append-nil, q, behind_them, seam m x (drop m s) long, p) both_parts
+
+-- the first i words are written
+unfoldable pub so_far : ℕ → List ℕ → List ℕ → List ℕ
+so_far i ws s = take i (written (length s) ws) ++ drop i s
+
+pub so_far_start : (ws s : List ℕ) → s ≡ so_far 0 ws s
+unfolding so_far
+so_far_start ws s = refl
+
+pub so_far_turn : (i : ℕ) (ws s : List ℕ) → i < length s → set (so_far i ws s) i (get_or ws i 0) ≡ so_far (suc i) ws s
+unfolding so_far written
+so_far_turn i ws [] h = absurd (not-suc-le-zero h)
+so_far_turn zero [] (x ∷ s) h = refl
+so_far_turn zero (w ∷ ws) (x ∷ s) h = refl
+so_far_turn (suc i) [] (x ∷ s) h = ap (λ (l : List ℕ). 0 ∷ l) (so_far_turn i [] s (le_of_suc-le-suc h))
+so_far_turn (suc i) (w ∷ ws) (x ∷ s) h = ap (λ (l : List ℕ). w ∷ l) (so_far_turn i ws s (le_of_suc-le-suc h))
+
+-- the same turn, as the code counts
+pub so_far_next : (i : ℕ) (ws s : List ℕ) → i < length s → set (so_far i ws s) i (get_or ws i 0) ≡ so_far (i + 1) ws s
+so_far_next i ws s h = rw add-one (so_far_turn i ws s h)
+
+pub so_far_end : (ws s : List ℕ) → so_far (length s) ws s ≡ written (length s) ws
+unfolding so_far written
+so_far_end ws [] = refl
+so_far_end [] (x ∷ s) = ap (λ (l : List ℕ). 0 ∷ l) (so_far_end [] s)
+so_far_end (w ∷ ws) (x ∷ s) = ap (λ (l : List ℕ). w ∷ l) (so_far_end ws s)
 
 -- a word, and a part behind it that is filled
 module _ (w : ℕ) (s z : List ℕ) where

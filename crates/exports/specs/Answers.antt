@@ -1,6 +1,6 @@
 -- What the exported functions answer: a number, 0 or why there is nothing, and 23 words behind it.
 use Rattle.program.specs.declared.Row.{Row}
-use Rattle.std.specs.Prelude.{ℕ, zero, suc, unwrap_or, ◌-◌, ◌^◌, ◌≡◌, List, [], ◌∷◌, length, Option, Some, None, is_none, Result, Ok, Err}
+use Rattle.std.specs.Prelude.{ℕ, zero, suc, unwrap_or, ◌-◌, ◌^◌, ◌≡◌, List, [], ◌∷◌, length, Option, Some, None, Result, Ok, Err}
 use Rattle.std.specs.Int.{from_bool}
 use Rattle.elf_parser.specs.declared.error.ElfParserError.{ElfParserError}
 use Rattle.elf_parser.specs.declared.error.Report.{Report}
@@ -12,7 +12,7 @@ use Rattle.program.specs.Table.{Lent, Shared, table_before, table_after}
 use Rattle.loader.specs.declared.error.ElfError.{ElfError}
 use Rattle.loader.specs.declared.answer.Accepted.{Accepted}
 use Rattle.loader.specs.Errors as load
-use Rattle.loader.specs.Load.{version_of, load_of_lent, answer_of}
+use Rattle.loader.specs.Load.{load_of_lent, answer_of}
 use Rattle.loader.specs.Loads.{Loads}
 use Rattle.loader.specs.Settings.{config_of}
 use Rattle.exports.specs.declared.answers.Answer.{Answer}
@@ -136,13 +136,13 @@ loaded_with r a last behind =
     (r.value
     ∷ r.start
     ∷ r.length
-    ∷ version_of a
+    ∷ a.version
     ∷ a.entry
     ∷ a.used
     ∷ a.moves
-    ∷ from_bool (is_none a.ro_start)
+    ∷ from_bool a.ro_copied
     ∷ a.ro_offset
-    ∷ unwrap_or a.ro_start 0
+    ∷ a.ro_start
     ∷ a.ro_length
     ∷ a.text_addr
     ∷ a.text.start

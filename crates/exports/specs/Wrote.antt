@@ -2,10 +2,8 @@
 use Rattle.std.specs.Prelude.{ℕ, ◌≡◌, List, [], ◌∷◌, length, get_or, ltb, eqb, Result, Ok, Err}
 use Rattle.ebpf.specs.Choice.{◌if◌else◌}
 use Rattle.program.specs.Table.{Slices, Lent, Shared, table_before, table_after, capacity}
-use Rattle.elf_parser.specs.declared.error.ElfParserError.TheVariants.{NoSuchIndex}
 use Rattle.elf_parser.specs.Errors.{valued}
 use Rattle.loader.specs.declared.error.ElfError.{ElfError}
-use Rattle.loader.specs.declared.error.ElfError.TheVariants.{FailedToParse}
 use Rattle.loader.specs.declared.answer.Accepted.{Accepted}
 use Rattle.loader.specs.declared.validate.Config.{Config}
 use Rattle.loader.specs.Errors as load
@@ -13,6 +11,9 @@ use Rattle.loader.specs.Load.{load_of_lent, answer_of}
 use Rattle.loader.specs.declared.answer.LoadAnd.{LoadAnd}
 use Rattle.writers.specs.declared.Writer.{Writer}
 use Rattle.writers.specs.declared.Writer.TheVariants.{File, Call, Relocation}
+use Rattle.writers.specs.declared.error.WhoWroteError.{WhoWroteError}
+use Rattle.writers.specs.declared.error.WhoWroteError.TheVariants.{NoSuchIndex, Refused}
+use Rattle.writers.specs.Errors as writers
 use Rattle.writers.specs.Asked.{text_loaded, text_of, asked_by}
 use Rattle.writers.specs.Loads.{LoadsAndTells}
 use Rattle.writers.specs.Whole.{code_by, filled_in}
@@ -33,13 +34,13 @@ number_in File = 0
 number_in (Call i) = i
 number_in (Relocation k) = k
 
-abbrev pub wrote_answer : Result Writer ElfError → Answer
+abbrev pub wrote_answer : Result Writer WhoWroteError → Answer
 wrote_answer (Ok w) = accepted (kind_of w ∷ number_in w ∷ [])
-wrote_answer (Err e) = reported (load.report_of e)
+wrote_answer (Err e) = reported (writers.report_of e)
 
 -- ---- by the words of a load's answer
 
-abbrev pub wrote_in : List ℕ → List ℕ → ℕ → Result Writer ElfError
+abbrev pub wrote_in : List ℕ → List ℕ → ℕ → Result Writer WhoWroteError
 wrote_in file loaded b = asked_by file (text_loaded (accepted_told loaded)) b
 
 -- WHO WROTE THE BYTE b
@@ -72,17 +73,17 @@ pub record GivesNumbers (file loaded : Shared) (numbers answer : Lent) (r : ℕ)
 
 -- ---- with a load: the load's words as they are, and behind them the writer's two; 45 keeps the load's
 
-abbrev pub accepted_wrote : Accepted → Result Writer ElfError → Answer
+abbrev pub accepted_wrote : Accepted → Result Writer WhoWroteError → Answer
 accepted_wrote a (Ok w) = loaded_with (valued 0 0) a (kind_of w) (number_in w)
-accepted_wrote a (Err (FailedToParse NoSuchIndex)) = loaded_with (valued 45 0) a 0 0
-accepted_wrote a (Err e) = reported (load.report_of e)
+accepted_wrote a (Err NoSuchIndex) = loaded_with (valued 45 0) a 0 0
+accepted_wrote a (Err (Refused e)) = reported (load.report_of e)
 
-abbrev pub load_wrote_answer : Result Accepted ElfError → Result Writer ElfError → Answer
+abbrev pub load_wrote_answer : Result Accepted ElfError → Result Writer WhoWroteError → Answer
 load_wrote_answer (Ok a) wrote = accepted_wrote a wrote
 load_wrote_answer (Err e) wrote = reported (load.report_of e)
 
 -- what comes of the load, in a table that holds t, and who wrote the byte
-abbrev pub load_wrote_of : Shared → List ℕ → Config → Lent → Lent → Slices → ℕ → LoadAnd (Result Writer ElfError)
+abbrev pub load_wrote_of : Shared → List ℕ → Config → Lent → Lent → Slices → ℕ → LoadAnd (Result Writer WhoWroteError)
 load_wrote_of file builtins c image ro t offset = record {
   load = answer_of (load_of_lent file builtins c image ro t);
   asked = wrote_of file.entry.now builtins c (length image.entry.now) (length ro.entry.now) (capacity t) offset;
@@ -94,5 +95,5 @@ pub record GivesLoadWrote (file builtins : Shared) (settings : ℕ) (image ro ke
       let before = table_before keys indices kinds starts lengths in
       LoadsAndTells file builtins.entry.now (config_of settings) image ro before (table_after keys indices kinds starts lengths) offset (load_wrote_of file builtins.entry.now (config_of settings) image ro before offset)
   pub gives :
-      let x : LoadAnd (Result Writer ElfError) = load_wrote_of file builtins.entry.now (config_of settings) image ro (table_before keys indices kinds starts lengths) offset in
+      let x : LoadAnd (Result Writer WhoWroteError) = load_wrote_of file builtins.entry.now (config_of settings) image ro (table_before keys indices kinds starts lengths) offset in
       Gives (load_wrote_answer x.load x.asked) answer r

@@ -1,7 +1,7 @@
 // What a load answers in words, and what such words tell.
 ghost use Rattle.std.specs.Prelude.{◌≡◌};
 ghost use Rattle.exports.specs.Answers.{loaded_with, load_answer, text_answer};
-ghost use Rattle.exports.specs.Told.{read_only_start, accepted_told, told};
+ghost use Rattle.exports.specs.Told.{accepted_told, told};
 
 use crate::answers::{Answer, answer_with, answered, place_words, word_in};
 use elf_parser::{Place, Report};
@@ -16,13 +16,13 @@ pub(crate) fn loaded_with(r: Report, a: Accepted, last: u64, behind: u64) -> Ans
         r.value,
         r.start,
         r.length,
-        a.version() as u64,
+        a.version as u64,
         a.entry as u64,
         a.used as u64,
         a.moves,
-        u64::from(a.ro_start.is_none()),
+        u64::from(a.ro_copied),
         a.ro_offset,
-        a.ro_start.unwrap_or(0),
+        a.ro_start,
         a.ro_length,
         a.text_addr,
         a.text.start as u64,
@@ -39,25 +39,19 @@ pub(crate) fn load_answer(a: Result<Accepted, ElfError>) -> Answer
     answered(a, |a| loaded_with(Report::with_value(0, 0), a, 0, 0))
 }
 
-// Where the read-only bytes start in the image, if they were not copied.
-#[tactic(auto, using(ebpf::specs::Choice::choices))]
-fn read_only_start(copied: u64, start: u64) -> Option<u64>
-    ensures { result ≡ read_only_start copied start }
-{
-    if copied == 0 { Some(start) } else { None }
-}
-
-// The accepted load whose answer is in these words.
+// The accepted load whose answer is in these words. A word too large for a version's number is read as 0.
+#[tactic(auto, using(ebpf::specs::Choice::choices), unfolding(crate::specs::Told::version_in))]
 fn accepted_told(loaded: &[u64]) -> Accepted
     ensures { result ≡ accepted_told loaded.now }
 {
     Accepted {
-        version2: word_in(loaded, 4) == 2,
+        version: u32::try_from(word_in(loaded, 4)).unwrap_or(0),
         entry: (word_in(loaded, 5) % 0x1_0000_0000) as u32,
         used: word_in(loaded, 6) as usize,
         moves: word_in(loaded, 7),
+        ro_copied: word_in(loaded, 8) != 0,
         ro_offset: word_in(loaded, 9),
-        ro_start: read_only_start(word_in(loaded, 8), word_in(loaded, 10)),
+        ro_start: word_in(loaded, 10),
         ro_length: word_in(loaded, 11),
         text_addr: word_in(loaded, 12),
         text: Place {

@@ -6,14 +6,15 @@ ghost use Rattle.exports.specs.Names.{Named, name_in, names_from_45, refusal_nam
 // Fills a slice: the bytes, as many as there is room for, and zeros behind them.
 // Kept: apart from `fill` of answers.rt. One `fill` for any `T: Copy` was tried: std's `fill` then asks of `T` that
 // a clone can't fail, and tells of clones and not of the value; and `written`, which every answer is stated by,
-// would take a type and its zero wherever it stands, to save these three lines.
-#[tactic(auto, using(crate::proofs::Writing::filled_all))]
+// would take a type and its zero wherever it stands, to save these three lines. And byte by byte: by `copy_from_slice`
+// the C interface would need `memmove` from where it is linked.
+#[tactic(auto, using(crate::proofs::Writing::so_far_start))]
 fn fill_bytes(to: &mut [u8], bytes: &[u8])
     ensures { to.new ≡ written (length to.old) bytes.now }
 {
-    let held = to.len().min(bytes.len());
-    to[..held].copy_from_slice(&bytes[..held]);
-    to[held..].fill(0);
+    for i in 0..to.len() {
+        to[i] = bytes.get(i).copied().unwrap_or(0);
+    }
 }
 
 // The name of the refusal with a number from 45 on, empty where no refusal has it. Apart from the others, since the

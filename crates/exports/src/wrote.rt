@@ -4,9 +4,9 @@ ghost use Rattle.exports.specs.Wrote.{kind_of, number_in, wrote_answer, who_wrot
 
 use crate::answers::{Answer, answer_with, answered, reported};
 use crate::loading::{loaded_with, told};
-use elf_parser::{ElfParserError, Report};
+use elf_parser::Report;
 use loader::{Accepted, ElfError, LoadAnd, clear_words};
-use writers::{LoadedText, Writer, who_wrote_all_by, who_wrote_by};
+use writers::{LoadedText, WhoWroteError, Writer, who_wrote_all_by, who_wrote_by};
 
 // Who wrote a byte, in words: the kind of the writer, and the number of the slot or of the relocation.
 #[derive(Clone, Copy, PartialEq, Eq, Debug)]
@@ -28,7 +28,7 @@ impl From<Writer> for WriterWords {
     }
 }
 
-fn wrote_answer(wrote: Result<Writer, ElfError>) -> Answer
+fn wrote_answer(wrote: Result<Writer, WhoWroteError>) -> Answer
     ensures { result ≡ wrote_answer wrote }
 {
     answered(wrote, |w| {
@@ -69,7 +69,7 @@ pub(crate) fn numbers_answer(numbers: &mut [u32], file: &[u8], loaded: &[u64]) -
 
 // The answer of an accepted load, with who wrote the byte behind it. An offset past the file's end
 // leaves the load's words as they are.
-fn accepted_wrote(a: Accepted, wrote: Result<Writer, ElfError>) -> Answer
+fn accepted_wrote(a: Accepted, wrote: Result<Writer, WhoWroteError>) -> Answer
     ensures { result ≡ accepted_wrote a wrote }
 {
     match wrote {
@@ -77,17 +77,12 @@ fn accepted_wrote(a: Accepted, wrote: Result<Writer, ElfError>) -> Answer
             let WriterWords { kind, number } = WriterWords::from(w);
             loaded_with(Report::with_value(0, 0), a, kind, number)
         }
-        Err(ElfError::FailedToParse(ElfParserError::NoSuchIndex)) => loaded_with(
-            Report::with_value(45, 0),
-            a,
-            0,
-            0,
-        ),
-        Err(e) => reported(Report::from(e)),
+        Err(WhoWroteError::NoSuchIndex) => loaded_with(Report::with_value(45, 0), a, 0, 0),
+        Err(WhoWroteError::Refused(e)) => reported(Report::from(e)),
     }
 }
 
-pub(crate) fn load_wrote_answer(answers: LoadAnd<Result<Writer, ElfError>>) -> Answer
+pub(crate) fn load_wrote_answer(answers: LoadAnd<Result<Writer, WhoWroteError>>) -> Answer
     ensures { result ≡ load_wrote_answer answers.load answers.asked }
 {
     answered(answers.load, |a| accepted_wrote(a, answers.asked))

@@ -1,6 +1,6 @@
 #![tactic(auto)]
 // Reading until a buffer is full, and record by record.
-ghost use Rattle.std.specs.Prelude.{◌≡◌, ◌<◌, ◌≤◌, length, take, IfOk, Err, false};
+ghost use Rattle.std.specs.Prelude.{◌≡◌, ◌<◌, ◌≤◌, length, take, IfOk, Ok, Err, false};
 ghost use Rattle.std.specs.Io.KnownBytes.{Consumes, IsAtEnd};
 ghost use Rattle.std.specs.declared.io.Error.{Error};
 ghost use Rattle.input.specs.declared.RecordError.TheVariants.{Io, Bad};
@@ -24,18 +24,15 @@ impl From<io::Error> for RecordError {
 }
 
 impl RecordError {
-    // Ends the lines: prints the words where the record was no right one, and answers that there is no more; or
-    // hands the failure on.
-    pub fn tell(self, rt: &impl Print, words: &str) -> io::Result<bool>
+    // What comes after such a record: a failure is handed on, and behind a record that is no right one there is no
+    // more. The words for it are the caller's.
+    pub fn ends(self) -> io::Result<bool>
         ensures failed { (e : Error) → self ≡ Io e → result ≡ Err e }
-        ensures bad { IfOk result (λ more. (more ≡ false) × (self ≡ Bad)) }
+        ensures bad { self ≡ Bad → result ≡ Ok false }
     {
         match self {
             RecordError::Io(failure) => Err(failure),
-            RecordError::Bad => {
-                println!(rt; "{words}")?;
-                Ok(false)
-            }
+            RecordError::Bad => Ok(false),
         }
     }
 }

@@ -9,7 +9,7 @@ use Rattle.loader.specs.declared.error.ElfError.{ElfError}
 use Rattle.loader.specs.declared.answer.Accepted.{Accepted}
 use Rattle.loader.specs.declared.validate.Config.{Config}
 use Rattle.loader.specs.Errors.{report_of}
-use Rattle.loader.specs.Load.{Loading, version_of, load_of, answer_of, rows_in}
+use Rattle.loader.specs.Load.{Loading, load_of, answer_of, rows_in}
 use Rattle.listing.specs.declared.storing.Lines.{Lines}
 use Rattle.listing.specs.Decimal.{decimal}
 
@@ -49,7 +49,7 @@ refused_line r = word_line refused_word r.number r.value r.start r.length
 
 -- version, entry, keys and moves of an accepted load
 abbrev pub accepted_line : Accepted → List ℕ
-accepted_line a = word_line accepted_word (version_of a) a.entry a.used a.moves
+accepted_line a = word_line accepted_word a.version a.entry a.used a.moves
 
 -- by the answer and the rows
 abbrev pub answer_lines : Result Accepted ElfError → List Row → List ℕ

@@ -38,7 +38,7 @@ impl Lines<'_> {
     {
         self.put_word_line(
             b"accepted",
-            a.version() as u64,
+            a.version as u64,
             a.entry as u64,
             a.used as u64,
             a.moves,

@@ -19,21 +19,15 @@ fn print_refused(rt: &impl Print, r: Report) -> io::Result<()> {
 fn print_read_only(rt: &impl Print, a: Accepted) -> io::Result<()> {
     print!(rt;
         " {} {} {} {}",
-        u64::from(a.ro_start.is_none()),
+        u64::from(a.ro_copied),
         a.ro_offset,
-        a.ro_start.unwrap_or(0),
+        a.ro_start,
         a.ro_length
     )
 }
 
 fn print_accepted(rt: &impl Print, a: Accepted) -> io::Result<()> {
-    print!(rt;
-        "accepted {} {} {} {}",
-        a.version(),
-        a.entry,
-        a.used,
-        a.moves
-    )?;
+    print!(rt; "accepted {} {} {} {}", a.version, a.entry, a.used, a.moves)?;
     print_read_only(rt, a)?;
     print!(rt; " {} {} {}", a.text_addr, a.text.start, a.text.length)
 }

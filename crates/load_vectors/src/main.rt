@@ -168,7 +168,11 @@ fn next_case(rt: &impl Print, input: &mut impl Read) -> Result<bool, RecordError
 fn main(rt: HostRuntime) -> io::Result<()> {
     let mut input = rt.stdin();
     for _ in 0..MOST_CASES {
-        let more = next_case(&rt, &mut input).or_else(|e| e.tell(&rt, "bad case"))?;
+        let more = next_case(&rt, &mut input).or_else(|e| -> io::Result<bool> {
+            let more = e.ends()?;
+            println!(rt; "bad case")?;
+            Ok(more)
+        })?;
         if !more {
             break;
         }

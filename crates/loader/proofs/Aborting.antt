@@ -37,7 +37,7 @@ use Rattle.loader.specs.Sections.{header_or, section_at, name_of, dot_text, outs
 use Rattle.loader.specs.ReadOnly.{shift_of, read_only, gathered, from_start, placing}
 use Rattle.loader.specs.Placed.{owned_fits, owned_room}
 use Rattle.loader.specs.Validate.{size_check, ascends, header_check, sections_check, text_check, job_of, file_check, is_version2, validated, parsed_then, prepared}
-use Rattle.loader.specs.GetBytes.{text_at, bytes_at, text_place, ro_place, lent_for, ro_start_of, ro_of, text_place_of}
+use Rattle.loader.specs.GetBytes.{text_at, bytes_at, text_place, ro_place, lent_for, ro_of, text_place_of}
 use Rattle.loader.specs.Load.{accepted_as, answer_by, load_of, answer_of}
 use Rattle.loader.proofs.Answered.{by_load}
 use Rattle.loader.proofs.Readied.{Lies, pick_in, in_file, sections_pass, text_passes, readied, placed_as}
@@ -368,9 +368,9 @@ module _ (file builtins : List ℕ) (c : Config) (n m : ℕ) (j : Job) (ready : 
 
   -- both places of an answer
   abbrev Places : Accepted → Type 0
-  Places a = (ro_of a (lent_for a n m) ≡ bytes_at (ro_start_of a) a.ro_length) × ((text_place_of a (lent_for a n m) ≡ Err TextOutsideReadOnly) ↔ FromStart j)
+  Places a = (ro_of a (lent_for a n m) ≡ bytes_at a.ro_start a.ro_length) × ((text_place_of a (lent_for a n m) ≡ Err TextOutsideReadOnly) ↔ FromStart j)
 
-  owned_places : (used moves offset lowest k : ℕ) → j.placing ≡ Ok (Owned offset lowest k) → Places (accepted_as j offset None k used moves)
+  owned_places : (used moves offset lowest k : ℕ) → j.placing ≡ Ok (Owned offset lowest k) → Places (accepted_as j true offset 0 k used moves)
   unfolding ◌if◌else◌
   owned_places used moves offset lowest k owns =
       let r = text_copied offset lowest k owns in (
@@ -384,7 +384,7 @@ module _ (file builtins : List ℕ) (c : Config) (n m : ℕ) (j : Job) (ready : 
       same : (o i : ℕ) → j.placing ≡ Ok (Owned o MM_PROGRAM_START i) → lowest ≡ MM_PROGRAM_START
       same o i q = let w : Ok (Owned offset lowest k) ≡ Ok (Owned o MM_PROGRAM_START i) = sym owns ∙ q in cc
 
-  borrowed_places : (used moves offset start k : ℕ) → j.placing ≡ Ok (Borrowed offset start k) → Places (accepted_as j offset (Some start) k used moves)
+  borrowed_places : (used moves offset start k : ℕ) → j.placing ≡ Ok (Borrowed offset start k) → Places (accepted_as j false offset start k used moves)
   unfolding ◌if◌else◌
   borrowed_places used moves offset start k stay = (
     (text_borrowed offset start k stay).0,
@@ -396,10 +396,10 @@ module _ (file builtins : List ℕ) (c : Config) (n m : ℕ) (j : Job) (ready : 
 
   places : (used moves : ℕ) (a : Accepted) (p : Result Placing ElfError) → j.placing ≡ p → answer_by j p used moves ≡ Ok a → Places a
   places used moves a (Ok (Borrowed offset start k)) q e =
-      let s : accepted_as j offset (Some start) k used moves ≡ a = cc in
+      let s : accepted_as j false offset start k used moves ≡ a = cc in
       subst Places s (borrowed_places used moves offset start k q)
   places used moves a (Ok (Owned offset lowest k)) q e =
-      let s : accepted_as j offset None k used moves ≡ a = cc in
+      let s : accepted_as j true offset 0 k used moves ≡ a = cc in
       subst Places s (owned_places used moves offset lowest k q)
   places used moves a (Err r) q e = let z : ◌≡◌ {A = ℕ} 0 1 = cc in absurd (omega arith)
 
@@ -448,7 +448,7 @@ module _ (file builtins : List ℕ) (c : Config) (n m cap : ℕ) (j : Job) (read
       places file builtins c n m j ready (length w.rows) w.moves a j.placing refl w.answers
 
   -- its read-only bytes lie in the lent ones
-  pub ro_given : ro_of a (lent_for a n m) ≡ bytes_at (ro_start_of a) a.ro_length
+  pub ro_given : ro_of a (lent_for a n m) ≡ bytes_at a.ro_start a.ro_length
   ro_given = both.0
 
   -- its text lies in them, but where version 1 copies them from the program's start on
@@ -464,5 +464,5 @@ module _ (file builtins : List ℕ) (c : Config) (n m cap : ℕ) (j : Job) (read
       )
 
   -- everywhere else it has its place
-  pub text_given : (FromStart j → ⊥) → text_place_of a (lent_for a n m) ≡ bytes_at ((ro_start_of a) + text_at a.text_addr a.ro_offset) a.text.length
-  text_given h = text_else (lent_for a n m) a.ro_offset (ro_start_of a) a.ro_length a.text_addr a.text.length (λ e. h (both.1.0 e))
+  pub text_given : (FromStart j → ⊥) → text_place_of a (lent_for a n m) ≡ bytes_at (a.ro_start + text_at a.text_addr a.ro_offset) a.text.length
+  text_given h = text_else (lent_for a n m) a.ro_offset a.ro_start a.ro_length a.text_addr a.text.length (λ e. h (both.1.0 e))

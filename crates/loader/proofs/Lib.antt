@@ -1,3 +1,4 @@
+pub mod Copies
 pub mod Stored
 pub mod Bits
 pub mod Mapped

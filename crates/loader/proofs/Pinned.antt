@@ -117,12 +117,13 @@ label i = row_with name_key i 1 81 10
 abbrev answer_2 : Accepted
 answer_2 =
     record {
-      version2 = true;
+      version = 2;
       entry = 0;
       used = 2;
       moves = 1;
+      ro_copied = false;
       ro_offset = 0;
-      ro_start = Some 64;
+      ro_start = 64;
       ro_length = 24;
       text_addr = 0x1_0000_0000;
       text = record { start = 64; length = 24 };

@@ -1,5 +1,5 @@
 -- The read-only bytes of an accepted load, and the text among them: `get_ro_section`, `get_text_bytes`.
-use Rattle.std.specs.Prelude.{ℕ, ◌+◌, ◌-◌, ◌≤◌, ◌≡◌, List, length, ltb, Bool, true, false, is_none, unwrap_or, Result, Ok, Err, refl}
+use Rattle.std.specs.Prelude.{ℕ, ◌+◌, ◌-◌, ◌≤◌, ◌≡◌, List, length, ltb, Bool, true, false, Result, Ok, Err, refl}
 use Rattle.std.specs.Borrow.{Bor}
 use Rattle.std.proofs.Common.{arith, ap, ◌∙◌, ltb-false}
 use Rattle.ebpf.specs.Choice.{◌if◌else◌, not_first, row_rest}
@@ -35,21 +35,17 @@ ro_place lent start n =
 
 -- the lent bytes that hold an accepted load's read-only ones: the buffer where they were copied, else the image
 abbrev pub lent_for : {A : Type 0} → Accepted → A → A → A
-lent_for a image ro = ro if is_none a.ro_start else image
-
--- where they start there: at 0 where they were copied
-abbrev pub ro_start_of : Accepted → ℕ
-ro_start_of a = unwrap_or a.ro_start 0
+lent_for a image ro = ro if a.ro_copied else image
 
 abbrev pub bytes_for : Accepted → Shared → Shared → List ℕ
 bytes_for a image ro = lent_for a image.entry.now ro.entry.now
 
 -- the places that an accepted load's answer gives, in so many lent bytes
 abbrev pub ro_of : Accepted → ℕ → Result Place ElfError
-ro_of a lent = ro_place lent (ro_start_of a) a.ro_length
+ro_of a lent = ro_place lent a.ro_start a.ro_length
 
 abbrev pub text_place_of : Accepted → ℕ → Result Place ElfError
-text_place_of a lent = text_place lent a.ro_offset (ro_start_of a) a.ro_length a.text_addr a.text.length
+text_place_of a lent = text_place lent a.ro_offset a.ro_start a.ro_length a.text_addr a.text.length
 
 -- the part that an accepted load's answer gives, of the lent image or of the lent buffer, by its place there
 abbrev pub part_for : Accepted → Shared → Shared → (ℕ → Result Place ElfError) → List ℕ
@@ -64,7 +60,7 @@ now_of false x y = refl
 
 -- what is lent for an accepted load holds what the image or the buffer does
 pub lent_now : (a : Accepted) (image ro lent : Bor (List ℕ)) → lent ≡ lent_for a image ro → lent.now ≡ lent_for a image.now ro.now
-lent_now a image ro lent is = ap (λ (x : Bor (List ℕ)). x.now) is ∙ now_of (is_none a.ro_start) ro image
+lent_now a image ro lent is = ap (λ (x : Bor (List ℕ)). x.now) is ∙ now_of a.ro_copied ro image
 
 -- a place that is given lies in the lent bytes
 pub text_within : (lent offset start n addr size : ℕ) (p : Place) → text_place lent offset start n addr size ≡ Ok p → p.start + p.length ≤ lent

@@ -1,5 +1,5 @@
 -- A whole load: its answer, and every lent byte and number afterwards.
-use Rattle.std.specs.Prelude.{ℕ, ◌+◌, ◌-◌, ◌/◌, ◌≡◌, List, [], ◌++◌, length, replicate, Option, Some, None, Result, Ok, Err}
+use Rattle.std.specs.Prelude.{ℕ, ◌+◌, ◌-◌, ◌/◌, ◌≡◌, Bool, true, false, List, [], ◌++◌, length, replicate, Result, Ok, Err}
 use Rattle.std.specs.Borrow.{Bor, MutBor}
 use Rattle.ebpf.specs.Choice.{◌if◌else◌}
 use Rattle.program.specs.declared.Row.{Row}
@@ -63,12 +63,13 @@ HeldBytes (Err r) ro' ro = Unit {0}
 -- ---- the answer
 
 -- of an accepted load, with the place of the read-only bytes
-abbrev pub accepted_as : Job → ℕ → Option ℕ → ℕ → ℕ → ℕ → Accepted
-accepted_as j offset start n used moves = record {
-  version2 = j.version2;
+abbrev pub accepted_as : Job → Bool → ℕ → ℕ → ℕ → ℕ → ℕ → Accepted
+accepted_as j copied offset start n used moves = record {
+  version = 2 if j.version2 else 1;
   entry = (j.e_entry - j.sh_addr) / 8;
   used = used;
   moves = moves;
+  ro_copied = copied;
   ro_offset = offset;
   ro_start = start;
   ro_length = n;
@@ -76,14 +77,10 @@ accepted_as j offset start n used moves = record {
   text = j.text;
 }
 
--- the number of its version
-abbrev pub version_of : Accepted → ℕ
-version_of a = 2 if a.version2 else 1
-
--- copied read-only bytes have no start in the image
+-- copied read-only bytes start at 0 in their buffer
 abbrev pub answer_by : Job → Result Placing ElfError → ℕ → ℕ → Result Accepted ElfError
-answer_by j (Ok (Borrowed offset start n)) used moves = Ok (accepted_as j offset (Some start) n used moves)
-answer_by j (Ok (Owned offset lowest n)) used moves = Ok (accepted_as j offset None n used moves)
+answer_by j (Ok (Borrowed offset start n)) used moves = Ok (accepted_as j false offset start n used moves)
+answer_by j (Ok (Owned offset lowest n)) used moves = Ok (accepted_as j true offset 0 n used moves)
 answer_by j (Err r) used moves = Err r
 
 abbrev pub answer_for : Result Held ElfError → Job → Result Accepted ElfError
@@ -101,9 +98,9 @@ pub data Loading : Type 0 where
 -- the buffer is zero; or they are copied over n zeros at the buffer's front, with zeros behind
 abbrev pub held_by : List ℕ → Job → ℕ → Result Placing ElfError → List ℕ → List Row → ℕ → Loading
 held_by file j m (Ok (Borrowed offset start n)) im rows moves =
-    holds (accepted_as j offset (Some start) n (length rows) moves) im (replicate m 0) rows
+    holds (accepted_as j false offset start n (length rows) moves) im (replicate m 0) rows
 held_by file j m (Ok (Owned offset lowest n)) im rows moves =
-    holds (accepted_as j offset None n (length rows) moves) im (copied_from im file j.layout lowest (file_header file).e_shnum 0 (replicate n 0) ++ replicate (m - n) 0) rows
+    holds (accepted_as j true offset 0 n (length rows) moves) im (copied_from im file j.layout lowest (file_header file).e_shnum 0 (replicate n 0) ++ replicate (m - n) 0) rows
 held_by file j m (Err r) im rows moves = refuses r
 
 abbrev pub on_trace : List ℕ → Job → ℕ → Settled → Loading

@@ -26,9 +26,8 @@ use Rattle.loader.specs.Calls.{inside, target, is_local_call, call_of, call_at, 
 use Rattle.loader.specs.Deeds.{deed_trace}
 use Rattle.loader.specs.Entry.{entry_deed}
 use Rattle.loader.specs.Functions.{row_for}
-use Rattle.loader.specs.GetBytes.{ro_start_of}
 use Rattle.loader.specs.Labels.{label_of, label_deed, label_symbols, label_trace}
-use Rattle.loader.specs.Load.{version_of, load_of}
+use Rattle.loader.specs.Load.{load_of}
 use Rattle.loader.specs.Parts.{job_trace}
 use Rattle.loader.specs.ReadOnly.{read_only, gives as loader-gives, invalid_by, end_of, grown, taken, gather_step, from_start, can_borrow, borrowed, owned, placed as loader-placed, placing, copied_to, copy_step, copied_from}
 use Rattle.loader.specs.Relocations.{relocation_at, header_at, first_from, used_header, used_before, place_of, within, program_address, immediate_at, halves_deed, word_deed, address_deed, plan6464, relative_text, relative_value, plan_relative, function_call, builtin_call, call_by_name, plan6432, plan_at, relocation_trace}
@@ -48,7 +47,7 @@ abbrev numbered : Report → List ℕ
 numbered r = r.number ∷ r.value ∷ r.start ∷ r.length ∷ []
 
 abbrev numbers : Loading → List ℕ
-numbers (holds a im ro rows) = 0 ∷ version_of a ∷ a.entry ∷ a.used ∷ a.moves ∷ []
+numbers (holds a im ro rows) = 0 ∷ a.version ∷ a.entry ∷ a.used ∷ a.moves ∷ []
 numbers (refuses e) = numbered (report_of e)
 
 -- a load into buffers as long as the file and so many rows
@@ -173,7 +172,7 @@ place = refl
 
 -- where the read-only bytes stand in the image, and how many they are
 abbrev read_only_at : Loading → List ℕ
-read_only_at (holds a im ro rows) = 0 ∷ ro_start_of a ∷ a.ro_length ∷ []
+read_only_at (holds a im ro rows) = 0 ∷ a.ro_start ∷ a.ro_length ∷ []
 read_only_at (refuses e) = numbered (report_of e)
 
 -- a .rodata counts among the read-only sections also where its header is of type 0; contents by index refuse such a header, a load does not

@@ -1,6 +1,6 @@
 // The answer of a load.
 ghost use Rattle.std.specs.Prelude.{◌≡◌, ◌-◌, ◌≤◌, ◌^◌};
-ghost use Rattle.loader.specs.Load.{version_of, accepted_as, answer_by};
+ghost use Rattle.loader.specs.Load.{accepted_as, answer_by};
 
 use crate::deeds::Outputs;
 use crate::error::ElfError;
@@ -8,35 +8,23 @@ use crate::read_only::Placing;
 use crate::validate::Job;
 use elf_parser::Place;
 
-// What an accepted load answers: whether its version is 2, the entry's index, the rows used and the moves in all; the
-// read-only bytes' offset from the program's start, where they start in the image, unless they were copied
-// to the front of the buffer, and how many they are; the text's address, and its place in the file.
+// What an accepted load answers: the version, the entry's index, the rows used and the moves in all; whether the
+// read-only bytes were copied to the buffer, their offset from the program's start, where they start in the image
+// (0 where they were copied) and how many they are; the text's address, and its place in the file.
+// Kept: the flag beside the start, and the version's number. Anyone may make an answer, and what takes one answers
+// for every flag, start and number: an Option and a bool could say no start of copied bytes and no third version.
 #[derive(Clone, Copy, PartialEq, Eq, Debug)]
 pub struct Accepted {
-    pub version2: bool,
+    pub version: u32,
     pub entry: u32,
     pub used: usize,
     pub moves: u64,
+    pub ro_copied: bool,
     pub ro_offset: u64,
-    pub ro_start: Option<u64>,
+    pub ro_start: u64,
     pub ro_length: u64,
     pub text_addr: u64,
     pub text: Place,
-}
-
-impl Accepted {
-    // The number of its version.
-    // Kept: a bool says which of two versions it is, here and in `Job`, `Rules`, `HashedLegacy`, `LoadedText` and `Profile`.
-    // It is asked by `if`, a guard, `&` or `!`; an enum of two would be compared or matched at each place.
-    #[tactic(auto, using(ebpf::specs::Choice::choices))]
-    pub fn version(self) -> u32
-        ensures { result ≡ version_of self }
-    {
-        if self.version2 {
-            return 2;
-        }
-        1
-    }
 }
 
 // The answer of a load, and that of a question which was asked with it.
@@ -50,16 +38,24 @@ pub struct LoadAnd<T> {
 // Kept: the entry's index is worked out as in `entry_deed`, which tests first that its offset is whole; a method for
 // one difference would be no plainer.
 #[tactic(auto, using(ebpf::specs::Choice::choices))]
-fn accepted_as(job: Job, offset: u64, start: Option<u64>, n: u64, out: &Outputs<'_, '_>) -> Accepted
+fn accepted_as(
+    job: Job,
+    copied: bool,
+    offset: u64,
+    start: u64,
+    n: u64,
+    out: &Outputs<'_, '_>,
+) -> Accepted
     requires { job.e_entry - job.sh_addr ≤ 2 ^ 24 }
-    ensures { result ≡ accepted_as job offset start n out.now.registry.now.used out.now.moves }
+    ensures { result ≡ accepted_as job copied offset start n out.now.registry.now.used out.now.moves }
 {
     let entry = job.e_entry.saturating_sub(job.sh_addr) / 8;
     Accepted {
-        version2: job.version2,
+        version: if job.version2 { 2 } else { 1 },
         entry: entry as u32,
         used: out.registry.used,
         moves: out.moves,
+        ro_copied: copied,
         ro_offset: offset,
         ro_start: start,
         ro_length: n,
@@ -78,11 +74,11 @@ pub(crate) fn answer_of(out: &Outputs<'_, '_>, job: Job) -> Result<Accepted, Elf
             offset,
             start,
             length,
-        } => Ok(accepted_as(job, offset, Some(start), length, out)),
+        } => Ok(accepted_as(job, false, offset, start, length, out)),
         Placing::Owned {
             offset,
             lowest: _,
             length,
-        } => Ok(accepted_as(job, offset, None, length, out)),
+        } => Ok(accepted_as(job, true, offset, 0, length, out)),
     }
 }

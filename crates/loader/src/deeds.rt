@@ -125,7 +125,9 @@ impl Outputs<'_, '_> {
         self.entered(answer, row.key)
     }
 
-    // Carries a deed out. A key outside the file refuses, behind whatever the registration answers.
+    // Carries a deed out. A key outside the file refuses, behind whatever the registration answers. Inlined, since a
+    // deed would go through memory otherwise, for each relocation.
+    #[inline(always)]
     pub(crate) fn perform(&mut self, deed: Deed) -> Result<(), ElfError>
         requires { DeedFits (length self.old.image.now) (Ok deed) × Begins 1 self.old }
         ensures keeps { Keeps self.old self.new }

@@ -2,7 +2,7 @@
 // `get_text_bytes`. They stand in the image, or in the buffer that they were copied to.
 ghost use Rattle.std.specs.Prelude.{◌≡◌, length};
 ghost use Rattle.elf_parser.specs.Parts.{part_of};
-ghost use Rattle.loader.specs.GetBytes.{text_place, ro_place, lent_for, ro_start_of, ro_of, text_place_of, part_for};
+ghost use Rattle.loader.specs.GetBytes.{text_place, ro_place, lent_for, ro_of, text_place_of, part_for};
 
 use crate::answer::Accepted;
 use crate::error::ElfError;
@@ -72,19 +72,19 @@ impl Accepted {
     fn lent_for<T: Copy>(self, image: T, ro_section: T) -> T
         ensures { result ≡ lent_for self image ro_section }
     {
-        if self.ro_start.is_none() {
+        if self.ro_copied {
             return ro_section;
         }
         image
     }
 
-    // The read-only bytes there: at the front where they were copied.
+    // The read-only bytes there.
     fn read_only(self) -> ReadOnly
-        ensures { result ≡ record { offset = self.ro_offset; start = ro_start_of self; length = self.ro_length } }
+        ensures { result ≡ record { offset = self.ro_offset; start = self.ro_start; length = self.ro_length } }
     {
         ReadOnly {
             offset: self.ro_offset,
-            start: self.ro_start.unwrap_or(0),
+            start: self.ro_start,
             length: self.ro_length,
         }
     }

@@ -26,7 +26,7 @@ pub(crate) fn look_over(elf: &Elf64<'_>, rules: Rules, count: u32) -> Overview
     let mut g = Ok(no_extent());
     for i in 0..count {
         let h = section_at(elf, i);
-        let name = elf.part_of(elf.section_name(h.sh_name));
+        let name = elf.section_name_part(h.sh_name);
         let surveyed = survey_next(len, i, h, name, v);
         let gathered = gather_next(elf, rules, i, h, name, g);
         v = surveyed;

@@ -264,11 +264,15 @@ pub(crate) fn place_gathered(
 }
 
 // The bytes of `from` from `start` on, `n` of them, go to `at`.
+// Kept: byte by byte. By `copy_from_slice` the C interface would need `memmove` from where it is linked.
+#[tactic(auto, using(crate::proofs::Copies::paste_start))]
 pub(crate) fn copy_bytes(to: &mut [u8], from: &[u8], at: usize, start: usize, n: usize)
     requires { (at + n ≤ length to.old) × (start + n ≤ length from.now) }
     ensures { to.new ≡ paste to.old at (drop start from.now) n }
 {
-    to[at..at + n].copy_from_slice(&from[start..start + n]);
+    for i in 0..n {
+        to[at + i] = from[start + i];
+    }
 }
 
 // The same of the bytes at a place, where both lie inside; else nothing changes.
@@ -294,7 +298,7 @@ fn copy_section(ro: &mut [u8], image: &[u8], elf: &Elf64<'_>, lowest: u64, index
     ensures { ro.new ≡ copy_step image.now elf.now.file.now elf.now.layout lowest index ro.old }
 {
     let h = section_at(elf, index);
-    if !is_read_only(elf.part_of(elf.section_name(h.sh_name))) {
+    if !is_read_only(elf.section_name_part(h.sh_name)) {
         return;
     }
     let at = h.sh_addr.saturating_sub(lowest);

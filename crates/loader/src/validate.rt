@@ -65,6 +65,8 @@ pub struct Rules {
 // without bytes; `addr` is its address in the machine.
 // Kept: the version and three settings under names of their own, and no `Rules`: the other settings count no more
 // behind the checks.
+// Kept: a bool says which of two versions it is, here and in `Rules`, `HashedLegacy`, `LoadedText` and `Profile`.
+// It is asked by `if`, a guard, `&` or `!`; an enum of two would be compared or matched at each place.
 #[derive(Clone, Copy, PartialEq, Eq, Debug)]
 pub struct Job {
     pub version2: bool,

@@ -62,6 +62,15 @@ least a b c d e = min a (min b (min c (min d e)))
 unfoldable pub capacity : Slices → ℕ
 capacity t = least (length t.keys) (length t.indices) (length t.kinds) (length t.starts) (length t.lengths)
 
+-- n is the least of five numbers; the bounds, which follow, stand beside it for the proofs
+pub record Least (n a b c d e : ℕ) : Type 0 where
+  pub is : n ≡ least a b c d e
+  pub in_a : n ≤ a
+  pub in_b : n ≤ b
+  pub in_c : n ≤ c
+  pub in_d : n ≤ d
+  pub in_e : n ≤ e
+
 -- each slice has as many numbers as before
 pub record SameLens (t u : Slices) : Type 0 where
   pub keys_as : length u.keys ≡ length t.keys

@@ -8,7 +8,7 @@ mod search;
 mod table;
 
 pub use hashed_legacy::{ENTRYPOINT_KEY, is_builtin};
-pub use table::{index_ascending, row_ascending};
+pub use table::{index_ascending, row_ascending, rows_lent};
 
 // What a row says of its name: it is empty or not kept, a part of the file, the text entrypoint, or
 // made from the index. Only a part of the file has a start.

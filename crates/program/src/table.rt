@@ -1,22 +1,33 @@
 // A table lent for reading: how many rows count, what a registration answers, and the lookups.
 ghost use Rattle.std.specs.Prelude.{◌≡◌, ◌+◌};
-ghost use Rattle.program.specs.Table.{HasRoom, register_in, lookup_in, lookup_ascending_in, row_ascending_in, index_ascending_in, Within, capacity, counted, row_at, columns_in};
+ghost use Rattle.program.specs.Table.{HasRoom, register_in, lookup_in, lookup_ascending_in, row_ascending_in, index_ascending_in, Least, Within, capacity, counted, row_at, columns_in};
 
 use crate::{FunctionTable, RegisterError, Registered, Row, search};
 
+// As many rows as the shortest column has numbers, by the columns' lengths alone.
+// Kept: the five numbers and no table, since the question is of any five lengths, also of columns that nobody
+// lends: a struct of them would be made only to be taken apart here.
+#[tactic(auto, unfolding(crate::specs::Table::least))]
+pub fn rows_lent(keys: usize, indices: usize, kinds: usize, starts: usize, lengths: usize) -> usize
+    ensures { Least result keys indices kinds starts lengths }
+{
+    keys.min(indices).min(kinds).min(starts).min(lengths)
+}
+
 impl FunctionTable<'_> {
-    // As many rows as the shortest column has numbers.
-    #[tactic(auto, unfolding(crate::specs::Table::capacity, crate::specs::Table::least))]
+    // The same of this table.
+    #[tactic(auto, unfolding(crate::specs::Table::capacity))]
     pub fn rows_lent(self) -> usize
         ensures is { result ≡ capacity (columns_in self.entry) }
         ensures within { Within result (columns_in self.entry) }
     {
-        self.keys
-            .len()
-            .min(self.indices.len())
-            .min(self.kinds.len())
-            .min(self.starts.len())
-            .min(self.lengths.len())
+        rows_lent(
+            self.keys.len(),
+            self.indices.len(),
+            self.kinds.len(),
+            self.starts.len(),
+            self.lengths.len(),
+        )
     }
 
     // The rows that count: at most those lent.

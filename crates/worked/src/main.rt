@@ -283,7 +283,11 @@ fn next_record(rt: &impl Print, input: &mut impl Read) -> Result<bool, RecordErr
 fn main(rt: HostRuntime) -> io::Result<()> {
     let mut input = rt.stdin();
     for _ in 0..MOST {
-        let more = next_record(&rt, &mut input).or_else(|e| e.tell(&rt, "bad record"))?;
+        let more = next_record(&rt, &mut input).or_else(|e| -> io::Result<bool> {
+            let more = e.ends()?;
+            println!(rt; "bad record")?;
+            Ok(more)
+        })?;
         if !more {
             break;
         }

@@ -1,12 +1,12 @@
 -- The question about a load already made answers what was written by that load. Assumes nothing.
 use Prim.Native.Nat.{ℕ, ◌+◌, ◌-◌}
 use mathlib.Core.Path.{◌≡◌, refl, ap, ◌∙◌}
-use mathlib.Core.Bool.{Bool, false, ◌&&◌}
+use mathlib.Core.Bool.{Bool, true, false, ◌&&◌}
 use mathlib.Core.List.{List, [], ◌++◌}
 use lib.ListN.{length, get_or, replicate}
-use lib.Dec.{ltb, leb}
+use lib.Dec.{eqb, ltb, leb}
 use borrow.Author.Tests.{le-ltb}
-use Rattle.std.specs.Prelude.{Some, None, Ok, Result, Err}
+use Rattle.std.specs.Prelude.{Ok, Result, Err}
 use Rattle.ebpf.specs.Choice.{◌if◌else◌, not_first, row_rest, row_cases}
 use Rattle.program.specs.declared.Row.{Row}
 use Rattle.elf_parser.specs.declared.layout.Layout.{Layout}
@@ -35,8 +35,8 @@ use Rattle.loader.proofs.Readied.{readied}
 use Rattle.loader.proofs.Traces.{settle_ends}
 use Rattle.writers.specs.declared.Writer.{Writer}
 use Rattle.writers.specs.declared.Writer.TheVariants.{File}
-use Rattle.elf_parser.specs.declared.error.ElfParserError.TheVariants.{NoSuchIndex}
-use Rattle.loader.specs.declared.error.ElfError.TheVariants.{FailedToParse}
+use Rattle.writers.specs.declared.error.WhoWroteError.{WhoWroteError}
+use Rattle.writers.specs.declared.error.WhoWroteError.TheVariants.{NoSuchIndex}
 use Rattle.writers.specs.Asked.{text_loaded, text_in, text_of, asked}
 use Rattle.writers.specs.Writers.{writer_of, wrote_by, wrote_of}
 use Rattle.writers.proofs.Writing.{text_is, writer_named, unwritten}
@@ -88,24 +88,29 @@ headers_counted s l e = ap (λ (x : Layout). x.program_headers.count) (parse_ste
 
 -- ---- so the text of its answer is the job's
 
+version_told : (version2 : Bool) → eqb (2 if version2 else 1) 2 ≡ version2
+unfolding ◌if◌else◌
+version_told true = refl
+version_told false = refl
+
 text_told : (s : List ℕ) (j : Job) (a : Accepted) → InFile s j → Read s j
-    → a.version2 ≡ j.version2
+    → a.version ≡ (2 if j.version2 else 1)
     → a.text ≡ j.text
     → text_of s (text_loaded a) ≡ Ok j.layout
 unfolding text_of text_in ◌if◌else◌
 text_told s j a inside read v p =
-    rw (le-ltb 0x100_0000 (length s) inside.short, p, le-ltb (length s) (j.text.start + j.text.length) inside.text, read.layout_is, v, headers_counted s j.layout read.layout_is, read.few) refl
+    rw (le-ltb 0x100_0000 (length s) inside.short, p, le-ltb (length s) (j.text.start + j.text.length) inside.text, read.layout_is, v, version_told j.version2, headers_counted s j.layout read.layout_is, read.few) refl
 
-loaded_told : (j : Job) (a : Accepted) → a.version2 ≡ j.version2 → a.text ≡ j.text → text_loaded a ≡ text_is j
-loaded_told j a v p = rw (v, p) refl
+loaded_told : (j : Job) (a : Accepted) → a.version ≡ (2 if j.version2 else 1) → a.text ≡ j.text → text_loaded a ≡ text_is j
+loaded_told j a v p = rw (v, version_told j.version2, p) refl
 
 module _ (file builtins : List ℕ) (c : Config) (n m rows b : ℕ) where
   -- the answer for a byte of the file, and for an offset past its end
-  abbrev told_ok : Job → Result Writer ElfError
+  abbrev told_ok : Job → Result Writer WhoWroteError
   told_ok j = Ok (writer_of file builtins j b)
 
-  abbrev past_end : Result Writer ElfError
-  past_end = Err (FailedToParse NoSuchIndex)
+  abbrev past_end : Result Writer WhoWroteError
+  past_end = Err NoSuchIndex
 
   -- of an accepted load
   module _ (j : Job) (ready : prepared file builtins c n m ≡ Ok j) (im : List ℕ) (held : List Row) (moves : ℕ) (settles : settle rows (job_trace file builtins j file) [] 0 ≡ accepted im held moves) where
@@ -115,7 +120,7 @@ module _ (file builtins : List ℕ) (c : Config) (n m rows b : ℕ) where
     ends : Ends (job_trace file builtins j file) im
     ends = settle_ends rows im held moves (job_trace file builtins j file) [] 0 settles
 
-    told : (a : Accepted) → a.version2 ≡ j.version2 → a.text ≡ j.text
+    told : (a : Accepted) → a.version ≡ (2 if j.version2 else 1) → a.text ≡ j.text
         → asked file (Ok a) b ≡ (told_ok j if ltb b (length file) else past_end)
     told a v p = rw (text_told file j a inside (was_read file builtins c n m j ready) v p, loaded_told j a v p, ← writer_named file builtins j inside im ends b) refl
 
@@ -126,8 +131,8 @@ module _ (file builtins : List ℕ) (c : Config) (n m rows b : ℕ) where
         (row_cases (ltb b (length file)) (told_ok j) past_end (Ok File) (writer_of file builtins j b ≡ File) (λ h q. ok_is _ _ q) (λ h q. absurd (apart _ _ q)) e)
 
     placed_told : (p : Result Placing ElfError) → asked file (answer_of (held_by file j m p im held moves)) b ≡ wrote_by file builtins (length file) b (held_by file j m p im held moves) (Ok j)
-    placed_told (Ok (Borrowed offset start k)) = told (accepted_as j offset (Some start) k (length held) moves) refl refl
-    placed_told (Ok (Owned offset lowest k)) = told (accepted_as j offset None k (length held) moves) refl refl
+    placed_told (Ok (Borrowed offset start k)) = told (accepted_as j false offset start k (length held) moves) refl refl
+    placed_told (Ok (Owned offset lowest k)) = told (accepted_as j true offset 0 k (length held) moves) refl refl
     placed_told (Err r) = refl
 
     placed_kept : (p : Result Placing ElfError) → wrote_by file builtins (length file) b (held_by file j m p im held moves) (Ok j) ≡ Ok File → get_or (image_of n (held_by file j m p im held moves)) b 0 ≡ get_or file b 0

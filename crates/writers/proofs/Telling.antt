@@ -12,9 +12,9 @@ use Rattle.elf_parser.specs.declared.layout.Layout.{Layout}
 use Rattle.elf_parser.specs.Errors.{ok_is, apart}
 use Rattle.elf_parser.specs.Parse.{parsed}
 use Rattle.loader.specs.declared.error.ElfError.{ElfError}
-use Rattle.elf_parser.specs.declared.error.ElfParserError.TheVariants.{NoSuchIndex}
-use Rattle.loader.specs.declared.error.ElfError.TheVariants.{FailedToParse, BufferShort}
+use Rattle.loader.specs.declared.error.ElfError.TheVariants.{BufferShort}
 use Rattle.loader.specs.Relocations.{few_relocations}
+use Rattle.writers.specs.declared.error.WhoWroteError.TheVariants.{NoSuchIndex}
 use Rattle.writers.specs.declared.text.LoadedText.{LoadedText}
 use Rattle.writers.specs.Named.{by_names}
 use Rattle.writers.specs.Asked.{text_in, text_by, text_of, asked_in, Askable}
@@ -72,4 +72,4 @@ module _ (file : List ℕ) (x : LoadedText) (n : ℕ) where
     unfolding ◌if◌else◌
     whole_tells h b =
         rw (le-ltb n (length file) h)
-        (by_test (ltb b (length file)) (λ (z : Bool). (code_of (by_names file t x b) if z else 0) ≡ code_by (Ok (by_names file t x b) if z else Err (FailedToParse NoSuchIndex))) (λ l. refl) (λ l. refl))
+        (by_test (ltb b (length file)) (λ (z : Bool). (code_of (by_names file t x b) if z else 0) ≡ code_by (Ok (by_names file t x b) if z else Err NoSuchIndex)) (λ l. refl) (λ l. refl))

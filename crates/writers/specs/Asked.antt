@@ -1,7 +1,7 @@
 -- The question about a load already made: its answer and the file. On every input, an answer too that no load of this file gave.
-use Rattle.std.specs.Prelude.{ℕ, ◌+◌, ◌*◌, ◌≤◌, ◌^◌, ◌&&◌, List, length, ltb, leb, Result, Ok, Err}
+use Rattle.std.specs.Prelude.{ℕ, ◌+◌, ◌*◌, ◌≤◌, ◌^◌, ◌&&◌, List, length, eqb, ltb, leb, Result, Ok, Err}
 use Rattle.ebpf.specs.Choice.{◌if◌else◌}
-use Rattle.elf_parser.specs.declared.error.ElfParserError.TheVariants.{InvalidProgramHeader, NoSuchIndex}
+use Rattle.elf_parser.specs.declared.error.ElfParserError.TheVariants.{InvalidProgramHeader}
 use Rattle.elf_parser.specs.declared.layout.Layout.{Layout}
 use Rattle.elf_parser.specs.Parse.{parsed}
 use Rattle.loader.specs.declared.error.ElfError.{ElfError}
@@ -9,13 +9,15 @@ use Rattle.loader.specs.declared.answer.Accepted.{Accepted}
 use Rattle.loader.specs.declared.error.ElfError.TheVariants.{FailedToParse, FileTooLong, ValueOutOfBounds}
 use Rattle.loader.specs.Errors.{from_parser}
 use Rattle.writers.specs.declared.Writer.{Writer}
+use Rattle.writers.specs.declared.error.WhoWroteError.{WhoWroteError}
+use Rattle.writers.specs.declared.error.WhoWroteError.TheVariants.{NoSuchIndex, Refused}
 use Rattle.writers.specs.declared.text.LoadedText.{LoadedText}
 use Rattle.writers.specs.Named.{by_names}
 use Rattle.elf_parser.specs.declared.error.ElfParserError.{ElfParserError}
 
 -- what a load's answer says of the text
 abbrev pub text_loaded : Accepted → LoadedText
-text_loaded a = record { version2 = a.version2; place = a.text }
+text_loaded a = record { version2 = eqb a.version 2; place = a.text }
 
 -- version 2 has at most nine program headers
 unfoldable pub text_in : Layout → LoadedText → Result Layout ElfError
@@ -36,16 +38,16 @@ text_of file x =
     text_by (parsed file) x
 
 -- an offset past the file's end is no index of a byte
-abbrev pub asked_in : List ℕ → LoadedText → ℕ → Result Layout ElfError → Result Writer ElfError
-asked_in file x b (Err r) = Err r
-asked_in file x b (Ok l) = Ok (by_names file l x b) if ltb b (length file) else Err (FailedToParse NoSuchIndex)
+abbrev pub asked_in : List ℕ → LoadedText → ℕ → Result Layout ElfError → Result Writer WhoWroteError
+asked_in file x b (Err r) = Err (Refused r)
+asked_in file x b (Ok l) = Ok (by_names file l x b) if ltb b (length file) else Err NoSuchIndex
 
-abbrev pub asked_by : List ℕ → LoadedText → ℕ → Result Writer ElfError
+abbrev pub asked_by : List ℕ → LoadedText → ℕ → Result Writer WhoWroteError
 asked_by file x b = asked_in file x b (text_of file x)
 
 -- WHO WROTE THE BYTE b, by a load's answer
-abbrev pub asked : List ℕ → Result Accepted ElfError → ℕ → Result Writer ElfError
-asked file (Err r) b = Err r
+abbrev pub asked : List ℕ → Result Accepted ElfError → ℕ → Result Writer WhoWroteError
+asked file (Err r) b = Err (Refused r)
 asked file (Ok a) b = asked_by file (text_loaded a) b
 
 -- what the functions behind `text_of` may count on

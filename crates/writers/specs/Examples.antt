@@ -37,13 +37,14 @@ use Rattle.loader.specs.Validate.{size_check, ascends, header_check as loader-he
 use Rattle.loader.specs.declared.error.ElfError.{ElfError}
 use Rattle.std.specs.Prelude.{ℕ, zero, suc, List, [], ◌∷◌, map, ◌≡◌, refl, Result, Ok, Err}
 use Rattle.loader.specs.SmallFiles.{all_on, version_1, version_2}
-use Rattle.elf_parser.specs.declared.error.ElfParserError.TheVariants.{NoSuchIndex}
+use Rattle.elf_parser.specs.declared.error.ElfParserError.TheVariants.{NoSuchIndex as reader-NoSuchIndex}
 use Rattle.loader.specs.declared.deeds.Deed.{Deed}
 use Rattle.loader.specs.declared.deeds.Deed.TheVariants.{Halves, Word, Key}
 use Rattle.loader.specs.declared.error.ElfError.TheVariants.{FailedToParse, TableFull, BufferShort}
 use Rattle.loader.specs.Load.{answer_of}
 use Rattle.writers.specs.declared.Writer.{Writer}
 use Rattle.writers.specs.declared.Writer.TheVariants.{File, Call, Relocation}
+use Rattle.writers.specs.declared.error.WhoWroteError.TheVariants.{NoSuchIndex, Refused}
 use Rattle.writers.specs.Writers.{image_after, writer_after, writer_of, wrote_of}
 use Rattle.writers.specs.Named.{call_to, last_of, by_names}
 use Rattle.writers.specs.Asked.{text_in, text_of, asked}
@@ -89,19 +90,25 @@ asks = 0 ∷ 63 ∷ 64 ∷ 67 ∷ 68 ∷ 71 ∷ 72 ∷ 76 ∷ 303 ∷ 304 ∷ []
 
 -- by what is written: the bytes of the call's immediate are the call's, and 304 is past the file's end; a load that is refused gives its refusal
 by_deeds : map (wrote_of version_2 [] all_on 310 304 4) asks
-    ≡ Ok File ∷ Ok File ∷ Ok File ∷ Ok File ∷ Ok (Call 0) ∷ Ok (Call 0) ∷ Ok File ∷ Ok File ∷ Ok File ∷ Err (FailedToParse NoSuchIndex) ∷ []
+    ≡ Ok File ∷ Ok File ∷ Ok File ∷ Ok File ∷ Ok (Call 0) ∷ Ok (Call 0) ∷ Ok File ∷ Ok File ∷ Ok File ∷ Err NoSuchIndex ∷ []
 unfolding ◌if◌else◌ index_key key_in slot_at insn_at le bytes_of body murmur3 first_with segment_slice section_slice or_else with_tag values_from relocations_at relocations_by relocations_of symbols_by symbols_of header_fixed header_right reader-headerCheck tables_check over name_by first_check file_check named_layout parsed bytes_at load_step contains_step entry_at sliced symbol_table_in symbol_table_of file_range section_check section_step same_bytes role_of string_check before_zero terminated string_in file_header program_header section_header sym rel legacy_key kept_symbol is_taken legacy_row rank register registered unregister narrowed binary_search is_among machine_addr put inside target is_local_call call_of call_at call_deed slot_trace deed_trace entry_deed row_for label_of label_deed label_symbols label_trace load_of job_trace read_only loader-gives invalid_by end_of grown taken gather_step from_start can_borrow borrowed owned loader-placed placing copied_to copy_step copied_from relocation_at header_at first_from used_header used_before place_of within program_address immediate_at halves_deed word_deed address_deed plan6464 relative_text relative_value plan_relative function_call builtin_call call_by_name plan6432 plan_at relocation_trace section_at starts_with unsupported outside_file survey_step survey_from and_then each settle size_check ascends loader-headerCheck sections_check text_check job_of validated prepared dynamic header_for_vaddr symbols_at wrote_of writer_of writer_after image_after
 by_deeds = refl
 
-by_refusal : wrote_of version_2 [] all_on 304 304 1 0 ∷ wrote_of version_2 [] all_on 303 304 1 304 ∷ [] ≡ Err (TableFull 1) ∷ Err BufferShort ∷ []
+by_refusal : wrote_of version_2 [] all_on 304 304 1 0 ∷ wrote_of version_2 [] all_on 303 304 1 304 ∷ [] ≡ Err (Refused (TableFull 1)) ∷ Err (Refused BufferShort) ∷ []
 unfolding ◌if◌else◌ index_key key_in slot_at insn_at le bytes_of body murmur3 first_with segment_slice section_slice or_else with_tag values_from relocations_at relocations_by relocations_of symbols_by symbols_of header_fixed header_right reader-headerCheck tables_check over name_by first_check file_check named_layout parsed bytes_at load_step contains_step entry_at sliced symbol_table_in symbol_table_of file_range section_check section_step same_bytes role_of string_check before_zero terminated string_in file_header program_header section_header sym rel legacy_key kept_symbol is_taken legacy_row rank register registered unregister narrowed binary_search is_among machine_addr put inside target is_local_call call_of call_at call_deed slot_trace deed_trace entry_deed row_for label_of label_deed label_symbols label_trace load_of job_trace read_only loader-gives invalid_by end_of grown taken gather_step from_start can_borrow borrowed owned loader-placed placing copied_to copy_step copied_from relocation_at header_at first_from used_header used_before place_of within program_address immediate_at halves_deed word_deed address_deed plan6464 relative_text relative_value plan_relative function_call builtin_call call_by_name plan6432 plan_at relocation_trace section_at starts_with unsupported outside_file survey_step survey_from and_then each settle size_check ascends loader-headerCheck sections_check text_check job_of validated prepared dynamic header_for_vaddr symbols_at wrote_of
 by_refusal = refl
 
 -- by the load's answer and the file, the same
 by_answer : map (asked version_1 (answer_of (load_of version_1 [] all_on 304 304 4))) asks
-    ≡ Ok File ∷ Ok File ∷ Ok File ∷ Ok File ∷ Ok (Call 0) ∷ Ok (Call 0) ∷ Ok File ∷ Ok File ∷ Ok File ∷ Err (FailedToParse NoSuchIndex) ∷ []
+    ≡ Ok File ∷ Ok File ∷ Ok File ∷ Ok File ∷ Ok (Call 0) ∷ Ok (Call 0) ∷ Ok File ∷ Ok File ∷ Ok File ∷ Err NoSuchIndex ∷ []
 unfolding ◌if◌else◌ index_key key_in slot_at insn_at le bytes_of body murmur3 first_with segment_slice section_slice or_else with_tag values_from relocations_at relocations_by relocations_of symbols_by symbols_of header_fixed header_right reader-headerCheck tables_check over name_by first_check file_check named_layout parsed bytes_at load_step contains_step entry_at sliced symbol_table_in symbol_table_of file_range section_check section_step same_bytes role_of string_check before_zero terminated string_in file_header program_header section_header sym rel legacy_key kept_symbol is_taken legacy_row rank register registered unregister narrowed binary_search is_among machine_addr put inside target is_local_call call_of call_at call_deed slot_trace deed_trace entry_deed row_for label_of label_deed label_symbols label_trace load_of job_trace read_only loader-gives invalid_by end_of grown taken gather_step from_start can_borrow borrowed owned loader-placed placing copied_to copy_step copied_from relocation_at header_at first_from used_header used_before place_of within program_address immediate_at halves_deed word_deed address_deed plan6464 relative_text relative_value plan_relative function_call builtin_call call_by_name plan6432 plan_at relocation_trace section_at starts_with unsupported outside_file survey_step survey_from and_then each settle size_check ascends loader-headerCheck sections_check text_check job_of validated prepared dynamic header_for_vaddr symbols_at text_of text_in by_names last_of call_to
 by_answer = refl
+
+-- a refusal that is given is told again, also the reader's own of that name; an offset at the file's end is apart from it
+by_answer_refused : asked version_1 (Err (FailedToParse reader-NoSuchIndex)) 304 ∷ asked version_1 (answer_of (load_of version_1 [] all_on 304 304 4)) 304 ∷ []
+    ≡ Err (Refused (FailedToParse reader-NoSuchIndex)) ∷ Err NoSuchIndex ∷ []
+unfolding ◌if◌else◌ index_key key_in slot_at insn_at le bytes_of body murmur3 first_with segment_slice section_slice or_else with_tag values_from relocations_at relocations_by relocations_of symbols_by symbols_of header_fixed header_right reader-headerCheck tables_check over name_by first_check file_check named_layout parsed bytes_at load_step contains_step entry_at sliced symbol_table_in symbol_table_of file_range section_check section_step same_bytes role_of string_check before_zero terminated string_in file_header program_header section_header sym rel legacy_key kept_symbol is_taken legacy_row rank register registered unregister narrowed binary_search is_among machine_addr put inside target is_local_call call_of call_at call_deed slot_trace deed_trace entry_deed row_for label_of label_deed label_symbols label_trace load_of job_trace read_only loader-gives invalid_by end_of grown taken gather_step from_start can_borrow borrowed owned loader-placed placing copied_to copy_step copied_from relocation_at header_at first_from used_header used_before place_of within program_address immediate_at halves_deed word_deed address_deed plan6464 relative_text relative_value plan_relative function_call builtin_call call_by_name plan6432 plan_at relocation_trace section_at starts_with unsupported outside_file survey_step survey_from and_then each settle size_check ascends loader-headerCheck sections_check text_check job_of validated prepared dynamic header_for_vaddr symbols_at text_of text_in by_names last_of call_to
+by_answer_refused = refl
 
 -- and as numbers
 by_number : map (λ b. code_by (asked version_1 (answer_of (load_of version_1 [] all_on 304 304 4)) b)) (67 ∷ 68 ∷ 71 ∷ 72 ∷ 304 ∷ []) ≡ 0 ∷ 1 ∷ 1 ∷ 0 ∷ 0 ∷ []

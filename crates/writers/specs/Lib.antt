@@ -1,3 +1,4 @@
+pub mod Errors
 pub mod Writers
 pub mod Named
 pub mod Asked

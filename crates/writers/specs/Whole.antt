@@ -6,6 +6,7 @@ use Rattle.loader.specs.declared.error.ElfError.{ElfError}
 use Rattle.loader.specs.declared.answer.Accepted.{Accepted}
 use Rattle.loader.specs.declared.error.ElfError.TheVariants.{BufferShort}
 use Rattle.writers.specs.declared.Writer.{Writer}
+use Rattle.writers.specs.declared.error.WhoWroteError.{WhoWroteError}
 use Rattle.writers.specs.declared.Writer.TheVariants.{File, Call, Relocation}
 use Rattle.elf_parser.specs.declared.layout.Layout.{Layout}
 use Rattle.writers.specs.declared.text.LoadedText.{LoadedText}
@@ -19,7 +20,7 @@ code_of (Call i) = i + 1
 code_of (Relocation k) = 0x8000_0000 + k
 
 -- and of an answer: 0 where there is none
-abbrev pub code_by : Result Writer ElfError → ℕ
+abbrev pub code_by : Result Writer WhoWroteError → ℕ
 code_by (Ok w) = code_of w
 code_by (Err r) = 0
 
@@ -29,7 +30,7 @@ filled_in len n (Err r) = Err r
 filled_in len n (Ok l) = Err BufferShort if ltb n len else Ok tt
 
 -- WHAT THE NUMBERS TELL, n of them: at b stands the number of who wrote that byte, and only zeros where n is too small
-pub record Filling (file : Shared) (numbers : Lent) (wrote : ℕ → Result Writer ElfError) (filled r : Result (Unit {0}) ElfError) : Type 0 where
+pub record Filling (file : Shared) (numbers : Lent) (wrote : ℕ → Result Writer WhoWroteError) (filled r : Result (Unit {0}) ElfError) : Type 0 where
   pub answers : r ≡ filled
   pub length_as : length numbers.exit.now ≡ length numbers.entry.now
   pub tells : (b : ℕ) → get_or numbers.exit.now b 0 ≡ (0 if ltb (length numbers.entry.now) (length file.entry.now) else code_by (wrote b))

@@ -1,9 +1,7 @@
 -- WHO WROTE A BYTE, by what the parts of a load write, one after another: the last one that writes it, whatever value it has before and afterwards.
 use Rattle.std.specs.Prelude.{ℕ, zero, suc, ◌+◌, List, length, ltb, Result, Ok, Err}
 use Rattle.ebpf.specs.Choice.{◌if◌else◌}
-use Rattle.elf_parser.specs.declared.error.ElfParserError.TheVariants.{NoSuchIndex}
 use Rattle.loader.specs.declared.error.ElfError.{ElfError}
-use Rattle.loader.specs.declared.error.ElfError.TheVariants.{FailedToParse}
 use Rattle.loader.specs.declared.deeds.Deed.{Deed}
 use Rattle.loader.specs.declared.validate.Config.{Config}
 use Rattle.loader.specs.declared.validate.Job.{Job}
@@ -14,6 +12,8 @@ use Rattle.loader.specs.Load.{Loading, holds, refuses, load_of}
 use Rattle.loader.specs.Validate.{prepared}
 use Rattle.writers.specs.declared.Writer.{Writer}
 use Rattle.writers.specs.declared.Writer.TheVariants.{File, Call, Relocation}
+use Rattle.writers.specs.declared.error.WhoWroteError.{WhoWroteError}
+use Rattle.writers.specs.declared.error.WhoWroteError.TheVariants.{NoSuchIndex, Refused}
 
 -- ---- n deeds from number i on, each made of its number and the image as those before left it
 
@@ -45,11 +45,11 @@ writer_of file builtins j b =
 
 -- ---- the answer, by what comes of the load and what the checks ahead of it left. A load that holds has passed them, so the second line is never met
 
-abbrev pub wrote_by : List ℕ → List ℕ → ℕ → ℕ → Loading → Result Job ElfError → Result Writer ElfError
-wrote_by file builtins len b (refuses r) p = Err r
-wrote_by file builtins len b (holds a im ro rows) (Err r) = Err r
-wrote_by file builtins len b (holds a im ro rows) (Ok j) = Ok (writer_of file builtins j b) if ltb b len else Err (FailedToParse NoSuchIndex)
+abbrev pub wrote_by : List ℕ → List ℕ → ℕ → ℕ → Loading → Result Job ElfError → Result Writer WhoWroteError
+wrote_by file builtins len b (refuses r) p = Err (Refused r)
+wrote_by file builtins len b (holds a im ro rows) (Err r) = Err (Refused r)
+wrote_by file builtins len b (holds a im ro rows) (Ok j) = Ok (writer_of file builtins j b) if ltb b len else Err NoSuchIndex
 
 -- of a load with n bytes lent for the image, m for the read-only bytes, and so many rows
-unfoldable pub wrote_of : List ℕ → List ℕ → Config → ℕ → ℕ → ℕ → ℕ → Result Writer ElfError
+unfoldable pub wrote_of : List ℕ → List ℕ → Config → ℕ → ℕ → ℕ → ℕ → Result Writer WhoWroteError
 wrote_of file builtins c n m rows b = wrote_by file builtins (length file) b (load_of file builtins c n m rows) (prepared file builtins c n m)

@@ -8,7 +8,7 @@ ghost use Rattle.writers.specs.Asked.{asked_by, asked};
 ghost use Rattle.writers.specs.Whole.{code_of, OnlyZeros, FillsBy, Fills};
 ghost use Rattle.writers.specs.Loads.{LoadsAndTells};
 
-use elf_parser::{Elf64, ElfParserError};
+use elf_parser::Elf64;
 use loader::{Accepted, BuiltinProgram, ElfError, LoadAnd, clear_words, load};
 use naming::last_naming;
 use program::FunctionRegistry;
@@ -16,10 +16,12 @@ use text::{Text, layout_of};
 use whole::mark_all;
 
 mod calls;
+mod error;
 mod naming;
 mod text;
 mod whole;
 
+pub use error::WhoWroteError;
 pub use text::LoadedText;
 
 // The relocations are numbered from 0 as they are applied, through both tables.
@@ -45,14 +47,14 @@ impl Writer {
 }
 
 // WHO WROTE A BYTE of the image that a load of this file made, by what that load's answer says of the
-// text. An offset at or past the file's end is `NoSuchIndex`.
+// text. An offset at or past the file's end is `NoSuchIndex`, apart from every refusal.
 #[tactic(auto, using(ebpf::specs::Choice::choices, crate::proofs::Telling::askable))]
-pub fn who_wrote_by(file: &[u8], loaded: LoadedText, offset: u64) -> Result<Writer, ElfError>
+pub fn who_wrote_by(file: &[u8], loaded: LoadedText, offset: u64) -> Result<Writer, WhoWroteError>
     ensures { result ≡ asked_by file.now loaded offset }
 {
     let layout = layout_of(file, loaded)?;
     if file.len() as u64 <= offset {
-        return Err(ElfError::FailedToParse(ElfParserError::NoSuchIndex));
+        return Err(WhoWroteError::NoSuchIndex);
     }
     let elf = Elf64 { file, layout };
     Ok(last_naming(&Text { elf, loaded }, offset))
@@ -63,7 +65,7 @@ pub fn who_wrote(
     file: &[u8],
     answer: Result<Accepted, ElfError>,
     offset: u64,
-) -> Result<Writer, ElfError>
+) -> Result<Writer, WhoWroteError>
     ensures { result ≡ asked file.now answer offset }
 {
     who_wrote_by(file, LoadedText::from(answer?), offset)
@@ -78,7 +80,7 @@ pub fn load_who_wrote(
     ro_section: &mut [u8],
     registry: &mut FunctionRegistry<'_>,
     offset: u64,
-) -> LoadAnd<Result<Writer, ElfError>>
+) -> LoadAnd<Result<Writer, WhoWroteError>>
     ensures same { SameColumns registry.old registry.new }
     ensures lens { SameLens (columns_of registry.old) (columns_of registry.new) }
     ensures tells { LoadsAndTells file loader.entry.functions.now loader.entry.config image ro_section (columns_of registry.old) (columns_of registry.new) offset result }

@@ -17,7 +17,7 @@ impl From<Accepted> for LoadedText {
 
     fn from(a: Accepted) -> LoadedText {
         LoadedText {
-            version2: a.version2,
+            version2: a.version == 2,
             place: a.text,
         }
     }

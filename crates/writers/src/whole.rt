@@ -69,8 +69,10 @@ fn mark_calls(numbers: &mut [u32], text: &Text<'_>)
     requires { OnlyZeros numbers.old }
     ensures { HoldsCalls text.now.elf.file.now text.now.loaded numbers }
 {
+    // a copy of what is asked, since what stands behind a reference would be read again at each slot
+    let text = *text;
     for i in 0..text.loaded.place.length / 8 {
-        mark_call(numbers, text, i);
+        mark_call(numbers, &text, i);
     }
 }
 
