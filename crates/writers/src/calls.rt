@@ -4,19 +4,20 @@ ghost use Rattle.writers.specs.Named.{is_call, call_writer};
 
 use crate::Writer;
 use crate::text::Text;
-use ebpf::get_insn;
+use ebpf::{CALL_IMM, get_insn};
 use loader::is_local_call;
 
-// Whether slot number `i` of the text is, in the file, a local call.
+// Whether slot number `i` of the text is, in the file, a local call. Most slots are no call, which the opcode says.
+#[tactic(auto, using(ebpf::specs::Choice::choices), unfolding(loader::specs::Calls::is_local_call, loader::specs::Calls::calls_key))]
 pub(crate) fn is_call(text: &Text<'_>, i: usize) -> bool
     ensures { result ≡ is_call text.now.elf.file.now text.now.loaded i }
 {
     let loaded = text.loaded;
     let end = loaded.place.start + loaded.place.length;
-    get_insn(&text.elf.file[loaded.place.start..end], i).is_some_and(|insn| is_local_call(
-        loaded.version2,
-        insn,
-    ))
+    match get_insn(&text.elf.file[loaded.place.start..end], i) {
+        Some(insn) if insn.opc == CALL_IMM => is_local_call(loaded.version2, insn),
+        _ => false,
+    }
 }
 
 // Where a slot's immediate starts: it has the last four bytes of eight.
