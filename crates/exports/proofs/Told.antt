@@ -33,7 +33,7 @@ use Rattle.call_depth.specs.Asked.{depth_by, depth_asked}
 use Rattle.exports.specs.Answers.{none_word, word_or_none, written, words_of, loaded_with, load_answer}
 use Rattle.exports.specs.Names.{names, names_from_45, bytes, name_in, refusal_name}
 use Rattle.exports.specs.Wrote.{wrote_answer, who_wrote_answer}
-use Rattle.exports.specs.Told.{version_in, accepted_told}
+use Rattle.exports.specs.Told.{version2_in, version_in, accepted_told}
 use Rattle.exports.specs.Depth.{depth_answer, call_depth_answer}
 use Rattle.exports.proofs.Named.{past, no_name, load_named}
 
@@ -63,7 +63,7 @@ unfolding ◌if◌else◌
 is_2_told n = by_lt n (2 ^ 32) (λ (x : Bool). eqb (n if x else 0) 2 ≡ eqb n 2) (λ l. refl) (λ l. rw (ne_eqb n 2 (λ e. omega (arith, e))) refl)
 
 -- VERSION 2 IS TOLD EXACTLY WHERE THE WORD IS 2
-pub version_2_told : (loaded : List ℕ) → eqb (version_in loaded) 2 ≡ eqb (get_or loaded 4 0) 2
+pub version_2_told : (loaded : List ℕ) → eqb (version_in loaded) 2 ≡ version2_in loaded
 unfolding version_in
 version_2_told loaded = is_2_told (get_or loaded 4 0)
 
@@ -76,10 +76,10 @@ unfolding ◌if◌else◌
 version_small true = omega arith
 version_small false = omega arith
 
--- THE WORDS OF AN ACCEPTED LOAD TELL THAT LOAD, whatever refusal and whatever words stand around them
-pub told_again : (r : Report) (a : Accepted) (last behind : ℕ) → a.version < 2 ^ 32 → a.entry < 2 ^ 32 → accepted_told (words_of (loaded_with r a last behind)) ≡ a
+-- the words of any answer tell it, where its version and its entry have room
+pub any_told_again : (r : Report) (a : Accepted) (last behind : ℕ) → a.version < 2 ^ 32 → a.entry < 2 ^ 32 → accepted_told (words_of (loaded_with r a last behind)) ≡ a
 unfolding written version_in
-told_again r a last behind v h =
+any_told_again r a last behind v h =
     let small : a.entry % 2 ^ 32 ≡ a.entry = omega arith in
     λ x. record {
       version = version_told a.version v x;
@@ -94,23 +94,46 @@ told_again r a last behind v h =
       text = a.text;
     }
 
+-- an answer of either version
+abbrev pub in_version : Bool → Accepted → Accepted
+in_version version2 a = record {
+  version = 2 if version2 else 1;
+  entry = a.entry;
+  used = a.used;
+  moves = a.moves;
+  ro_copied = a.ro_copied;
+  ro_offset = a.ro_offset;
+  ro_start = a.ro_start;
+  ro_length = a.ro_length;
+  text_addr = a.text_addr;
+  text = a.text;
+}
+
+-- THE WORDS OF AN ACCEPTED LOAD TELL THAT LOAD, whatever refusal and whatever words stand around them
+pub told_again : (r : Report) (version2 : Bool) (a : Accepted) (last behind : ℕ) → a.entry < 2 ^ 32 → accepted_told (words_of (loaded_with r (in_version version2 a) last behind)) ≡ in_version version2 a
+told_again r version2 a last behind h = any_told_again r (in_version version2 a) last behind (version_small version2) h
+
 -- what a load answers has room in the words
 answer_small : (j : Job) (p : Result Placing ElfError) (used moves : ℕ) (a : Accepted) → j.e_entry - j.sh_addr ≤ 2 ^ 24 → answer_by j p used moves ≡ Ok a → (a.version < 2 ^ 32) × (a.entry < 2 ^ 32)
 answer_small j (Ok (Borrowed offset start k)) used moves a h e = let q : accepted_as j false offset start k used moves ≡ a = cc in rw (← q) (version_small j.version2, omega arith)
 answer_small j (Ok (Owned offset lowest k)) used moves a h e = let q : accepted_as j true offset 0 k used moves ≡ a = cc in rw (← q) (version_small j.version2, omega arith)
 answer_small j (Err r) used moves a h e = absurd (zero_one (cc))
 
--- SO THE WORDS OF A LOAD'S OWN ANSWER TELL IT
-pub loaded_again : (file builtins : List ℕ) (c : Config) (n m rows : ℕ) (a : Accepted) → answer_of (load_of file builtins c n m rows) ≡ Ok a → accepted_told (words_of (load_answer (Ok a))) ≡ a
+-- SO THE WORDS OF A LOAD'S OWN ANSWER TELL IT, whatever stands around them
+pub load_told_again : (file builtins : List ℕ) (c : Config) (n m rows : ℕ) (r : Report) (a : Accepted) (last behind : ℕ) → answer_of (load_of file builtins c n m rows) ≡ Ok a
+    → accepted_told (words_of (loaded_with r a last behind)) ≡ a
 unfolding load_of
-loaded_again file builtins c n m rows a e = by_prepared (prepared file builtins c n m) refl e
+load_told_again file builtins c n m rows r a last behind e = by_prepared (prepared file builtins c n m) refl e
   where
-    by_prepared : (p : Result Job ElfError) → prepared file builtins c n m ≡ p → answer_of (on_prepared file builtins m rows p) ≡ Ok a → accepted_told (words_of (load_answer (Ok a))) ≡ a
-    by_prepared (Err r) q h = absurd (zero_one (cc))
+    by_prepared : (p : Result Job ElfError) → prepared file builtins c n m ≡ p → answer_of (on_prepared file builtins m rows p) ≡ Ok a → accepted_told (words_of (loaded_with r a last behind)) ≡ a
+    by_prepared (Err q) p h = absurd (zero_one (cc))
     by_prepared (Ok j) q h =
         let w = by_load file builtins c n m rows j a q e in
         let s = answer_small j j.placing (length w.rows) w.moves a (readied file builtins c n m j q).0.entry w.answers in
-        told_again (valued 0 0) a 0 0 s.0 s.1
+        any_told_again r a last behind s.0 s.1
+
+pub loaded_again : (file builtins : List ℕ) (c : Config) (n m rows : ℕ) (a : Accepted) → answer_of (load_of file builtins c n m rows) ≡ Ok a → accepted_told (words_of (load_answer (Ok a))) ≡ a
+loaded_again file builtins c n m rows a e = load_told_again file builtins c n m rows (valued 0 0) a 0 0 e
 
 -- THE WORDS OF A LOAD'S ANSWER, all 24, ask who wrote a byte as the answer does
 pub wrote_told : (file : List ℕ) (a : Result Accepted ElfError) (b : ℕ) → who_wrote_answer file (words_of (load_answer a)) b ≡ wrote_answer (asked file a b)

@@ -1,5 +1,5 @@
 -- What the words of a load's answer tell, as `load_answer` lays them out. Words that are missing count as 0.
-use Rattle.std.specs.Prelude.{ℕ, ◌%◌, ◌^◌, List, [], ◌∷◌, get_or, eqb, ltb, not, Result, Ok, Err}
+use Rattle.std.specs.Prelude.{ℕ, ◌%◌, ◌^◌, Bool, List, [], ◌∷◌, get_or, eqb, ltb, not, Result, Ok, Err}
 use Rattle.ebpf.specs.Choice.{◌if◌else◌}
 use Rattle.elf_parser.specs.declared.error.Report.{Report}
 use Rattle.loader.specs.declared.answer.Accepted.{Accepted}
@@ -15,6 +15,10 @@ report_in loaded = record { number = refusal_in loaded; value = get_or loaded 1 
 
 abbrev pub refused_in : List ℕ → Answer
 refused_in loaded = answer_with (refusal_in loaded) (get_or loaded 1 0 ∷ get_or loaded 2 0 ∷ get_or loaded 3 0 ∷ [])
+
+-- whether the version is 2
+abbrev pub version2_in : List ℕ → Bool
+version2_in loaded = eqb (get_or loaded 4 0) 2
 
 -- the version; a word too large for its number is read as 0, so that it is 2 where the word is 2, and nowhere else (`version_2_told` in proofs/Told.antt)
 unfoldable pub version_in : List ℕ → ℕ
